@@ -1,0 +1,8 @@
+-- The proof of specs/Boundaries.antt, by the laws of Boundary.
+--     boundaries
+-- Assumes nothing.
+use Rattle.text.specs.Boundaries.{Boundaries}
+use Rattle.text.proofs.Boundary as place
+
+pub boundaries : Boundaries
+boundaries = record { sees = place.sees; skips = place.skips }

@@ -1,0 +1,16 @@
+pub mod Walk
+pub mod Bytes
+pub mod Grammar
+pub mod Shape
+pub mod Values
+pub mod Octets
+pub mod Boundary
+pub mod Rfc3629
+pub mod Boundaries
+pub mod Lead
+pub mod Places
+pub mod Valid
+pub mod Encoding
+pub mod Masks
+pub mod Seen
+pub mod Skip

@@ -1,0 +1,52 @@
+-- The masks of the named tests, each by one test that the checker computes over ASCII.
+--     masks           what makes two words the masks of a test
+--     wide, single, digit, braces     what is not ASCII: for a test that is not narrow, and for those that are
+-- Assumes nothing.
+use mathlib.Core.Path.{_≡_, refl, sym, ap, _∙_, subst}
+use mathlib.Core.Bool.{Bool, true, false, cond, _&&_, _||_, Bool·beq, and-false, or-false, or-assoc}
+use mathlib.Core.List.{[], _∷_}
+use Prim.Native.Nat.{ℕ, _<_, _≤_}
+use native.Mathlib.Omega.{arith}
+use lib.Dec.{T, eqb, leb}
+use borrow.Author.Tests.{ne-eqb, lt-leb}
+use Rattle.text.specs.Range.{_–_, within}
+use Rattle.text.specs.Class.{mark, holdsOf}
+use Rattle.text.specs.Inner.{masksOf, hasBit, AsciiOf}
+use Rattle.text.specs.declared.class.Masks.{Masks}
+use Rattle.text.specs.declared.class.Test.{Test}
+use Rattle.text.proofs.Bytes.{below, each}
+
+beq-eq : (a b : Bool) → T (Bool·beq a b) → a ≡ b
+beq-eq true true t = refl
+beq-eq true false t = absurd t
+beq-eq false true t = absurd t
+beq-eq false false t = refl
+
+pub masks : (t : Test) (low high : ℕ) (narrow : Bool) → T (below (λ b. Bool·beq (hasBit low high b) (holdsOf t b)) 128) → (narrow ≡ true → (c : ℕ) → 128 ≤ c → holdsOf t c ≡ false) → {u : Test} {m : Masks} → u ≡ t → m ≡ masksOf low high narrow → AsciiOf u m
+masks t low high narrow computed others {u} {m} p q =
+    subst (λ (v : Test). AsciiOf v m) (sym p)
+    (subst (AsciiOf t) (sym q)
+    (record {
+      bits = λ b h. beq-eq (hasBit low high b) (holdsOf t b) (each (λ n. Bool·beq (hasBit low high n) (holdsOf t n)) 128 computed b h);
+      others = others;
+    }))
+
+pub wide : {A : Type 0} → _≡_ {A = Bool} false true → A
+wide e = let z : _≡_ {A = ℕ} 0 1 = cc in absurd (omega arith)
+
+pub single : (k : ℕ) → k < 128 → (c : ℕ) → 128 ≤ c → eqb c k ≡ false
+single k h c l = ne-eqb c k (λ e. omega arith)
+
+pub digit : (c : ℕ) → 128 ≤ c → within (0x30 – 0x39) c ≡ false
+digit c l = rw (lt-leb c 0x39 (omega arith)) (and-false (leb 0x30 c))
+
+pub braces : (c : ℕ) → 128 ≤ c → mark (0x7B ∷ 0x7D ∷ []) c ≡ false
+braces c l = rw (single 0x7B (omega arith) c l, single 0x7D (omega arith) c l)
+
+-- a test by what it was told to be
+pub told : {u t : Test} (c : ℕ) → u ≡ t → holdsOf t c ≡ holdsOf u c
+told c p = ap (λ (v : Test). holdsOf v c) (sym p)
+
+-- thirteen tests in a row, as the code joins them and as `mark` does
+pub thirteen : (a b c d e f g h i j k l m : Bool) → (a || b || c || d || e || f || g || h || i || j || k || l || m) ≡ (a || (b || (c || (d || (e || (f || (g || (h || (i || (j || (k || (l || (m || false)))))))))))))
+thirteen a b c d e f g h i j k l m = simp (or-assoc, or-false)

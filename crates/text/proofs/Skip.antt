@@ -1,0 +1,224 @@
+-- How far a scanner goes, character by character and, where only ASCII decides, byte by byte.
+--     code-wide                           an octet that is not ASCII begins a character that is not
+--     skip-end, skip-on, skip-stop        at the end, at a character that passes, at one that does not
+--     skip-ahead                          never back, and not past the end
+--     skip-ascii, skip-narrow, skip-one   the turns of `eat_run`
+-- Assumes nothing.
+use mathlib.Core.Path.{_≡_, refl, sym, ap, _∙_, subst}
+use mathlib.Core.Bool.{Bool, true, false, cond, not, Bool·beq}
+use mathlib.Core.List.{List, [], _∷_}
+use Prim.Native.Nat.{ℕ, zero, suc, _+_, _-_, _<_, _≤_, max}
+use native.Mathlib.Omega.{arith}
+use native.Mathlib.Nat.{not-suc-le-zero}
+use native.Mathlib.Numerals.{add-one}
+use lib.ListN.{length, getD, take, drop, length-drop}
+use lib.Seq.{length-take-le, getD-take}
+use lib.Dec.{eqb, ltb}
+use borrow.Author.Tests.{eq-eqb, ne-eqb, eqb-true, eqb-false, ltb-true, ltb-false, le-leb}
+use Rattle.text.specs.Walk.{Look, answer, pass, walkFrom, walk}
+use Rattle.text.specs.Range.{within}
+use Rattle.text.specs.Utf8.{tail, isChar, width, value, octets}
+use Rattle.text.specs.Class.{holdsOf}
+use Rattle.text.specs.Scan.{code, rest, see, pastOne, lookPast, skip, Ahead, Inside}
+use Rattle.text.specs.Inner.{wants}
+use Rattle.text.specs.declared.class.Test.{Test}
+use Rattle.text.specs.declared.scanner.Seen.{Seen}
+use Rattle.text.specs.declared.scanner.Seen.the-variants.{End, Char}
+use Rattle.text.proofs.Walk.{walk-end, walk-answer, walk-pass, walk-keeps, from-pass}
+use Rattle.text.proofs.Grammar.{width-char}
+use Rattle.text.proofs.Shape.{char-further, width-inside, width-tail}
+use Rattle.text.proofs.Values.{encodes}
+use Rattle.text.proofs.Places.{drop-next}
+use Rattle.text.proofs.Seen.{see-at, see-inside, see-ascii}
+
+-- ---- a character that is not ASCII
+
+value-wide : (w : List ℕ) → isChar w ≡ true → 0x80 ≤ getD w 0 0 → 0x80 ≤ value w
+unfolding octets
+value-wide w q h = go (ltb (value w) 0x80) refl
+  where
+    go : (t : Bool) → ltb (value w) 0x80 ≡ t → 0x80 ≤ value w
+    go false e = ltb-false _ _ e
+    go true e =
+        let l : value w < 0x80 = ltb-true _ _ e in
+        let one : octets (value w) ≡ value w ∷ [] = rw (le-leb (value w) 0x7F (omega arith)) in
+        let f : value w ≡ getD w 0 0 = ap (λ (v : List ℕ). getD v 0 0) (sym one ∙ encodes w q .1) in
+        absurd (omega arith)
+
+pub code-wide : (b : ℕ) (s : List ℕ) → 0x80 ≤ b → 0x80 ≤ code (b ∷ s)
+unfolding code
+code-wide b s h = go (width (b ∷ s)) refl (width-char (b ∷ s))
+  where
+    go : (w : ℕ) → width (b ∷ s) ≡ w → (0 < w → (isChar (take w (b ∷ s)) ≡ true) × (w ≤ length (b ∷ s))) → 0x80 ≤ cond (eqb w 0) 0xFFFD (value (take w (b ∷ s)))
+    go zero e c = omega arith
+    go (suc w) e c = rw (ne-eqb (suc w) 0 (λ z. omega arith)) (value-wide (take (suc w) (b ∷ s)) (c (omega arith) .0) h)
+
+-- ---- turns of a scanner
+
+module _ (p : ℕ → Bool) (s : List ℕ) where
+  pub skip-end : (i : ℕ) → length s ≤ i → skip p s i ≡ i
+  unfolding skip
+  skip-end i h = walk-end (lookPast p) (λ n. n) s i h
+
+  module _ (i : ℕ) (h : i < length s) where
+    pub skip-on : p (code (drop i s)) ≡ true → skip p s i ≡ skip p s (i + 1 + rest (drop i s))
+    unfolding skip lookPast
+    skip-on t =
+        let n = subst (Inside s i) (see-at s i h) (see-inside s i) in
+        walk-pass (lookPast p) (λ n. n) s i (rest (drop i s)) (i + 1 + rest (drop i s)) (rw t) (omega arith) (n .1)
+
+    pub skip-stop : p (code (drop i s)) ≡ false → skip p s i ≡ i
+    unfolding skip lookPast
+    skip-stop t = walk-answer (lookPast p) (λ n. n) s i i h (rw t)
+
+    -- by what the code saw: the byte
+    module _ (a : getD s i 0 < 0x80) {w : Bool} (q : w ≡ p (getD s i 0)) where
+      code-byte : code (drop i s) ≡ getD s i 0
+      code-byte = let e = sym (see-at s i h) ∙ see-ascii s i h a in cc
+
+      rest-byte : i + 1 + rest (drop i s) ≡ i + 1
+      rest-byte = let e = sym (see-at s i h) ∙ see-ascii s i h a in cc
+
+      pub byte-on : w ≡ true → skip p s i ≡ skip p s (i + 1)
+      byte-on t = skip-on (ap p code-byte ∙ sym q ∙ t) ∙ ap (skip p s) rest-byte
+
+      pub byte-stop : w ≡ false → skip p s i ≡ i
+      byte-stop t = skip-stop (ap p code-byte ∙ sym q ∙ t)
+
+    -- or the character
+    module _ {n : ℕ} (q : n ≡ pastOne p i (see s i)) where
+      one : (t : Bool) → p (code (drop i s)) ≡ t → n ≡ cond t (i + 1 + rest (drop i s)) i
+      one t e = q ∙ rw (see-at s i h, e)
+
+      pub one-stop : n ≡ i → skip p s i ≡ i
+      one-stop z = go (p (code (drop i s))) refl
+        where
+          go : (t : Bool) → p (code (drop i s)) ≡ t → skip p s i ≡ i
+          go true e = absurd (omega (arith, one true e))
+          go false e = skip-stop e
+
+      pub one-on : (n ≡ i → ⊥) → (i < n) × (n ≤ length s) × (skip p s i ≡ skip p s n)
+      one-on z = go (p (code (drop i s))) refl
+        where
+          go : (t : Bool) → p (code (drop i s)) ≡ t → (i < n) × (n ≤ length s) × (skip p s i ≡ skip p s n)
+          go true e =
+              let k = subst (Inside s i) (see-at s i h) (see-inside s i) in
+              (omega (arith, one true e), omega (arith, one true e, k .1), skip-on e ∙ ap (skip p s) (sym (one true e)))
+          go false e = absurd (z (one false e))
+
+-- ---- where no test is needed for what is not ASCII
+
+module _ (p : ℕ → Bool) (s : List ℕ) (i : ℕ) (h : i < length s) (b : 0x80 ≤ getD s i 0) where
+  code-at : 0x80 ≤ code (drop i s)
+  code-at = rw (drop-next s i h) (code-wide (getD s i 0) (drop (i + 1) s) b)
+
+  pub wide-stop : ((c : ℕ) → 0x80 ≤ c → p c ≡ false) → skip p s i ≡ i
+  wide-stop off = skip-stop p s i h (off _ code-at)
+
+module _ (p : ℕ → Bool) (on : (c : ℕ) → 0x80 ≤ c → p c ≡ true) where
+  -- tails, looked at one by one, pass like those of the character before
+  pass-tails : (k i : ℕ) (t : List ℕ) → k ≤ length t → ((j : ℕ) → j < k → within tail (getD t j 0) ≡ true) → walkFrom (lookPast p) (λ n. n) i k t ≡ walkFrom (lookPast p) (λ n. n) i 0 t
+  unfolding walkFrom lookPast code rest
+  pass-tails zero i t h a = refl
+  pass-tails (suc k) i [] h a = absurd (not-suc-le-zero h)
+  pass-tails (suc k) i (b ∷ t) h a =
+      pass-tails k (suc i) t (omega arith) (λ j l. a (suc j) (omega arith))
+      ∙ sym (from-pass (lookPast p) (λ n. n) i b 0 t (rw (width-tail b t (a 0 (omega arith)), on 0xFFFD (omega arith))))
+
+  tails : (b k : ℕ) (t : List ℕ) → width (b ∷ t) ≡ suc k → (j : ℕ) → j < k → within tail (getD t j 0) ≡ true
+  tails b k t e j l =
+      let c = rw e at (width-char (b ∷ t) (omega arith)) in
+      let n = length-take-le k t (omega (arith, c .1)) in
+      getD-tail (char-further (b ∷ take k t) (suc j) 0 (c .0) (omega arith) (omega arith))
+    where
+      getD-tail : within tail (getD (take k t) j 0) ≡ true → within tail (getD t j 0) ≡ true
+      getD-tail x = rw (getD-take k t j 0 l) at x
+
+  wide-rest : (i b w : ℕ) (t : List ℕ) → width (b ∷ t) ≡ w → walkFrom (lookPast p) (λ n. n) i (w - 1) t ≡ walkFrom (lookPast p) (λ n. n) i 0 t
+  wide-rest i b zero t e = refl
+  wide-rest i b (suc k) t e =
+      let l = width-inside (b ∷ t) .0 in
+      let one : suc k - 1 ≡ k = omega arith in
+      ap (λ (n : ℕ). walkFrom (lookPast p) (λ m. m) i n t) one ∙ pass-tails k i t (omega arith) (tails b k t e)
+
+  wide-from : (i b : ℕ) (t : List ℕ) → 0x80 ≤ b → walkFrom (lookPast p) (λ n. n) i 0 (b ∷ t) ≡ walkFrom (lookPast p) (λ n. n) (suc i) 0 t
+  unfolding lookPast rest
+  wide-from i b t h =
+      from-pass (lookPast p) (λ n. n) i b (width (b ∷ t) - 1) t (rw (on _ (code-wide b t h)))
+      ∙ wide-rest (suc i) b (width (b ∷ t)) t refl
+
+  pub wide-on : (s : List ℕ) (i : ℕ) → i < length s → 0x80 ≤ getD s i 0 → skip p s i ≡ skip p s (i + 1)
+  unfolding skip
+  wide-on s i h b =
+      rw (drop-next s i h) (wide-from i (getD s i 0) (drop (i + 1) s) b)
+      ∙ ap (λ (n : ℕ). walkFrom (lookPast p) (λ m. m) n 0 (drop (i + 1) s)) (sym (add-one i))
+
+-- ---- bounds
+
+module _ (p : ℕ → Bool) (s : List ℕ) (i : ℕ) where
+  -- at the place j, with the text u from there on
+  On : ℕ → List ℕ → Type 0
+  On j u = (i ≤ j) × (j + length u ≤ max i (length s))
+
+  look-rest : (j k : ℕ) (u : List ℕ) (t : Bool) → cond t (pass (rest u)) (answer j) ≡ pass k → k ≡ rest u
+  look-rest j k u true e = cc
+  look-rest j k u false e = let z : _≡_ {A = ℕ} 0 1 = cc in absurd (omega arith)
+
+  look-place : (j r : ℕ) (u : List ℕ) (t : Bool) → cond t (pass (rest u)) (answer j) ≡ answer r → r ≡ j
+  look-place j r u true e = let z : _≡_ {A = ℕ} 0 1 = cc in absurd (omega arith)
+  look-place j r u false e = cc
+
+  on-pass : (j k : ℕ) (u : List ℕ) → 0 < length u → On j u → lookPast p j u ≡ pass k → (k < length u) × On (j + suc k) (drop (suc k) u)
+  unfolding On lookPast rest
+  on-pass j k u l h e =
+      let r = look-rest j k u (p (code u)) e in
+      let w = width-inside u .0 in
+      let n : k < length u = omega arith in (n, (omega arith, omega (arith, length-drop (suc k) u)))
+
+  on-answer : (j : ℕ) (u : List ℕ) (r : ℕ) → On j u → lookPast p j u ≡ answer r → Ahead s i r
+  unfolding On lookPast
+  on-answer j u r h e = let q = look-place j r u (p (code u)) e in record { from = omega arith; to = omega arith }
+
+  on-end : (j : ℕ) → On j [] → Ahead s i j
+  unfolding On
+  on-end j h = record { from = h .0; to = omega arith }
+
+  pub skip-ahead : Ahead s i (skip p s i)
+  unfolding skip On
+  skip-ahead = walk-keeps (lookPast p) (λ n. n) On (Ahead s i) on-pass on-answer on-end s i (omega arith, omega (arith, length-drop i s))
+
+-- ---- the tests of `eat_run`: what passes is what is wanted
+
+wants-beq : (t : Test) (w : Bool) (c : ℕ) → Bool·beq (holdsOf t c) w ≡ wants t w c
+wants-beq t w c = go (holdsOf t c) w refl
+  where
+    go : (x w : Bool) → holdsOf t c ≡ x → Bool·beq x w ≡ wants t w c
+    go true true e = sym e
+    go false true e = sym e
+    go true false e = rw e
+    go false false e = rw e
+
+pub wants-told : (t : Test) (c : ℕ) {x : Bool} → x ≡ holdsOf t c → (w : Bool) → Bool·beq x w ≡ wants t w c
+wants-told t c e w = ap (λ (y : Bool). Bool·beq y w) e ∙ wants-beq t w c
+
+pub wants-off : (t : Test) (c : ℕ) (w : Bool) → w ≡ true → holdsOf t c ≡ false → wants t w c ≡ false
+wants-off t c w e h = rw e h
+
+pub wants-on : (t : Test) (c : ℕ) (w : Bool) → w ≡ false → holdsOf t c ≡ false → wants t w c ≡ true
+wants-on t c w e h = rw (e, h)
+
+-- ---- what a scanner's loop hands over
+
+past-ahead : (p : ℕ → Bool) (s : List ℕ) (i : ℕ) (x : Seen) → Inside s i x → Ahead s i (pastOne p i x)
+past-ahead p s i End h = record { from = omega arith; to = omega arith }
+past-ahead p s i (Char c n) h = go (p c)
+  where
+    go : (t : Bool) → Ahead s i (cond t n i)
+    go true = record { from = omega arith; to = omega arith }
+    go false = record { from = omega arith; to = omega arith }
+
+pub passed : (p : ℕ → Bool) (s : List ℕ) (i : ℕ) {r : ℕ} → r ≡ pastOne p i (see s i) → (r ≡ pastOne p i (see s i)) × Ahead s i r
+passed p s i e = (e, subst (Ahead s i) (sym e) (past-ahead p s i (see s i) (see-inside s i)))
+
+pub ran : (p : ℕ → Bool) (s : List ℕ) (i : ℕ) {r : ℕ} → r ≡ skip p s i → (r ≡ skip p s i) × Ahead s i r
+ran p s i e = (e, subst (Ahead s i) (sym e) (skip-ahead p s i))

@@ -1,0 +1,153 @@
+// The scanner, after unscanny: functions on the slice and a place by value. Total on any bytes and any place: past the end there is the
+// end, and a byte that starts no well-formed sequence is a character by itself, U+FFFD.
+use crate::class;
+use crate::class::Test;
+use crate::utf8;
+use crate::utf8::Decoded;
+ghost use mathlib.Core.Path.{_≡_};
+ghost use Prim.Native.Nat.{ℕ, _+_, _-_, _≤_, _<_, min};
+ghost use lib.ListN.{length};
+ghost use lib.Dec.{leb};
+ghost use Rattle.text.specs.Class.{isWhitespace, holdsOf};
+ghost use Rattle.text.specs.Scan.{see, nextOf, pastOne, skip, fails, part, Ahead, Inside};
+ghost use Rattle.text.specs.Inner.{wants};
+
+// What stands at a place: a code point and the place after it, or the end.
+pub enum Seen {
+    End,
+    Char { code: u32, next: usize },
+}
+
+pub fn done(s: &[u8], at: usize) -> bool
+    ensures { λ r. ⌜ r ≡ leb (length (now (s .entry))) at ⌝ }
+{
+    s.len() <= at
+}
+
+// What is not ASCII, mostly: out of the way of the callers' loops.
+fn peek_wide(s: &[u8], at: usize) -> Seen
+    requires { ⌜ at < length (now s) ⌝ }
+    ensures { λ r. ⌜ r ≡ see (now (s .entry)) at ⌝ }
+{
+    match utf8::decode(s, at) {
+        Decoded::End => Seen::End,
+        Decoded::Char { code, next } => Seen::Char { code, next },
+        Decoded::IllFormed => Seen::Char {
+            code: 0xfffd,
+            next: at + 1,
+        },
+    }
+}
+
+pub fn peek(s: &[u8], at: usize) -> Seen
+    ensures { λ r. ⌜ (r ≡ see (now (s .entry)) at) × Inside (now (s .entry)) at r ⌝ }
+{
+    if s.len() <= at {
+        return Seen::End;
+    }
+    let b = s[at];
+    if b < 0x80 {
+        return Seen::Char {
+            code: b as u32,
+            next: at + 1,
+        };
+    }
+    peek_wide(s, at)
+}
+
+// The place after the character.
+pub fn eat(s: &[u8], at: usize) -> usize
+    ensures { λ r. ⌜ (r ≡ nextOf at (see (now (s .entry)) at)) × Ahead (now (s .entry)) at r ⌝ }
+{
+    match peek(s, at) {
+        Seen::End => at,
+        Seen::Char { code: _, next } => next,
+    }
+}
+
+// The place after the character at a place where it passes the test, or does not, as wanted; and the place itself otherwise.
+fn eat_wide(s: &[u8], at: usize, t: Test, want: bool) -> usize
+    ensures { λ r. ⌜ r ≡ pastOne (wants t want) at (see (now (s .entry)) at) ⌝ }
+{
+    match peek(s, at) {
+        Seen::End => at,
+        Seen::Char { code, next } => {
+            if class::holds(t, code) == want {
+                return next;
+            }
+            at
+        }
+    }
+}
+
+// The place after the characters from a place on that pass the test, or do not, as wanted.
+fn eat_run(s: &[u8], at: usize, t: Test, want: bool) -> usize
+    ensures { λ r. ⌜ (r ≡ skip (wants t want) (now (s .entry)) at) × Ahead (now (s .entry)) at r ⌝ }
+{
+    let masks = class::ascii(t);
+    let low = masks.low;
+    let high = masks.high;
+    let narrow = masks.narrow;
+    let mut i = at;
+    while i < s.len() {
+        let b = s[i];
+        if b < 0x80 {
+            if class::has(low, high, b) != want {
+                return i;
+            }
+            i += 1;
+        } else if narrow {
+            if want {
+                return i;
+            }
+            i += 1;
+        } else {
+            let next = eat_wide(s, i, t, want);
+            if next == i {
+                return i;
+            }
+            i = next;
+        }
+    }
+    i
+}
+
+// The place after the character where it passes the test.
+pub fn eat_if(s: &[u8], at: usize, t: Test) -> usize
+    ensures { λ r. ⌜ (r ≡ pastOne (holdsOf t) at (see (now (s .entry)) at)) × Ahead (now (s .entry)) at r ⌝ }
+{
+    eat_wide(s, at, t, true)
+}
+
+pub fn eat_while(s: &[u8], at: usize, t: Test) -> usize
+    ensures { λ r. ⌜ (r ≡ skip (holdsOf t) (now (s .entry)) at) × Ahead (now (s .entry)) at r ⌝ }
+{
+    eat_run(s, at, t, true)
+}
+
+pub fn eat_until(s: &[u8], at: usize, t: Test) -> usize
+    ensures { λ r. ⌜ (r ≡ skip (fails t) (now (s .entry)) at) × Ahead (now (s .entry)) at r ⌝ }
+{
+    eat_run(s, at, t, false)
+}
+
+pub fn eat_whitespace(s: &[u8], at: usize) -> usize
+    ensures { λ r. ⌜ (r ≡ skip isWhitespace (now (s .entry)) at) × Ahead (now (s .entry)) at r ⌝ }
+{
+    eat_run(s, at, Test::Whitespace, true)
+}
+
+fn least(a: usize, b: usize) -> usize
+    ensures { λ r. ⌜ r ≡ min a b ⌝ }
+{
+    if a < b { a } else { b }
+}
+
+// The text from a place to another, as far as it goes.
+pub fn from(s: &[u8], start: usize, at: usize) -> &[u8]
+    ensures { λ r. ⌜ now r ≡ part (now (s .entry)) start at ⌝ }
+{
+    let end = least(at, s.len());
+    let first = least(start, end);
+    &s[first..end]
+}
