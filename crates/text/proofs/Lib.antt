@@ -14,3 +14,4 @@ pub mod Encoding
 pub mod Masks
 pub mod Seen
 pub mod Skip
+pub mod Unique

@@ -1,208 +1,160 @@
-use mathlib.Core.Bool.{true, false}
 -- `text::class::ascii` meets its contract: each row's bits are computed over ASCII. Assumes nothing.
+use mathlib.Core.Bool.{true, false}
 use native.Mathlib.Omega.{arith}
+use borrow.Author.Needs.{needs}
 use Rattle.text.specs.Class.{whiteSpace, control, isWhitespace, isControl, isKey, isIdContinue, isIdStart, holdsOf}
 use Rattle.text.specs.Inner.{hasBit}
 use Rattle.text.specs.declared.class.Test.the-variants.{Whitespace, Key, IdStart, IdContinue, Digit, Comma, QuotationMark, Equals, Hash, Percent, OpeningBrace, ClosingBrace, Brace, Newline, Dollar}
 use Rattle.text.proofs.Masks.{masks, wide, single, digit, braces}
-use borrow.Author.Needs.{needs}
 use Rattle.text.proofs.class.ascii.Statement.{statement}
 use Rattle.text.proofs.class.ascii.Tie as tie
-use Rattle.text.proofs.class.ascii.Reads as reads
-use Rattle.text.proofs.class.ascii.Lts as lts
-use Rattle.text.proofs.class.row.Reads as row-reads
 
--- src/class.rt:126:29
 enum-told : tie.Need-enum-told
 enum-told c = search needs
 
--- src/class.rt:126:29
 row-requires : tie.Need-row-requires
 row-requires c κs = search needs
 
--- src/class.rt:127:22
 enum-told-2 : tie.Need-enum-told-2
 enum-told-2 c = search needs
 
--- src/class.rt:127:22
 row-requires-2 : tie.Need-row-requires-2
 row-requires-2 c κs = search needs
 
--- src/class.rt:128:26
 enum-told-3 : tie.Need-enum-told-3
 enum-told-3 c = search needs
 
--- src/class.rt:128:26
 row-requires-3 : tie.Need-row-requires-3
 row-requires-3 c κs = search needs
 
--- src/class.rt:129:29
 enum-told-4 : tie.Need-enum-told-4
 enum-told-4 c = search needs
 
--- src/class.rt:129:29
 row-requires-4 : tie.Need-row-requires-4
 row-requires-4 c κs = search needs
 
--- src/class.rt:130:24
 enum-told-5 : tie.Need-enum-told-5
 enum-told-5 c = search needs
 
--- src/class.rt:130:24
 row-requires-5 : tie.Need-row-requires-5
 row-requires-5 c κs = search needs
 
--- src/class.rt:131:24
 enum-told-6 : tie.Need-enum-told-6
 enum-told-6 c = search needs
 
--- src/class.rt:131:24
 row-requires-6 : tie.Need-row-requires-6
 row-requires-6 c κs = search needs
 
--- src/class.rt:132:32
 enum-told-7 : tie.Need-enum-told-7
 enum-told-7 c = search needs
 
--- src/class.rt:132:32
 row-requires-7 : tie.Need-row-requires-7
 row-requires-7 c κs = search needs
 
--- src/class.rt:133:25
 enum-told-8 : tie.Need-enum-told-8
 enum-told-8 c = search needs
 
--- src/class.rt:133:25
 row-requires-8 : tie.Need-row-requires-8
 row-requires-8 c κs = search needs
 
--- src/class.rt:134:23
 enum-told-9 : tie.Need-enum-told-9
 enum-told-9 c = search needs
 
--- src/class.rt:134:23
 row-requires-9 : tie.Need-row-requires-9
 row-requires-9 c κs = search needs
 
--- src/class.rt:135:26
 enum-told-10 : tie.Need-enum-told-10
 enum-told-10 c = search needs
 
--- src/class.rt:135:26
 row-requires-10 : tie.Need-row-requires-10
 row-requires-10 c κs = search needs
 
--- src/class.rt:136:31
 enum-told-11 : tie.Need-enum-told-11
 enum-told-11 c = search needs
 
--- src/class.rt:136:31
 row-requires-11 : tie.Need-row-requires-11
 row-requires-11 c κs = search needs
 
--- src/class.rt:137:31
 enum-told-12 : tie.Need-enum-told-12
 enum-told-12 c = search needs
 
--- src/class.rt:137:31
 row-requires-12 : tie.Need-row-requires-12
 row-requires-12 c κs = search needs
 
--- src/class.rt:138:24
 enum-told-13 : tie.Need-enum-told-13
 enum-told-13 c = search needs
 
--- src/class.rt:138:24
 row-requires-13 : tie.Need-row-requires-13
 row-requires-13 c κs = search needs
 
--- src/class.rt:139:26
 enum-told-14 : tie.Need-enum-told-14
 enum-told-14 c = search needs
 
--- src/class.rt:139:26
 row-requires-14 : tie.Need-row-requires-14
 row-requires-14 c κs = search needs
 
--- src/class.rt:140:25
 enum-told-15 : tie.Need-enum-told-15
 enum-told-15 c = search needs
 
--- src/class.rt:140:25
 row-requires-15 : tie.Need-row-requires-15
 row-requires-15 c κs = search needs
 
--- src/class.rt:122:1
 returns : tie.Need-returns
 unfolding hasBit holdsOf isWhitespace whiteSpace
 returns c = masks Whitespace _ _ false tt wide (c .before .enum-told .given .1) (c .row .ensures)
 
--- src/class.rt:122:1
 returns-2 : tie.Need-returns-2
 unfolding hasBit holdsOf isKey isControl control isWhitespace whiteSpace
 returns-2 c = masks Key _ _ false tt wide (c .before .enum-told2 .given .1) (c .row2 .ensures)
 
--- src/class.rt:122:1
 returns-3 : tie.Need-returns-3
 unfolding hasBit holdsOf isIdStart isIdContinue isControl control isWhitespace whiteSpace
 returns-3 c = masks IdStart _ _ false tt wide (c .before .enum-told3 .given .1) (c .row3 .ensures)
 
--- src/class.rt:122:1
 returns-4 : tie.Need-returns-4
 unfolding hasBit holdsOf isIdContinue isControl control isWhitespace whiteSpace
 returns-4 c = masks IdContinue _ _ false tt wide (c .before .enum-told4 .given .1) (c .row4 .ensures)
 
--- src/class.rt:122:1
 returns-5 : tie.Need-returns-5
 unfolding hasBit holdsOf
 returns-5 c = masks Digit _ _ true tt (λ e. digit) (c .before .enum-told5 .given .1) (c .row5 .ensures)
 
--- src/class.rt:122:1
 returns-6 : tie.Need-returns-6
 unfolding hasBit holdsOf
 returns-6 c = masks Comma _ _ true tt (λ e. single 0x2C (omega arith)) (c .before .enum-told6 .given .1) (c .row6 .ensures)
 
--- src/class.rt:122:1
 returns-7 : tie.Need-returns-7
 unfolding hasBit holdsOf
 returns-7 c = masks QuotationMark _ _ true tt (λ e. single 0x22 (omega arith)) (c .before .enum-told7 .given .1) (c .row7 .ensures)
 
--- src/class.rt:122:1
 returns-8 : tie.Need-returns-8
 unfolding hasBit holdsOf
 returns-8 c = masks Equals _ _ true tt (λ e. single 0x3D (omega arith)) (c .before .enum-told8 .given .1) (c .row8 .ensures)
 
--- src/class.rt:122:1
 returns-9 : tie.Need-returns-9
 unfolding hasBit holdsOf
 returns-9 c = masks Hash _ _ true tt (λ e. single 0x23 (omega arith)) (c .before .enum-told9 .given .1) (c .row9 .ensures)
 
--- src/class.rt:122:1
 returns-10 : tie.Need-returns-10
 unfolding hasBit holdsOf
 returns-10 c = masks Percent _ _ true tt (λ e. single 0x25 (omega arith)) (c .before .enum-told10 .given .1) (c .row10 .ensures)
 
--- src/class.rt:122:1
 returns-11 : tie.Need-returns-11
 unfolding hasBit holdsOf
 returns-11 c = masks OpeningBrace _ _ true tt (λ e. single 0x7B (omega arith)) (c .before .enum-told11 .given .1) (c .row11 .ensures)
 
--- src/class.rt:122:1
 returns-12 : tie.Need-returns-12
 unfolding hasBit holdsOf
 returns-12 c = masks ClosingBrace _ _ true tt (λ e. single 0x7D (omega arith)) (c .before .enum-told12 .given .1) (c .row12 .ensures)
 
--- src/class.rt:122:1
 returns-13 : tie.Need-returns-13
 unfolding hasBit holdsOf
 returns-13 c = masks Brace _ _ true tt (λ e. braces) (c .before .enum-told13 .given .1) (c .row13 .ensures)
 
--- src/class.rt:122:1
 returns-14 : tie.Need-returns-14
 unfolding hasBit holdsOf
 returns-14 c = masks Newline _ _ true tt (λ e. single 0x0A (omega arith)) (c .before .enum-told14 .given .1) (c .row14 .ensures)
 
--- src/class.rt:122:1
 returns-15 : tie.Need-returns-15
 unfolding hasBit holdsOf
 returns-15 c = masks Dollar _ _ true tt (λ e. single 0x24 (omega arith)) (c .before .enum-told15 .given .1) (c .row15 .ensures)

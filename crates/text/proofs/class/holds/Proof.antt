@@ -1,172 +1,129 @@
-use lib.Dec.{eqb}
-use mathlib.Core.Bool.{_||_}
 -- `text::class::holds` meets its contract: each arm is a clause of `holdsOf`. Assumes nothing.
-use mathlib.Core.Path.{_≡_, refl, sym, ap, _∙_}
-use mathlib.Core.Bool.{or-false}
+use mathlib.Core.Bool.{_||_, or-false}
+use mathlib.Core.Path.{sym, ap, _∙_}
+use lib.Dec.{eqb}
+use borrow.Author.Needs.{needs}
 use Rattle.text.specs.Class.{holdsOf}
 use Rattle.text.proofs.Masks.{told}
-use borrow.Author.Needs.{needs}
 use Rattle.text.proofs.class.holds.Statement.{statement}
 use Rattle.text.proofs.class.holds.Tie as tie
-use Rattle.text.proofs.class.holds.Reads as reads
-use Rattle.text.proofs.class.holds.Lts as lts
-use Rattle.text.proofs.class.is_id_continue.Reads as is-id-continue-reads
-use Rattle.text.proofs.class.is_id_start.Reads as is-id-start-reads
-use Rattle.text.proofs.class.is_key.Reads as is-key-reads
-use Rattle.text.proofs.class.is_whitespace.Reads as is-whitespace-reads
-use Rattle.text.proofs.class.is_within.Reads as is-within-reads
 
--- src/class.rt:90:29
 enum-told : tie.Need-enum-told
 enum-told c = search needs
 
--- src/class.rt:90:29
 is-whitespace-requires : tie.Need-is-whitespace-requires
 is-whitespace-requires c κs = search needs
 
--- src/class.rt:91:22
 enum-told-2 : tie.Need-enum-told-2
 enum-told-2 c = search needs
 
--- src/class.rt:91:22
 is-key-requires : tie.Need-is-key-requires
 is-key-requires c κs = search needs
 
--- src/class.rt:92:26
 enum-told-3 : tie.Need-enum-told-3
 enum-told-3 c = search needs
 
--- src/class.rt:92:26
 is-id-start-requires : tie.Need-is-id-start-requires
 is-id-start-requires c κs = search needs
 
--- src/class.rt:93:29
 enum-told-4 : tie.Need-enum-told-4
 enum-told-4 c = search needs
 
--- src/class.rt:93:29
 is-id-continue-requires : tie.Need-is-id-continue-requires
 is-id-continue-requires c κs = search needs
 
--- src/class.rt:94:24
 enum-told-5 : tie.Need-enum-told-5
 enum-told-5 c = search needs
 
--- src/class.rt:94:24
 is-within-requires : tie.Need-is-within-requires
 is-within-requires c κs = search needs
 
--- src/class.rt:95:24
 enum-told-6 : tie.Need-enum-told-6
 enum-told-6 c = search needs
 
--- src/class.rt:96:32
 enum-told-7 : tie.Need-enum-told-7
 enum-told-7 c = search needs
 
--- src/class.rt:97:25
 enum-told-8 : tie.Need-enum-told-8
 enum-told-8 c = search needs
 
--- src/class.rt:98:23
 enum-told-9 : tie.Need-enum-told-9
 enum-told-9 c = search needs
 
--- src/class.rt:99:26
 enum-told-10 : tie.Need-enum-told-10
 enum-told-10 c = search needs
 
--- src/class.rt:100:31
 enum-told-11 : tie.Need-enum-told-11
 enum-told-11 c = search needs
 
--- src/class.rt:101:31
 enum-told-12 : tie.Need-enum-told-12
 enum-told-12 c = search needs
 
--- src/class.rt:102:25
 enum-told-13 : tie.Need-enum-told-13
 enum-told-13 c = search needs
 
--- src/class.rt:103:26
 enum-told-14 : tie.Need-enum-told-14
 enum-told-14 c = search needs
 
--- src/class.rt:104:25
 enum-told-15 : tie.Need-enum-told-15
 enum-told-15 c = search needs
 
--- src/class.rt:86:1
 returns : tie.Need-returns
 unfolding holdsOf
 returns c = c .is-whitespace .ensures ∙ told _ (c .before .enum-told .given .1)
 
--- src/class.rt:86:1
 returns-2 : tie.Need-returns-2
 unfolding holdsOf
 returns-2 c = c .is-key .ensures ∙ told _ (c .before .enum-told2 .given .1)
 
--- src/class.rt:86:1
 returns-3 : tie.Need-returns-3
 unfolding holdsOf
 returns-3 c = c .is-id-start .ensures ∙ told _ (c .before .enum-told3 .given .1)
 
--- src/class.rt:86:1
 returns-4 : tie.Need-returns-4
 unfolding holdsOf
 returns-4 c = c .is-id-continue .ensures ∙ told _ (c .before .enum-told4 .given .1)
 
--- src/class.rt:86:1
 returns-5 : tie.Need-returns-5
 unfolding holdsOf
 returns-5 c = c .is-within .ensures ∙ told _ (c .before .enum-told5 .given .1)
 
--- src/class.rt:86:1
 returns-6 : tie.Need-returns-6
 unfolding holdsOf
 returns-6 c = told _ (c .enum-told6 .given .1)
 
--- src/class.rt:86:1
 returns-7 : tie.Need-returns-7
 unfolding holdsOf
 returns-7 c = told _ (c .enum-told7 .given .1)
 
--- src/class.rt:86:1
 returns-8 : tie.Need-returns-8
 unfolding holdsOf
 returns-8 c = told _ (c .enum-told8 .given .1)
 
--- src/class.rt:86:1
 returns-9 : tie.Need-returns-9
 unfolding holdsOf
 returns-9 c = told _ (c .enum-told9 .given .1)
 
--- src/class.rt:86:1
 returns-10 : tie.Need-returns-10
 unfolding holdsOf
 returns-10 c = told _ (c .enum-told10 .given .1)
 
--- src/class.rt:86:1
 returns-11 : tie.Need-returns-11
 unfolding holdsOf
 returns-11 c = told _ (c .enum-told11 .given .1)
 
--- src/class.rt:86:1
 returns-12 : tie.Need-returns-12
 unfolding holdsOf
 returns-12 c = told _ (c .enum-told12 .given .1)
 
--- src/class.rt:86:1
 returns-13 : tie.Need-returns-13
 unfolding holdsOf
 returns-13 c = ap (λ b. eqb (c .before .before .args .c) 0x7B || b) (sym (or-false _)) ∙ told _ (c .enum-told13 .given .1)
 
--- src/class.rt:86:1
 returns-14 : tie.Need-returns-14
 unfolding holdsOf
 returns-14 c = told _ (c .enum-told14 .given .1)
 
--- src/class.rt:86:1
 returns-15 : tie.Need-returns-15
 unfolding holdsOf
 returns-15 c = told _ (c .enum-told15 .given .1)

@@ -2,10 +2,7 @@
 use Rattle.text.proofs.Masks.{thirteen}
 use Rattle.text.proofs.class.is_id_mark.Statement.{statement}
 use Rattle.text.proofs.class.is_id_mark.Tie as tie
-use Rattle.text.proofs.class.is_id_mark.Reads as reads
-use Rattle.text.proofs.class.is_id_mark.Lts as lts
 
--- src/class.rt:60:1
 returns : tie.Need-returns
 returns c = rw thirteen
 

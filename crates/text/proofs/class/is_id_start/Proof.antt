@@ -1,18 +1,13 @@
 -- `text::class::is_id_start` meets its contract. Assumes nothing.
 use mathlib.Core.Bool.{or-assoc, or-false}
-use Rattle.text.specs.Class.{isIdStart}
 use borrow.Author.Needs.{needs}
+use Rattle.text.specs.Class.{isIdStart}
 use Rattle.text.proofs.class.is_id_start.Statement.{statement}
 use Rattle.text.proofs.class.is_id_start.Tie as tie
-use Rattle.text.proofs.class.is_id_start.Reads as reads
-use Rattle.text.proofs.class.is_id_start.Lts as lts
-use Rattle.text.proofs.class.is_id_continue.Reads as is-id-continue-reads
 
--- src/class.rt:82:64
 is-id-continue-requires : tie.Need-is-id-continue-requires
 is-id-continue-requires c κs = search needs
 
--- src/class.rt:79:1
 returns : tie.Need-returns
 unfolding isIdStart
 returns c = simp (or-assoc, or-false) (cc)

@@ -1,54 +1,40 @@
 -- `text::class::is_whitespace` meets its contract. Assumes nothing.
 use mathlib.Core.Bool.{or-assoc, or-false}
-use Rattle.text.specs.Class.{whiteSpace, isWhitespace}
 use borrow.Author.Needs.{needs}
+use Rattle.text.specs.Class.{whiteSpace, isWhitespace}
 use Rattle.text.proofs.class.is_whitespace.Statement.{statement}
 use Rattle.text.proofs.class.is_whitespace.Tie as tie
-use Rattle.text.proofs.class.is_whitespace.Reads as reads
-use Rattle.text.proofs.class.is_whitespace.Lts as lts
-use Rattle.text.proofs.class.is_within.Reads as is-within-reads
 
--- src/class.rt:36:5
 is-within-requires : tie.Need-is-within-requires
 is-within-requires c κs = search needs
 
--- src/class.rt:37:11
 is-within-requires-2 : tie.Need-is-within-requires-2
 is-within-requires-2 c κs = search needs
 
--- src/class.rt:38:11
 is-within-requires-3 : tie.Need-is-within-requires-3
 is-within-requires-3 c κs = search needs
 
--- src/class.rt:39:11
 is-within-requires-4 : tie.Need-is-within-requires-4
 is-within-requires-4 c κs = search needs
 
--- src/class.rt:40:11
 is-within-requires-5 : tie.Need-is-within-requires-5
 is-within-requires-5 c κs = search needs
 
--- src/class.rt:41:11
 is-within-requires-6 : tie.Need-is-within-requires-6
 is-within-requires-6 c κs = search needs
 
--- src/class.rt:42:11
 is-within-requires-7 : tie.Need-is-within-requires-7
 is-within-requires-7 c κs = search needs
 
--- src/class.rt:43:11
 is-within-requires-8 : tie.Need-is-within-requires-8
 is-within-requires-8 c κs = search needs
 
--- src/class.rt:44:11
 is-within-requires-9 : tie.Need-is-within-requires-9
 is-within-requires-9 c κs = search needs
 
--- src/class.rt:45:11
 is-within-requires-10 : tie.Need-is-within-requires-10
 is-within-requires-10 c κs = search needs
 
--- src/class.rt:33:1
 returns : tie.Need-returns
 unfolding isWhitespace whiteSpace
 returns c = simp (or-assoc, or-false) (cc)

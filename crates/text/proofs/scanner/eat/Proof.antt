@@ -1,29 +1,21 @@
 -- `text::scanner::eat` meets its contract. Assumes nothing.
-use Rattle.text.proofs.Seen.{next-told}
 use borrow.Author.Needs.{needs}
+use Rattle.text.proofs.Seen.{next-told}
 use Rattle.text.proofs.scanner.eat.Statement.{statement}
 use Rattle.text.proofs.scanner.eat.Tie as tie
-use Rattle.text.proofs.scanner.eat.Reads as reads
-use Rattle.text.proofs.scanner.eat.Lts as lts
-use Rattle.text.proofs.scanner.peek.Reads as peek-reads
 
--- src/scanner.rt:62:11
 peek-requires : tie.Need-peek-requires
 peek-requires c κs = search needs
 
--- src/scanner.rt:63:22
 enum-told : tie.Need-enum-told
 enum-told c = search needs
 
--- src/scanner.rt:64:31
 enum-known-next : tie.Need-enum-known-next
 enum-known-next c = search needs
 
--- src/scanner.rt:59:1
 returns : tie.Need-returns
 returns c = next-told _ _ (c .before .before .peek .ensures .0) (c .enum-told .given .1)
 
--- src/scanner.rt:59:1
 returns-2 : tie.Need-returns-2
 returns-2 c = next-told _ _ (c .before .before .before .peek .ensures .0) (c .before .next .given .1)
 

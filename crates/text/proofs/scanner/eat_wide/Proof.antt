@@ -1,41 +1,30 @@
+-- `text::scanner::eat_wide` meets its contract. Assumes nothing.
 use mathlib.Core.Path.{sym, _∙_}
+use borrow.Author.Needs.{needs}
 use Rattle.text.specs.Inner.{wants}
 use Rattle.text.proofs.Skip.{wants-told}
--- `text::scanner::eat_wide` meets its contract. Assumes nothing.
 use Rattle.text.proofs.Seen.{past-told, past-hit, past-miss}
-use borrow.Author.Needs.{needs}
 use Rattle.text.proofs.scanner.eat_wide.Statement.{statement}
 use Rattle.text.proofs.scanner.eat_wide.Tie as tie
-use Rattle.text.proofs.scanner.eat_wide.Reads as reads
-use Rattle.text.proofs.scanner.eat_wide.Lts as lts
-use Rattle.text.proofs.class.holds.Reads as holds-reads
-use Rattle.text.proofs.scanner.peek.Reads as peek-reads
 
--- src/scanner.rt:72:11
 peek-requires : tie.Need-peek-requires
 peek-requires c κs = search needs
 
--- src/scanner.rt:73:22
 enum-told : tie.Need-enum-told
 enum-told c = search needs
 
--- src/scanner.rt:74:22
 enum-known-code : tie.Need-enum-known-code
 enum-known-code c = search needs
 
--- src/scanner.rt:75:16
 holds-requires : tie.Need-holds-requires
 holds-requires c κs = search needs
 
--- src/scanner.rt:76:17
 returns : tie.Need-returns
 returns c = let a = c .before .before .before .before .before .before .before .args in past-hit (a .s .now) (a .at) (c .before .before .before .before .before .peek .ensures .0) (c .before .before .before .code .given .1) (wants (a .t) (a .want)) (sym (wants-told (a .t) _ (c .before .holds .ensures) (a .want)) ∙ c .if1 .taken)
 
--- src/scanner.rt:69:1
 returns-2 : tie.Need-returns-2
 returns-2 c = let a = c .before .before .before .before .args in past-told (a .s .now) (a .at) (c .before .before .peek .ensures .0) (c .enum-told .given .1) (wants (a .t) (a .want))
 
--- src/scanner.rt:69:1
 returns-3 : tie.Need-returns-3
 returns-3 c = let a = c .before .before .before .before .before .before .before .args in past-miss (a .s .now) (a .at) (c .before .before .before .before .before .peek .ensures .0) (c .before .before .before .code .given .1) (wants (a .t) (a .want)) (sym (wants-told (a .t) _ (c .before .holds .ensures) (a .want)) ∙ c .if1 .left)
 

@@ -1,38 +1,28 @@
 -- `text::scanner::peek` meets its contract. Assumes nothing.
 use mathlib.Core.Path.{sym}
-use Rattle.text.proofs.Seen.{see-end, see-ascii, seen-inside}
 use borrow.Author.Needs.{needs}
+use Rattle.text.proofs.Seen.{see-end, see-ascii, seen-inside}
 use Rattle.text.proofs.scanner.peek.Statement.{statement}
 use Rattle.text.proofs.scanner.peek.Tie as tie
-use Rattle.text.proofs.scanner.peek.Reads as reads
-use Rattle.text.proofs.scanner.peek.Lts as lts
-use Rattle.text.proofs.scanner.peek_wide.Reads as peek-wide-reads
 
--- src/scanner.rt:46:9
 returns : tie.Need-returns
 returns c = seen-inside _ _ (sym (see-end _ _ (c .if1 .taken)))
 
--- src/scanner.rt:48:13
 shared-slice-read-b : tie.Need-shared-slice-read-b
 shared-slice-read-b c = search needs
 
--- src/scanner.rt:51:19
 cast-t8 : tie.Need-cast-t8
 cast-t8 c = search needs
 
--- src/scanner.rt:52:19
 add-t9 : tie.Need-add-t9
 add-t9 c = search needs
 
--- src/scanner.rt:50:9
 returns-2 : tie.Need-returns-2
 returns-2 c = seen-inside _ _ (sym (see-ascii _ _ (c .before .before .if1 .left) (c .if2 .taken)))
 
--- src/scanner.rt:55:5
 peek-wide-requires : tie.Need-peek-wide-requires
 peek-wide-requires c κs = search needs
 
--- src/scanner.rt:42:1
 returns-3 : tie.Need-returns-3
 returns-3 c = seen-inside _ _ (c .peek-wide .ensures)
 

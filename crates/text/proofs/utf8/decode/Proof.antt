@@ -1,38 +1,28 @@
 -- `text::utf8::decode` meets its contract. Assumes nothing.
-use mathlib.Core.Path.{sym, ap, _∙_}
 use Prim.Native.Nat.{ℕ, _+_}
+use mathlib.Core.Path.{sym, ap, _∙_}
 use native.Mathlib.Omega.{arith}
+use borrow.Author.Needs.{needs}
 use Rattle.text.specs.declared.utf8.Decoded.the-variants.{Char}
 use Rattle.text.proofs.Seen.{decode-end, decode-none, decode-some}
-use borrow.Author.Needs.{needs}
 use Rattle.text.proofs.utf8.decode.Statement.{statement}
 use Rattle.text.proofs.utf8.decode.Tie as tie
-use Rattle.text.proofs.utf8.decode.Reads as reads
-use Rattle.text.proofs.utf8.decode.Lts as lts
-use Rattle.text.proofs.utf8.sequence.Reads as sequence-reads
-use Rattle.text.proofs.utf8.value_at.Reads as value-at-reads
 
--- src/utf8.rt:179:9
 returns : tie.Need-returns
 returns c = sym (decode-end _ _ (c .if1 .taken))
 
--- src/utf8.rt:181:9
 sequence-requires : tie.Need-sequence-requires
 sequence-requires c κs = search needs
 
--- src/utf8.rt:183:9
 returns-2 : tie.Need-returns-2
 returns-2 c = let a = c .before .before .before .before .args in sym (decode-none (a .s .now) (a .at) (c .before .before .if1 .left) (c .before .sequence .ensures .0) (c .if2 .taken))
 
--- src/utf8.rt:185:9
 value-at-requires : tie.Need-value-at-requires
 value-at-requires c κs = (omega arith, omega arith, omega arith)
 
--- src/utf8.rt:188:15
 add-t5 : tie.Need-add-t5
 add-t5 c = search needs
 
--- src/utf8.rt:175:1
 returns-3 : tie.Need-returns-3
 returns-3 c = let a = c .before .before .before .before .before .args in ap (λ (v : ℕ). Char v (a .at + c .before .before .sequence .result)) (c .value-at .ensures) ∙ sym (decode-some (a .s .now) (a .at) (c .before .before .before .if1 .left) (c .before .before .sequence .ensures .0) (c .before .if2 .left))
 

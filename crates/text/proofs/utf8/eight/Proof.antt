@@ -1,73 +1,55 @@
 -- `text::utf8::eight` meets its contract. Assumes nothing.
 use mathlib.Core.Path.{refl}
-use Rattle.text.specs.Inner.{asciiRun}
 use borrow.Author.Needs.{needs}
+use Rattle.text.specs.Inner.{asciiRun}
 use Rattle.text.proofs.utf8.eight.Statement.{statement}
 use Rattle.text.proofs.utf8.eight.Tie as tie
-use Rattle.text.proofs.utf8.eight.Reads as reads
-use Rattle.text.proofs.utf8.eight.Lts as lts
 
--- src/utf8.rt:104:6
 shared-slice-read-result : tie.Need-shared-slice-read-result
 shared-slice-read-result c = search needs
 
--- src/utf8.rt:105:14
 add-result : tie.Need-add-result
 add-result c = search needs
 
--- src/utf8.rt:105:12
 shared-slice-read-result-2 : tie.Need-shared-slice-read-result-2
 shared-slice-read-result-2 c = search needs
 
--- src/utf8.rt:106:14
 add-result-2 : tie.Need-add-result-2
 add-result-2 c = search needs
 
--- src/utf8.rt:106:12
 shared-slice-read-result-3 : tie.Need-shared-slice-read-result-3
 shared-slice-read-result-3 c = search needs
 
--- src/utf8.rt:107:14
 add-result-3 : tie.Need-add-result-3
 add-result-3 c = search needs
 
--- src/utf8.rt:107:12
 shared-slice-read-result-4 : tie.Need-shared-slice-read-result-4
 shared-slice-read-result-4 c = search needs
 
--- src/utf8.rt:108:14
 add-result-4 : tie.Need-add-result-4
 add-result-4 c = search needs
 
--- src/utf8.rt:108:12
 shared-slice-read-result-5 : tie.Need-shared-slice-read-result-5
 shared-slice-read-result-5 c = search needs
 
--- src/utf8.rt:109:14
 add-result-5 : tie.Need-add-result-5
 add-result-5 c = search needs
 
--- src/utf8.rt:109:12
 shared-slice-read-result-6 : tie.Need-shared-slice-read-result-6
 shared-slice-read-result-6 c = search needs
 
--- src/utf8.rt:110:14
 add-result-6 : tie.Need-add-result-6
 add-result-6 c = search needs
 
--- src/utf8.rt:110:12
 shared-slice-read-result-7 : tie.Need-shared-slice-read-result-7
 shared-slice-read-result-7 c = search needs
 
--- src/utf8.rt:111:14
 add-result-7 : tie.Need-add-result-7
 add-result-7 c = search needs
 
--- src/utf8.rt:111:12
 shared-slice-read-result-8 : tie.Need-shared-slice-read-result-8
 shared-slice-read-result-8 c = search needs
 
--- src/utf8.rt:100:1
 returns : tie.Need-returns
 unfolding asciiRun
 returns c = refl

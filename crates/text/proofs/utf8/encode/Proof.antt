@@ -3,160 +3,119 @@ use mathlib.Core.Path.{sym, _∙_}
 use native.Mathlib.Omega.{arith}
 use lib.ListN.{length-set}
 use borrow.Author.Tests.{not-true, not-false}
-use Rattle.text.proofs.Encoding.{encode-not, short-one, encode-one, short-two, encode-two, short-three, encode-three, short-four, encode-four, scalar-high}
 use borrow.Author.Needs.{needs}
+use Rattle.text.proofs.Encoding.{encode-not, short-one, encode-one, short-two, encode-two, short-three, encode-three, short-four, encode-four, scalar-high}
 use Rattle.text.proofs.utf8.encode.Statement.{statement}
 use Rattle.text.proofs.utf8.encode.Tie as tie
-use Rattle.text.proofs.utf8.encode.Reads as reads
-use Rattle.text.proofs.utf8.encode.Lts as lts
-use Rattle.text.proofs.utf8.further_of.Reads as further-of-reads
-use Rattle.text.proofs.utf8.is_scalar.Reads as is-scalar-reads
 
--- src/utf8.rt:209:9
 is-scalar-requires : tie.Need-is-scalar-requires
 is-scalar-requires c κs = search needs
 
--- src/utf8.rt:210:9
 returns : tie.Need-returns
 returns c = let a = c .before .before .before .args in encode-not (a .c) (a .out .now) (sym (c .before .is-scalar .ensures) ∙ not-true _ (c .if1 .taken))
 
--- src/utf8.rt:215:13
 returns-2 : tie.Need-returns-2
 returns-2 c = let a = c .before .before .before .before .before .args in short-one (a .c) (a .out .now) (sym (c .before .before .before .is-scalar .ensures) ∙ not-false _ (c .before .before .if1 .left)) (c .before .if2 .taken) (c .if3 .taken)
 
--- src/utf8.rt:217:18
 cast-out : tie.Need-cast-out
 cast-out c = search needs
 
--- src/utf8.rt:217:9
 slice-write-out : tie.Need-slice-write-out
 slice-write-out c = search needs
 
--- src/utf8.rt:218:9
 same-length : tie.Need-same-length
 same-length c = search needs
 
--- src/utf8.rt:218:9
 returns-3 : tie.Need-returns-3
 returns-3 c = let a = c .before .before .before .before .before .args in encode-one (a .c) (a .out .now) (sym (c .before .before .before .is-scalar .ensures) ∙ not-false _ (c .before .before .if1 .left)) (c .before .if2 .taken) (c .if3 .left)
 
--- src/utf8.rt:222:13
 returns-4 : tie.Need-returns-4
 returns-4 c = let a = c .before .before .before .before .before .before .args in short-two (a .c) (a .out .now) (sym (c .before .before .before .before .is-scalar .ensures) ∙ not-false _ (c .before .before .before .if1 .left)) (c .before .before .if2 .left) (c .before .if4 .taken) (c .if5 .taken)
 
--- src/utf8.rt:224:19
 add-out : tie.Need-add-out
 add-out c = search needs
 
--- src/utf8.rt:224:18
 cast-out-2 : tie.Need-cast-out-2
 cast-out-2 c = search needs
 
--- src/utf8.rt:224:9
 slice-write-out-2 : tie.Need-slice-write-out-2
 slice-write-out-2 c = search needs
 
--- src/utf8.rt:225:18
 further-of-requires : tie.Need-further-of-requires
 further-of-requires c κs = search needs
 
--- src/utf8.rt:225:9
 slice-write-out-3 : tie.Need-slice-write-out-3
 slice-write-out-3 c = search needs
 
--- src/utf8.rt:226:9
 same-length-2 : tie.Need-same-length-2
 same-length-2 c = search needs
 
--- src/utf8.rt:226:9
 returns-5 : tie.Need-returns-5
 returns-5 c = let a = c .before .before .before .before .before .before .before .args in encode-two (a .c) (a .out .now) (sym (c .before .before .before .before .before .is-scalar .ensures) ∙ not-false _ (c .before .before .before .before .if1 .left)) (c .before .before .before .if2 .left) (c .before .before .if4 .taken) (c .before .if5 .left) (c .further-of .ensures)
 
--- src/utf8.rt:230:13
 returns-6 : tie.Need-returns-6
 returns-6 c = let a = c .before .before .before .before .before .before .before .args in short-three (a .c) (a .out .now) (sym (c .before .before .before .before .before .is-scalar .ensures) ∙ not-false _ (c .before .before .before .before .if1 .left)) (c .before .before .if4 .left) (c .before .if6 .taken) (c .if7 .taken)
 
--- src/utf8.rt:232:19
 add-out-2 : tie.Need-add-out-2
 add-out-2 c = search needs
 
--- src/utf8.rt:232:18
 cast-out-3 : tie.Need-cast-out-3
 cast-out-3 c = search needs
 
--- src/utf8.rt:232:9
 slice-write-out-4 : tie.Need-slice-write-out-4
 slice-write-out-4 c = search needs
 
--- src/utf8.rt:233:18
 further-of-requires-2 : tie.Need-further-of-requires-2
 further-of-requires-2 c κs = search needs
 
--- src/utf8.rt:233:9
 slice-write-out-5 : tie.Need-slice-write-out-5
 slice-write-out-5 c = simp length-set (omega arith)
 
--- src/utf8.rt:234:18
 further-of-requires-3 : tie.Need-further-of-requires-3
 further-of-requires-3 c κs = search needs
 
--- src/utf8.rt:234:9
 slice-write-out-6 : tie.Need-slice-write-out-6
 slice-write-out-6 c = search needs
 
--- src/utf8.rt:235:9
 same-length-3 : tie.Need-same-length-3
 same-length-3 c = search needs
 
--- src/utf8.rt:235:9
 returns-7 : tie.Need-returns-7
 returns-7 c = let a = c .before .before .before .before .before .before .before .before .before .args in encode-three (a .c) (a .out .now) (sym (c .before .before .before .before .before .before .before .is-scalar .ensures) ∙ not-false _ (c .before .before .before .before .before .before .if1 .left)) (c .before .before .before .before .if4 .left) (c .before .before .before .if6 .taken) (c .before .before .if7 .left) (c .before .further-of2 .ensures) (c .further-of3 .ensures)
 
--- src/utf8.rt:238:9
 returns-8 : tie.Need-returns-8
 returns-8 c = let a = c .before .before .before .before .before .before .before .args in short-four (a .c) (a .out .now) (sym (c .before .before .before .before .before .is-scalar .ensures) ∙ not-false _ (c .before .before .before .before .if1 .left)) (c .before .if6 .left) (c .if8 .taken)
 
--- src/utf8.rt:240:15
 add-out-3 : tie.Need-add-out-3
 add-out-3 c = search needs
 
--- src/utf8.rt:240:14
 cast-out-4 : tie.Need-cast-out-4
 cast-out-4 c = let a = c .before .before .before .before .before .before .before .args in let h = scalar-high (a .c) (sym (c .before .before .before .before .before .is-scalar .ensures) ∙ not-false _ (c .before .before .before .before .if1 .left)) in omega arith
 
--- src/utf8.rt:240:5
 slice-write-out-7 : tie.Need-slice-write-out-7
 slice-write-out-7 c = search needs
 
--- src/utf8.rt:241:14
 further-of-requires-4 : tie.Need-further-of-requires-4
 further-of-requires-4 c κs = search needs
 
--- src/utf8.rt:241:5
 slice-write-out-8 : tie.Need-slice-write-out-8
 slice-write-out-8 c = simp length-set (omega arith)
 
--- src/utf8.rt:242:14
 further-of-requires-5 : tie.Need-further-of-requires-5
 further-of-requires-5 c κs = search needs
 
--- src/utf8.rt:242:5
 slice-write-out-9 : tie.Need-slice-write-out-9
 slice-write-out-9 c = simp length-set (omega arith)
 
--- src/utf8.rt:243:14
 further-of-requires-6 : tie.Need-further-of-requires-6
 further-of-requires-6 c κs = search needs
 
--- src/utf8.rt:243:5
 slice-write-out-10 : tie.Need-slice-write-out-10
 slice-write-out-10 c = search needs
 
--- src/utf8.rt:206:1
 same-length-4 : tie.Need-same-length-4
 same-length-4 c = search needs
 
--- src/utf8.rt:206:1
 returns-9 : tie.Need-returns-9
 returns-9 c = let a = c .before .before .before .before .before .before .before .before .before .before .args in encode-four (a .c) (a .out .now) (sym (c .before .before .before .before .before .before .before .before .is-scalar .ensures) ∙ not-false _ (c .before .before .before .before .before .before .before .if1 .left)) (c .before .before .before .before .if6 .left) (c .before .before .before .if8 .left) (c .before .before .further-of4 .ensures) (c .before .further-of5 .ensures) (c .further-of6 .ensures)
 

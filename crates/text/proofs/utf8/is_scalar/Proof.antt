@@ -3,10 +3,7 @@ use mathlib.Core.Path.{refl}
 use Rattle.text.specs.Utf8.{isScalar}
 use Rattle.text.proofs.utf8.is_scalar.Statement.{statement}
 use Rattle.text.proofs.utf8.is_scalar.Tie as tie
-use Rattle.text.proofs.utf8.is_scalar.Reads as reads
-use Rattle.text.proofs.utf8.is_scalar.Lts as lts
 
--- src/utf8.rt:192:1
 returns : tie.Need-returns
 unfolding isScalar
 returns c = refl

@@ -1,52 +1,38 @@
 -- `text::utf8::sequence` meets its contract, by the ways of `Lead`. Assumes nothing.
 use mathlib.Core.Path.{sym}
 use native.Mathlib.Omega.{arith}
-use Rattle.text.proofs.Lead.{width-end, width-ascii, width-none, length-range, width-short, width-whole, width-broken}
 use borrow.Author.Needs.{needs}
+use Rattle.text.proofs.Lead.{width-end, width-ascii, width-none, length-range, width-short, width-whole, width-broken}
 use Rattle.text.proofs.utf8.sequence.Statement.{statement}
 use Rattle.text.proofs.utf8.sequence.Tie as tie
-use Rattle.text.proofs.utf8.sequence.Reads as reads
-use Rattle.text.proofs.utf8.sequence.Lts as lts
-use Rattle.text.proofs.utf8.goes_on.Reads as goes-on-reads
-use Rattle.text.proofs.utf8.sequence_length.Reads as sequence-length-reads
 
--- src/utf8.rt:85:9
 returns : tie.Need-returns
 returns c = let a = c .before .before .args in (sym (width-end (a .s .now) (a .at) (c .if1 .taken)), omega arith, omega arith)
 
--- src/utf8.rt:87:13
 shared-slice-read-a : tie.Need-shared-slice-read-a
 shared-slice-read-a c = search needs
 
--- src/utf8.rt:89:9
 returns-2 : tie.Need-returns-2
 returns-2 c = let a = c .before .before .before .before .args in let g = c .before .shared-slice-known2 .given (a .at) in (sym (width-ascii (a .s .now) (a .at) (c .before .before .if1 .left) (omega arith) (c .if2 .taken)), omega arith, omega arith)
 
--- src/utf8.rt:92:9
 returns-3 : tie.Need-returns-3
 returns-3 c = let a = c .before .before .before .before .before .args in let g = c .before .before .shared-slice-known2 .given (a .at) in (sym (width-none (a .s .now) (a .at) (c .before .before .before .if1 .left) (omega arith) (c .before .if2 .left) (c .if3 .taken)), omega arith, omega arith)
 
--- src/utf8.rt:94:9
 sequence-length-requires : tie.Need-sequence-length-requires
 sequence-length-requires c κs = search needs
 
--- src/utf8.rt:95:8
 sub-if4 : tie.Need-sub-if4
 sub-if4 c = search needs
 
--- src/utf8.rt:96:9
 returns-4 : tie.Need-returns-4
 returns-4 c = let a = c .before .before .before .before .before .before .before .args in (sym (width-short (a .s .now) (a .at) (c .before .before .before .before .before .if1 .left) (omega (arith, c .before .before .before .before .shared-slice-known2 .given (a .at))) (c .before .before .before .if2 .left) (c .before .before .if3 .left) _ (c .before .sequence-length .ensures) (c .if4 .taken)), omega arith, omega arith)
 
--- src/utf8.rt:98:8
 goes-on-requires : tie.Need-goes-on-requires
 goes-on-requires c κs = let a = c .before .before .before .before .before .before .before .args in let r = length-range (a .s .now) (a .at) (c .before .before .before .before .before .if1 .left) (omega (arith, c .before .before .before .before .shared-slice-known2 .given (a .at))) (c .before .before .before .if2 .left) (c .before .before .if3 .left) _ (c .before .sequence-length .ensures) in (omega arith, r .0, r .1)
 
--- src/utf8.rt:99:9
 returns-5 : tie.Need-returns-5
 returns-5 c = let a = c .before .before .before .before .before .before .before .before .before .args in let r = length-range (a .s .now) (a .at) (c .before .before .before .before .before .before .before .if1 .left) (omega (arith, c .before .before .before .before .before .before .shared-slice-known2 .given (a .at))) (c .before .before .before .before .before .if2 .left) (c .before .before .before .before .if3 .left) _ (c .before .before .before .sequence-length .ensures) in (sym (width-whole (a .s .now) (a .at) (c .before .before .before .before .before .before .before .if1 .left) (omega (arith, c .before .before .before .before .before .before .shared-slice-known2 .given (a .at))) (c .before .before .before .before .before .if2 .left) (c .before .before .before .before .if3 .left) _ (c .before .before .before .sequence-length .ensures) (c .before .goes-on .ensures) (c .if5 .taken)), omega arith, r .1)
 
--- src/utf8.rt:81:1
 returns-6 : tie.Need-returns-6
 returns-6 c = let a = c .before .before .before .before .before .before .before .before .before .args in (sym (width-broken (a .s .now) (a .at) (c .before .before .before .before .before .before .before .if1 .left) (omega (arith, c .before .before .before .before .before .before .shared-slice-known2 .given (a .at))) (c .before .before .before .before .before .if2 .left) (c .before .before .before .before .if3 .left) _ (c .before .before .before .sequence-length .ensures) (c .before .goes-on .ensures) (c .if5 .left)), omega arith, omega arith)
 

@@ -2,40 +2,30 @@
 use Prim.Native.Nat.{ℕ}
 use mathlib.Core.Path.{_≡_, sym, _∙_}
 use native.Mathlib.Omega.{arith}
+use borrow.Author.Needs.{needs}
 use Rattle.text.proofs.Grammar.{both-true}
 use Rattle.text.proofs.Valid.{sixteen-ascii}
-use borrow.Author.Needs.{needs}
 use Rattle.text.proofs.utf8.sixteen.Statement.{statement}
 use Rattle.text.proofs.utf8.sixteen.Tie as tie
-use Rattle.text.proofs.utf8.sixteen.Reads as reads
-use Rattle.text.proofs.utf8.sixteen.Lts as lts
-use Rattle.text.proofs.utf8.eight.Reads as eight-reads
 
--- src/utf8.rt:119:9
 returns : tie.Need-returns
 returns c = λ e. let z : _≡_ {A = ℕ} 0 1 = cc in absurd (omega arith)
 
--- src/utf8.rt:121:8
 sub-if2 : tie.Need-sub-if2
 sub-if2 c = search needs
 
--- src/utf8.rt:122:9
 returns-2 : tie.Need-returns-2
 returns-2 c = λ e. let z : _≡_ {A = ℕ} 0 1 = cc in absurd (omega arith)
 
--- src/utf8.rt:124:5
 eight-requires : tie.Need-eight-requires
 eight-requires c κs = search needs
 
--- src/utf8.rt:124:29
 add-eight : tie.Need-add-eight
 add-eight c = search needs
 
--- src/utf8.rt:124:20
 eight-requires-2 : tie.Need-eight-requires-2
 eight-requires-2 c κs = search needs
 
--- src/utf8.rt:115:1
 returns-3 : tie.Need-returns-3
 returns-3 c = λ e. let b = both-true (c .before .eight .result) (c .eight2 .result) e in sixteen-ascii _ _ (omega arith) (sym (c .before .eight .ensures) ∙ b .0) (sym (c .eight2 .ensures) ∙ b .1)
 

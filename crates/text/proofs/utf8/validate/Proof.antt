@@ -1,9 +1,9 @@
 -- `text::utf8::validate` meets its contract: each turn of the loop is one look of the walk, or sixteen. Assumes nothing.
-use Prim.Native.Nat.{ℕ, _+_, _-_, _≤_}
+use Prim.Native.Nat.{_+_, _-_, _≤_}
 use mathlib.Core.Path.{_≡_, refl, sym, _∙_}
 use native.Mathlib.Omega.{arith}
-use borrow.Author.Needs.{needs}
 use lib.ListN.{length}
+use borrow.Author.Needs.{needs}
 use Rattle.text.specs.Walk.{walk}
 use Rattle.text.specs.Utf8.{lookValid, validityOf}
 use Rattle.text.specs.declared.utf8.Validity.the-variants.{Valid}
@@ -11,10 +11,6 @@ use Rattle.text.proofs.Walk.{walk-end}
 use Rattle.text.proofs.Valid.{valid-on, valid-ascii, valid-stop}
 use Rattle.text.proofs.utf8.validate.Statement.{statement}
 use Rattle.text.proofs.utf8.validate.Tie as tie
-use Rattle.text.proofs.utf8.validate.Reads as reads
-use Rattle.text.proofs.utf8.validate.Lts as lts
-use Rattle.text.proofs.utf8.sequence.Reads as sequence-reads
-use Rattle.text.proofs.utf8.sixteen.Reads as sixteen-reads
 
 abbrev Inv-loop : tie.InvT-loop
 Inv-loop s at₀ at = (at ≤ length s) × (validityOf s ≡ walk lookValid (λ n. Valid) s at)
@@ -22,48 +18,37 @@ Inv-loop s at₀ at = (at ≤ length s) × (validityOf s ≡ walk lookValid (λ 
 abbrev μ-loop : tie.MeasureT-loop
 μ-loop s at₀ at = length s - at
 
--- src/utf8.rt:132:5
 loop-holds : tie.Need-loop-holds Inv-loop μ-loop
 unfolding validityOf
 loop-holds c = (omega arith, refl)
 
--- src/utf8.rt:133:12
 sixteen-requires : tie.Need-sixteen-requires Inv-loop μ-loop
 sixteen-requires c κs = search needs
 
--- src/utf8.rt:134:13
 add-at : tie.Need-add-at Inv-loop μ-loop
 add-at c = omega (arith, c .before .sixteen .ensures (c .if1 .taken) .room)
 
--- src/utf8.rt:132:5
 loop-less : tie.Need-loop-less Inv-loop μ-loop
 loop-less c = omega (arith, c .before .sixteen .ensures (c .if1 .taken) .room)
 
--- src/utf8.rt:132:5
 loop-again : tie.Need-loop-again Inv-loop μ-loop
 loop-again c = let x = c .before .sixteen .ensures (c .if1 .taken) in (x .room, c .before .before .before .loop .inv .1 ∙ valid-ascii (λ n. Valid) _ _ 16 (x .room) (x .ascii))
 
--- src/utf8.rt:136:17
 sequence-requires : tie.Need-sequence-requires Inv-loop μ-loop
 sequence-requires c κs = search needs
 
--- src/utf8.rt:138:17
 returns : tie.Need-returns Inv-loop μ-loop
 returns c = sym (c .before .before .before .before .before .loop .inv .1 ∙ valid-stop (λ n. Valid) _ _ _ (c .before .sequence .ensures .0) (c .if2 .taken) (c .before .before .before .before .loop-test .taken))
 
--- src/utf8.rt:140:13
 add-at-2 : tie.Need-add-at-2 Inv-loop μ-loop
 add-at-2 c = omega arith
 
--- src/utf8.rt:132:5
 loop-less-2 : tie.Need-loop-less-2 Inv-loop μ-loop
 loop-less-2 c = omega arith
 
--- src/utf8.rt:132:5
 loop-again-2 : tie.Need-loop-again-2 Inv-loop μ-loop
 loop-again-2 c = let h : c .before .before .before .before .before .loop .at + c .before .sequence .result ≤ length (c .before .before .before .before .before .before .before .args .s .now) = omega arith in (h, c .before .before .before .before .before .loop .inv .1 ∙ valid-on (λ n. Valid) _ _ _ (c .before .sequence .ensures .0) (c .if2 .left) h)
 
--- src/utf8.rt:128:1
 returns-2 : tie.Need-returns-2 Inv-loop μ-loop
 returns-2 c = sym (c .before .loop .inv .1 ∙ walk-end lookValid (λ n. Valid) _ _ (c .loop-test .left))
 

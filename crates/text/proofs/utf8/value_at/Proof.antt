@@ -1,120 +1,89 @@
 -- `text::utf8::value_at` meets its contract. Assumes nothing.
 use mathlib.Core.Path.{sym}
 use native.Mathlib.Omega.{arith}
-use Rattle.text.proofs.Places.{value-one, value-two, value-three, value-four}
 use borrow.Author.Needs.{needs}
+use Rattle.text.proofs.Places.{value-one, value-two, value-three, value-four}
 use Rattle.text.proofs.utf8.value_at.Statement.{statement}
 use Rattle.text.proofs.utf8.value_at.Tie as tie
-use Rattle.text.proofs.utf8.value_at.Reads as reads
-use Rattle.text.proofs.utf8.value_at.Lts as lts
-use Rattle.text.proofs.utf8.six.Reads as six-reads
-use Rattle.text.proofs.utf8.wide.Reads as wide-reads
 
--- src/utf8.rt:158:18
 shared-slice-read-wide : tie.Need-shared-slice-read-wide
 shared-slice-read-wide c = search needs
 
--- src/utf8.rt:158:9
 wide-requires : tie.Need-wide-requires
 wide-requires c κs = search needs
 
--- src/utf8.rt:160:9
 returns : tie.Need-returns
 returns c = let a = c .before .before .before .before .args in rw (c .before .wide .ensures) (sym (value-one (a .s .now) (a .at) (a .n) (omega arith) (c .if1 .taken)))
 
--- src/utf8.rt:162:19
 add-six : tie.Need-add-six
 add-six c = search needs
 
--- src/utf8.rt:162:17
 shared-slice-read-six : tie.Need-shared-slice-read-six
 shared-slice-read-six c = search needs
 
--- src/utf8.rt:162:9
 six-requires : tie.Need-six-requires
 six-requires c κs = search needs
 
--- src/utf8.rt:164:16
 mul-result : tie.Need-mul-result
 mul-result c = search needs
 
--- src/utf8.rt:164:16
 add-result : tie.Need-add-result
 add-result c = search needs
 
--- src/utf8.rt:164:9
 returns-2 : tie.Need-returns-2
 returns-2 c = let a = c .before .before .before .before .before .before .before .args in rw (c .before .before .before .before .wide .ensures, c .before .six .ensures) (sym (value-two (a .s .now) (a .at) (a .n) (omega arith) (c .if2 .taken)))
 
--- src/utf8.rt:166:19
 add-six-2 : tie.Need-add-six-2
 add-six-2 c = search needs
 
--- src/utf8.rt:166:17
 shared-slice-read-six-2 : tie.Need-shared-slice-read-six-2
 shared-slice-read-six-2 c = search needs
 
--- src/utf8.rt:166:9
 six-requires-2 : tie.Need-six-requires-2
 six-requires-2 c κs = search needs
 
--- src/utf8.rt:168:17
 mul-result-2 : tie.Need-mul-result-2
 mul-result-2 c = search needs
 
--- src/utf8.rt:168:17
 add-result-2 : tie.Need-add-result-2
 add-result-2 c = search needs
 
--- src/utf8.rt:168:16
 mul-result-3 : tie.Need-mul-result-3
 mul-result-3 c = search needs
 
--- src/utf8.rt:168:16
 add-result-3 : tie.Need-add-result-3
 add-result-3 c = search needs
 
--- src/utf8.rt:168:9
 returns-3 : tie.Need-returns-3
 returns-3 c = let a = c .before .before .before .before .before .before .before .before .before .before .args in rw (c .before .before .before .before .before .before .before .wide .ensures, c .before .before .before .before .six .ensures, c .before .six2 .ensures) (sym (value-three (a .s .now) (a .at) (a .n) (omega arith) (c .if3 .taken)))
 
--- src/utf8.rt:170:19
 add-six-3 : tie.Need-add-six-3
 add-six-3 c = search needs
 
--- src/utf8.rt:170:17
 shared-slice-read-six-3 : tie.Need-shared-slice-read-six-3
 shared-slice-read-six-3 c = search needs
 
--- src/utf8.rt:170:9
 six-requires-3 : tie.Need-six-requires-3
 six-requires-3 c κs = search needs
 
--- src/utf8.rt:171:7
 mul-result-4 : tie.Need-mul-result-4
 mul-result-4 c = search needs
 
--- src/utf8.rt:171:7
 add-result-4 : tie.Need-add-result-4
 add-result-4 c = search needs
 
--- src/utf8.rt:171:6
 mul-result-5 : tie.Need-mul-result-5
 mul-result-5 c = search needs
 
--- src/utf8.rt:171:6
 add-result-5 : tie.Need-add-result-5
 add-result-5 c = search needs
 
--- src/utf8.rt:171:5
 mul-result-6 : tie.Need-mul-result-6
 mul-result-6 c = search needs
 
--- src/utf8.rt:171:5
 add-result-6 : tie.Need-add-result-6
 add-result-6 c = search needs
 
--- src/utf8.rt:154:1
 returns-4 : tie.Need-returns-4
 returns-4 c = let a = c .before .before .before .before .before .before .before .before .before .before .before .before .args in rw (c .before .before .before .before .before .before .before .before .before .wide .ensures, c .before .before .before .before .before .before .six .ensures, c .before .before .before .six2 .ensures, c .six3 .ensures) (sym (value-four (a .s .now) (a .at) (a .n) (omega arith) (omega arith)))
 

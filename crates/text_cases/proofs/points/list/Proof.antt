@@ -3,12 +3,6 @@ use Prim.Native.Nat.{_≤_, _-_}
 use borrow.Author.Needs.{needs}
 use Rattle.text_cases.proofs.points.list.Statement.{statement}
 use Rattle.text_cases.proofs.points.list.Tie as tie
-use Rattle.text_cases.proofs.points.list.Reads as reads
-use Rattle.text_cases.proofs.points.list.Lts as lts
-use Rattle.io.proofs.print_hex.Reads as print-hex-reads
-use Rattle.text_cases.proofs.points.is_listed.Reads as is-listed-reads
-use Rattle.text_cases.proofs.points.up.Reads as up-reads
-use Rattle.text_cases.proofs.samples.say.Reads as say-reads
 
 abbrev Inv-loop : tie.InvT-loop
 Inv-loop white n₀ c₀ t4 n c = c ≤ 0x110000
@@ -16,47 +10,36 @@ Inv-loop white n₀ c₀ t4 n c = c ≤ 0x110000
 abbrev μ-loop : tie.MeasureT-loop
 μ-loop white n₀ c₀ t4 n c = 0x110000 - c
 
--- src/points.rt:123:5
 loop-holds : tie.Need-loop-holds Inv-loop μ-loop
 loop-holds c = search needs
 
--- src/points.rt:124:12
 is-listed-requires : tie.Need-is-listed-requires Inv-loop μ-loop
 is-listed-requires c κs = search needs
 
--- src/points.rt:125:17
 slice-aggregate-say : tie.Need-slice-aggregate-say Inv-loop μ-loop
 slice-aggregate-say c = search needs
 
--- src/points.rt:125:13
 say-requires : tie.Need-say-requires Inv-loop μ-loop
 say-requires c κs = search needs
 
--- src/points.rt:126:30
 cast-print-hex : tie.Need-cast-print-hex Inv-loop μ-loop
 cast-print-hex c = search needs
 
--- src/points.rt:126:13
 print-hex-requires : tie.Need-print-hex-requires Inv-loop μ-loop
 print-hex-requires c κs = search needs
 
--- src/points.rt:127:13
 up-requires : tie.Need-up-requires Inv-loop μ-loop
 up-requires c κs = search needs
 
--- src/points.rt:129:9
 add-c : tie.Need-add-c Inv-loop μ-loop
 add-c c = search needs
 
--- src/points.rt:123:5
 loop-less : tie.Need-loop-less Inv-loop μ-loop
 loop-less c = search needs
 
--- src/points.rt:123:5
 loop-again : tie.Need-loop-again Inv-loop μ-loop
 loop-again c = search needs
 
--- src/points.rt:120:1
 returns : tie.Need-returns Inv-loop μ-loop
 returns c = search needs
 

@@ -3,10 +3,6 @@ use Prim.Native.Nat.{_≤_, _-_}
 use borrow.Author.Needs.{needs}
 use Rattle.text_cases.proofs.points.tallied.Statement.{statement}
 use Rattle.text_cases.proofs.points.tallied.Tie as tie
-use Rattle.text_cases.proofs.points.tallied.Reads as reads
-use Rattle.text_cases.proofs.points.tallied.Lts as lts
-use Rattle.text_cases.proofs.points.counted.Reads as counted-reads
-use Rattle.text_cases.proofs.points.round.Reads as round-reads
 
 abbrev Inv-loop : tie.InvT-loop
 Inv-loop t₀ c₀ t c = c ≤ 0x110000
@@ -14,31 +10,24 @@ Inv-loop t₀ c₀ t c = c ≤ 0x110000
 abbrev μ-loop : tie.MeasureT-loop
 μ-loop t₀ c₀ t c = 0x110000 - c
 
--- src/points.rt:96:5
 loop-holds : tie.Need-loop-holds Inv-loop μ-loop
 loop-holds c = search needs
 
--- src/points.rt:97:24
 round-requires : tie.Need-round-requires Inv-loop μ-loop
 round-requires c κs = search needs
 
--- src/points.rt:97:9
 counted-requires : tie.Need-counted-requires Inv-loop μ-loop
 counted-requires c κs = search needs
 
--- src/points.rt:98:9
 add-c : tie.Need-add-c Inv-loop μ-loop
 add-c c = search needs
 
--- src/points.rt:96:5
 loop-less : tie.Need-loop-less Inv-loop μ-loop
 loop-less c = search needs
 
--- src/points.rt:96:5
 loop-again : tie.Need-loop-again Inv-loop μ-loop
 loop-again c = search needs
 
--- src/points.rt:86:1
 returns : tie.Need-returns Inv-loop μ-loop
 returns c = search needs
 

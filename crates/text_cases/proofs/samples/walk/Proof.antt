@@ -1,16 +1,11 @@
-use native.Mathlib.Omega.{arith}
-use Rattle.text.proofs.Seen.{char-inside}
 -- `text_cases::samples::walk` ends: each character seen ends further on, and inside the text. Assumes nothing.
 use Prim.Native.Nat.{_≤_, _-_}
+use native.Mathlib.Omega.{arith}
 use lib.ListN.{length}
 use borrow.Author.Needs.{needs}
+use Rattle.text.proofs.Seen.{char-inside}
 use Rattle.text_cases.proofs.samples.walk.Statement.{statement}
 use Rattle.text_cases.proofs.samples.walk.Tie as tie
-use Rattle.text_cases.proofs.samples.walk.Reads as reads
-use Rattle.text_cases.proofs.samples.walk.Lts as lts
-use Rattle.io.proofs.print_hex.Reads as print-hex-reads
-use Rattle.text.proofs.scanner.peek.Reads as peek-reads
-use Rattle.text_cases.proofs.samples.say.Reads as say-reads
 
 abbrev Inv-loop : tie.InvT-loop
 Inv-loop s at₀ t5 at = at ≤ length s
@@ -18,47 +13,36 @@ Inv-loop s at₀ t5 at = at ≤ length s
 abbrev μ-loop : tie.MeasureT-loop
 μ-loop s at₀ t5 at = length s - at
 
--- src/samples.rt:14:5
 loop-holds : tie.Need-loop-holds Inv-loop μ-loop
 loop-holds c = search needs
 
--- src/samples.rt:15:15
 peek-requires : tie.Need-peek-requires Inv-loop μ-loop
 peek-requires c κs = search needs
 
--- src/samples.rt:17:17
 enum-told : tie.Need-enum-told Inv-loop μ-loop
 enum-told c = search needs
 
--- src/samples.rt:17:17
 returns : tie.Need-returns Inv-loop μ-loop
 returns c = search needs
 
--- src/samples.rt:19:26
 enum-known-code : tie.Need-enum-known-code Inv-loop μ-loop
 enum-known-code c = search needs
 
--- src/samples.rt:20:21
 slice-aggregate-say : tie.Need-slice-aggregate-say Inv-loop μ-loop
 slice-aggregate-say c = search needs
 
--- src/samples.rt:20:17
 say-requires : tie.Need-say-requires Inv-loop μ-loop
 say-requires c κs = search needs
 
--- src/samples.rt:21:34
 cast-print-hex : tie.Need-cast-print-hex Inv-loop μ-loop
 cast-print-hex c = search needs
 
--- src/samples.rt:21:17
 print-hex-requires : tie.Need-print-hex-requires Inv-loop μ-loop
 print-hex-requires c κs = search needs
 
--- src/samples.rt:14:5
 loop-less : tie.Need-loop-less Inv-loop μ-loop
 loop-less c = let h = char-inside (c .before .before .before .before .before .before .before .before .before .args .s .now) (c .before .before .before .before .before .before .before .loop .at) (c .before .before .before .before .before .before .peek .ensures .1) (c .before .before .before .before .code .given .1) in omega arith
 
--- src/samples.rt:14:5
 loop-again : tie.Need-loop-again Inv-loop μ-loop
 loop-again c = let h = char-inside (c .before .before .before .before .before .before .before .before .before .args .s .now) (c .before .before .before .before .before .before .before .loop .at) (c .before .before .before .before .before .before .peek .ensures .1) (c .before .before .before .before .code .given .1) in omega arith
 

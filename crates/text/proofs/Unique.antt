@@ -1,0 +1,100 @@
+-- What the public contracts settle: any two outcomes that one allows are the same. Stated of each contract as the check reads it off the
+-- source, so that a contract which said less would fail here.
+-- Assumes nothing.
+use mathlib.Core.Path.{_≡_, sym, _∙_}
+use mathlib.Core.List.{List}
+use Prim.Native.Nat.{ℕ}
+use contract.Lifetimes.{Lfts}
+use borrow.Fn.Kinds.{PK, RK, Out, Dens, resT, endedOf}
+use denote.Triple.Clauses.{AtExit}
+use denote.Ref.{now}
+use Rattle.text.proofs.utf8.sequence_length.Kinds as sequence-length-kinds
+use Rattle.text.proofs.utf8.sequence_length.Reads as sequence-length
+use Rattle.text.proofs.utf8.validate.Kinds as validate-kinds
+use Rattle.text.proofs.utf8.validate.Reads as validate
+use Rattle.text.proofs.utf8.decode.Kinds as decode-kinds
+use Rattle.text.proofs.utf8.decode.Reads as decode
+use Rattle.text.proofs.utf8.encode.Kinds as encode-kinds
+use Rattle.text.proofs.utf8.encode.Reads as encode
+use Rattle.text.proofs.utf8.is_boundary.Kinds as is-boundary-kinds
+use Rattle.text.proofs.utf8.is_boundary.Reads as is-boundary
+use Rattle.text.proofs.class.is_whitespace.Kinds as is-whitespace-kinds
+use Rattle.text.proofs.class.is_whitespace.Reads as is-whitespace
+use Rattle.text.proofs.class.is_control.Kinds as is-control-kinds
+use Rattle.text.proofs.class.is_control.Reads as is-control
+use Rattle.text.proofs.class.holds.Kinds as holds-kinds
+use Rattle.text.proofs.class.holds.Reads as holds
+use Rattle.text.proofs.scanner.done.Kinds as done-kinds
+use Rattle.text.proofs.scanner.done.Reads as done
+use Rattle.text.proofs.scanner.peek.Kinds as peek-kinds
+use Rattle.text.proofs.scanner.peek.Reads as peek
+use Rattle.text.proofs.scanner.eat.Kinds as eat-kinds
+use Rattle.text.proofs.scanner.eat.Reads as eat
+use Rattle.text.proofs.scanner.eat_if.Kinds as eat-if-kinds
+use Rattle.text.proofs.scanner.eat_if.Reads as eat-if
+use Rattle.text.proofs.scanner.eat_while.Kinds as eat-while-kinds
+use Rattle.text.proofs.scanner.eat_while.Reads as eat-while
+use Rattle.text.proofs.scanner.eat_until.Kinds as eat-until-kinds
+use Rattle.text.proofs.scanner.eat_until.Reads as eat-until
+use Rattle.text.proofs.scanner.eat_whitespace.Kinds as eat-whitespace-kinds
+use Rattle.text.proofs.scanner.eat_whitespace.Reads as eat-whitespace
+use Rattle.text.proofs.scanner.from.Kinds as from-kinds
+use Rattle.text.proofs.scanner.from.Reads as from
+
+-- what holds of any two outcomes, with what is left behind the lent references
+abbrev Both : (n : ℕ) (ps : List (PK n)) (r : RK n) → Out n ps r → ((κs : Lfts n) → resT r κs .Denot → AtExit (endedOf n ps r) κs → resT r κs .Denot → AtExit (endedOf n ps r) κs → Type 0) → Type 0
+Both n ps r allowed same = (κs : Lfts n) (a : Dens κs ps) (x y : resT r κs .Denot) (s t : AtExit (endedOf n ps r) κs) → allowed κs a x s → allowed κs a y t → same κs x s y t
+
+-- the same result
+abbrev One : (n : ℕ) (ps : List (PK n)) (r : RK n) → Out n ps r → Type 0
+One n ps r allowed = Both n ps r allowed (λ κs x s y t. x ≡ y)
+
+pub one-sequence-length : One 0 sequence-length-kinds.ps sequence-length-kinds.r sequence-length.Post
+one-sequence-length κs a x y s t p q = p ∙ sym q
+
+pub one-validate : One 1 validate-kinds.ps validate-kinds.r validate.Post
+one-validate κs a x y s t p q = p ∙ sym q
+
+pub one-decode : One 1 decode-kinds.ps decode-kinds.r decode.Post
+one-decode κs a x y s t p q = p ∙ sym q
+
+-- the same answer, and the same bytes
+pub one-encode : Both 1 encode-kinds.ps encode-kinds.r encode.Post (λ κs x s y t. (x ≡ y) × (now (s .1 .0) ≡ now (t .1 .0)))
+one-encode κs a x y s t p q = (p .answer ∙ sym (q .answer), p .bytes ∙ sym (q .bytes))
+
+pub one-is-boundary : One 1 is-boundary-kinds.ps is-boundary-kinds.r is-boundary.Post
+one-is-boundary κs a x y s t p q = p ∙ sym q
+
+pub one-is-whitespace : One 0 is-whitespace-kinds.ps is-whitespace-kinds.r is-whitespace.Post
+one-is-whitespace κs a x y s t p q = p ∙ sym q
+
+pub one-is-control : One 0 is-control-kinds.ps is-control-kinds.r is-control.Post
+one-is-control κs a x y s t p q = p ∙ sym q
+
+pub one-holds : One 0 holds-kinds.ps holds-kinds.r holds.Post
+one-holds κs a x y s t p q = p ∙ sym q
+
+pub one-done : One 1 done-kinds.ps done-kinds.r done.Post
+one-done κs a x y s t p q = p ∙ sym q
+
+pub one-peek : One 1 peek-kinds.ps peek-kinds.r peek.Post
+one-peek κs a x y s t p q = p .0 ∙ sym (q .0)
+
+pub one-eat : One 1 eat-kinds.ps eat-kinds.r eat.Post
+one-eat κs a x y s t p q = p .0 ∙ sym (q .0)
+
+pub one-eat-if : One 1 eat-if-kinds.ps eat-if-kinds.r eat-if.Post
+one-eat-if κs a x y s t p q = p .0 ∙ sym (q .0)
+
+pub one-eat-while : One 1 eat-while-kinds.ps eat-while-kinds.r eat-while.Post
+one-eat-while κs a x y s t p q = p .0 ∙ sym (q .0)
+
+pub one-eat-until : One 1 eat-until-kinds.ps eat-until-kinds.r eat-until.Post
+one-eat-until κs a x y s t p q = p .0 ∙ sym (q .0)
+
+pub one-eat-whitespace : One 1 eat-whitespace-kinds.ps eat-whitespace-kinds.r eat-whitespace.Post
+one-eat-whitespace κs a x y s t p q = p .0 ∙ sym (q .0)
+
+-- the same bytes, wherever they lie
+pub one-from : Both 1 from-kinds.ps from-kinds.r from.Post (λ κs x s y t. now x ≡ now y)
+one-from κs a x y s t p q = p ∙ sym q
