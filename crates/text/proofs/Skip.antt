@@ -9,7 +9,7 @@ use mathlib.Core.Bool.{Bool, true, false, cond, not, Bool·beq}
 use mathlib.Core.List.{List, [], _∷_}
 use Prim.Native.Nat.{ℕ, zero, suc, _+_, _-_, _<_, _≤_, max}
 use native.Mathlib.Omega.{arith}
-use native.Mathlib.Nat.{not-suc-le-zero}
+use native.Mathlib.Nat.{not-suc-le-zero, add-zero, add-suc}
 use native.Mathlib.Numerals.{add-one}
 use lib.ListN.{length, getD, take, drop, length-drop}
 use lib.Seq.{length-take-le, getD-take}
@@ -20,7 +20,8 @@ use Rattle.text.specs.Range.{within}
 use Rattle.text.specs.Utf8.{tail, isChar, width, value, octets}
 use Rattle.text.specs.Class.{holdsOf}
 use Rattle.text.specs.Scan.{code, rest, see, pastOne, lookPast, skip, Ahead, Inside}
-use Rattle.text.specs.Inner.{wants}
+use Rattle.text.specs.Inner.{hasBit, AsciiOf, wants, AsciiRun}
+use Rattle.text.specs.declared.class.Masks.{Masks}
 use Rattle.text.specs.declared.class.Test.{Test}
 use Rattle.text.specs.declared.scanner.Seen.{Seen}
 use Rattle.text.specs.declared.scanner.Seen.the-variants.{End, Char}
@@ -206,6 +207,42 @@ wants-off t c w e h = rw e h
 
 pub wants-on : (t : Test) (c : ℕ) (w : Bool) → w ≡ false → holdsOf t c ≡ false → wants t w c ≡ true
 wants-on t c w e h = rw (e, h)
+
+-- ---- bytes of ASCII, one after the other
+
+-- what holds of every place from i to r
+abbrev pub Passed : ℕ → ℕ → Bool → List ℕ → ℕ → ℕ → Type 0
+Passed low high w s i r = (k : ℕ) → i ≤ k → k < r → (k < length s) × (getD s k 0 < 0x80) × (Bool·beq (hasBit low high (getD s k 0)) w ≡ true)
+
+pub passed-more : (low high : ℕ) (w : Bool) (s : List ℕ) (i r : ℕ) {x : Bool} → Passed low high w s i r → r < length s → getD s r 0 < 0x80 → x ≡ hasBit low high (getD s r 0) → Bool·beq x w ≡ true → Passed low high w s i (r + 1)
+passed-more low high w s i r {x} p h a q e k l n = go (eqb k r) refl
+  where
+    go : (t : Bool) → eqb k r ≡ t → (k < length s) × (getD s k 0 < 0x80) × (Bool·beq (hasBit low high (getD s k 0)) w ≡ true)
+    go true d =
+        let z : k ≡ r = eqb-true k r d in
+        rw z (h, a, sym (ap (λ (y : Bool). Bool·beq y w) q) ∙ e)
+    go false d = p k l (omega (arith, eqb-false k r d))
+
+module _ (t : Test) (w : Bool) (m : Masks) (masks : AsciiOf t m) (s : List ℕ) where
+  as-wanted : (k : ℕ) → getD s k 0 < 0x80 → Bool·beq (hasBit (m .low) (m .high) (getD s k 0)) w ≡ wants t w (getD s k 0)
+  as-wanted k a = wants-told t (getD s k 0) (masks .bits (getD s k 0) a) w
+
+  pub run-on : (i n : ℕ) → Passed (m .low) (m .high) w s i (i + n) → skip (wants t w) s i ≡ skip (wants t w) s (i + n)
+  run-on i zero p = ap (skip (wants t w) s) (sym (add-zero i))
+  run-on i (suc n) p =
+      let l = p (i + n) (omega arith) (omega arith) in
+      run-on i n (λ k a b. p k a (omega arith))
+      ∙ byte-on (wants t w) s (i + n) (l .0) (l .1) (as-wanted (i + n) (l .1)) (l .2)
+      ∙ ap (skip (wants t w) s) (add-one (i + n) ∙ sym (add-suc i n))
+
+  module _ (i : ℕ) {r : ℕ} (a : AsciiRun (m .low) (m .high) w s i r) where
+    pub ran-on : skip (wants t w) s i ≡ skip (wants t w) s r
+    ran-on =
+        let e : i + (r - i) ≡ r = omega (arith, a .from) in
+        run-on i (r - i) (rw e (a .passed)) ∙ ap (skip (wants t w) s) e
+
+    pub ran-stop : r < length s → getD s r 0 < 0x80 → skip (wants t w) s i ≡ r
+    ran-stop l h = ran-on ∙ byte-stop (wants t w) s r l h (as-wanted r h) (a .stopped l h)
 
 -- ---- what a scanner's loop hands over
 

@@ -1,8 +1,8 @@
 -- What the inner functions of src/ answer: nothing here stands in a public contract.
 -- Assumes nothing.
-use Prim.Native.Nat.{ℕ, zero, suc, _+_, _-_, _/_, _%_, _^_, _≤_, _<_}
+use Prim.Native.Nat.{ℕ, zero, suc, _+_, _-_, _/_, _%_, _^_, _≤_, _<_, max}
 use mathlib.Core.Path.{_≡_}
-use mathlib.Core.Bool.{Bool, true, false, cond, not, _&&_}
+use mathlib.Core.Bool.{Bool, true, false, cond, not, _&&_, Bool·beq}
 use mathlib.Core.List.{List}
 use lib.ListN.{length, getD}
 use lib.Dec.{eqb, ltb}
@@ -46,3 +46,10 @@ pub record AsciiOf (t : Test) (m : Masks) : Type 0 where
 -- a character that passes the test, or one that does not
 abbrev pub wants : Test → Bool → ℕ → Bool
 wants t w = cond w (holdsOf t) (λ c. not (holdsOf t c))
+
+-- r is where the bytes of ASCII from i on whose bit is w end
+pub record AsciiRun (low high : ℕ) (w : Bool) (s : List ℕ) (i r : ℕ) : Type 0 where
+  pub from : i ≤ r
+  pub to : r ≤ max i (length s)
+  pub passed : (k : ℕ) → i ≤ k → k < r → (k < length s) × (getD s k 0 < 0x80) × (Bool·beq (hasBit low high (getD s k 0)) w ≡ true)
+  pub stopped : r < length s → getD s r 0 < 0x80 → Bool·beq (hasBit low high (getD s r 0)) w ≡ false

@@ -10,7 +10,7 @@ ghost use lib.ListN.{length};
 ghost use lib.Dec.{leb};
 ghost use Rattle.text.specs.Class.{isWhitespace, holdsOf};
 ghost use Rattle.text.specs.Scan.{see, nextOf, pastOne, skip, fails, part, Ahead, Inside};
-ghost use Rattle.text.specs.Inner.{wants};
+ghost use Rattle.text.specs.Inner.{wants, AsciiRun};
 
 // What stands at a place: a code point and the place after it, or the end.
 pub enum Seen {
@@ -80,8 +80,27 @@ fn eat_wide(s: &[u8], at: usize, t: Test, want: bool) -> usize
     }
 }
 
-// The place after the characters from a place on that pass the test, or do not, as wanted.
-fn eat_run(s: &[u8], at: usize, t: Test, want: bool) -> usize
+// The place after the bytes of ASCII from a place on whose bit is as wanted. Nothing is called here, so that the loop keeps the slice at hand.
+fn ascii_run(s: &[u8], at: usize, low: u64, high: u64, want: bool) -> usize
+    ensures { λ r. ⌜ AsciiRun low high want (now (s .entry)) at r ⌝ }
+{
+    let mut i = at;
+    while i < s.len() {
+        let b = s[i];
+        if 0x80 <= b {
+            return i;
+        }
+        if class::has(low, high, b) != want {
+            return i;
+        }
+        i += 1;
+    }
+    i
+}
+
+// The place after the characters from a place on that pass the test, or do not, as wanted. For texts with more than ASCII: every scanner comes
+// here for what its own loop does not know, so that this stays out of them.
+fn eat_rest(s: &[u8], at: usize, t: Test, want: bool) -> usize
     ensures { λ r. ⌜ (r ≡ skip (wants t want) (now (s .entry)) at) × Ahead (now (s .entry)) at r ⌝ }
 {
     let masks = class::ascii(t);
@@ -90,26 +109,44 @@ fn eat_run(s: &[u8], at: usize, t: Test, want: bool) -> usize
     let narrow = masks.narrow;
     let mut i = at;
     while i < s.len() {
-        let b = s[i];
-        if b < 0x80 {
-            if class::has(low, high, b) != want {
-                return i;
-            }
-            i += 1;
-        } else if narrow {
+        let j = ascii_run(s, i, low, high, want);
+        if s.len() <= j {
+            return j;
+        }
+        if s[j] < 0x80 {
+            return j;
+        }
+        if narrow {
             if want {
-                return i;
+                return j;
             }
-            i += 1;
+            i = j + 1;
         } else {
-            let next = eat_wide(s, i, t, want);
-            if next == i {
-                return i;
+            let next = eat_wide(s, j, t, want);
+            if next == j {
+                return j;
             }
             i = next;
         }
     }
     i
+}
+
+// The same, with a loop of its own over ASCII, which is small enough to be made for each test.
+fn eat_run(s: &[u8], at: usize, t: Test, want: bool) -> usize
+    ensures { λ r. ⌜ (r ≡ skip (wants t want) (now (s .entry)) at) × Ahead (now (s .entry)) at r ⌝ }
+{
+    let masks = class::ascii(t);
+    let low = masks.low;
+    let high = masks.high;
+    let i = ascii_run(s, at, low, high, want);
+    if s.len() <= i {
+        return i;
+    }
+    if s[i] < 0x80 {
+        return i;
+    }
+    eat_rest(s, i, t, want)
 }
 
 // The place after the character where it passes the test.

@@ -1,0 +1,123 @@
+//! From bytes to rows, the UTF-8 check included: the proved reader beside the Rust.
+//!
+//!     cargo run --release -p bench -- FOLDER              with the real .bib files below FOLDER
+//!     cargo run --release -p bench -- --rounds 21 FOLDER  more rounds than 11
+//!     cargo run --release -p bench                        the made shapes only
+//!
+//! The Rust is `std::str::from_utf8` and `RawBibliography::parse`. The proved reader is timed
+//! twice: `lent`, into rows that are there and were written before, and `fresh`, into rows that are
+//! allocated, zeroed, for each run, since the Rust allocates too. Nothing that is given back to the
+//! system is in any of the times. The three take turns in one process on one file, so that noise
+//! meets all alike: compare the ratios, which are the Rust's time divided by the proved reader's
+//! (above 1 the proved reader is faster), of the best times and of the medians.
+//!
+//! Each shape is read at two sizes. `growth` is how much a byte of the larger costs, measured in
+//! bytes of the smaller, by the best times: about 1 where the cost grows in proportion.
+
+mod shapes;
+mod timing;
+
+use std::path::PathBuf;
+use std::process::ExitCode;
+
+use timing::Times;
+
+/// Measured for one text: the Rust, the proved reader into lent rows and into fresh ones.
+struct Measured {
+    bytes: usize,
+    rust: Times,
+    lent: Times,
+    fresh: Times,
+}
+
+fn main() -> ExitCode {
+    let (rounds, folders) = match wanted() {
+        Ok(wanted) => wanted,
+        Err(fault) => {
+            eprintln!("bench: {fault}");
+            return ExitCode::from(2);
+        }
+    };
+    println!("{rounds} rounds; MB/s of the best run (of the median), 1 MB = 1,000,000 bytes");
+    for shape in shapes::all(&folders) {
+        println!("{}", shape.name);
+        let small = measure(&shape.small, rounds);
+        let full = measure(&shape.full, rounds);
+        growth(&small, &full);
+    }
+    ExitCode::SUCCESS
+}
+
+fn wanted() -> Result<(usize, Vec<PathBuf>), String> {
+    let (mut rounds, mut folders) = (11, Vec::new());
+    let mut words = std::env::args().skip(1);
+    while let Some(word) = words.next() {
+        if word == "--rounds" {
+            let number = words.next().and_then(|n| n.parse().ok());
+            rounds = number.filter(|n| *n > 0).ok_or("--rounds takes a number")?;
+        } else {
+            folders.push(word.into());
+        }
+    }
+    Ok((rounds, folders))
+}
+
+fn measure(text: &[u8], rounds: usize) -> Measured {
+    let need = 4 * agreed_rows(text);
+    let mut rows = vec![1; need];
+    let (mut rust, mut lent, mut fresh) = (Times::new(), Times::new(), Times::new());
+    for _ in 0..rounds {
+        rust.run(|| timing::the_rust(text));
+        lent.run(|| proved::read(text, &mut rows));
+        fresh.run(|| {
+            let mut rows = vec![0; need];
+            proved::read(text, &mut rows);
+            rows
+        });
+    }
+    let bytes = text.len();
+    println!("  {bytes} bytes, {} rows", need / 4);
+    println!("    Rust   {}", rust.speed(bytes));
+    println!(
+        "    lent   {}, ratio {}",
+        lent.speed(bytes),
+        rust.ratio(&lent)
+    );
+    println!(
+        "    fresh  {}, ratio {}",
+        fresh.speed(bytes),
+        rust.ratio(&fresh)
+    );
+    Measured {
+        bytes,
+        rust,
+        lent,
+        fresh,
+    }
+}
+
+/// The number of rows, on which both readers agree. A benchmark of a wrong answer says nothing.
+fn agreed_rows(text: &[u8]) -> usize {
+    let rows = oracle::read(text)
+        .expect("the Rust accepts every shape")
+        .len();
+    let mut room = vec![0; 4 * rows];
+    let answer = proved::read(text, &mut room);
+    assert_eq!(
+        (answer.number, answer.count as usize),
+        (0, rows),
+        "the readers differ"
+    );
+    rows
+}
+
+fn growth(small: &Measured, full: &Measured) {
+    let by = full.bytes as f64 / small.bytes as f64;
+    let of = |small: &Times, full: &Times| full.best() / small.best() / by;
+    println!(
+        "  growth at {by:.2} times the bytes: Rust {:.2}, lent {:.2}, fresh {:.2}",
+        of(&small.rust, &full.rust),
+        of(&small.lent, &full.lent),
+        of(&small.fresh, &full.fresh)
+    );
+}

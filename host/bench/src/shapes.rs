@@ -1,0 +1,114 @@
+//! The files that are read: a real one, and the worst for a reader that looks at a byte twice.
+
+use std::path::PathBuf;
+
+/// The larger file of a shape, in bytes, and how many times the smaller one it is.
+const FULL: usize = 10_500_000;
+const TIMES: usize = 4;
+
+/// Longer real files are left out, so that the whole stays as short as a file must be.
+const LONGEST_PART: usize = 6_000_000;
+
+/// A kind of file, at two sizes.
+pub struct Shape {
+    pub name: String,
+    pub small: Vec<u8>,
+    pub full: Vec<u8>,
+}
+
+pub fn all(folders: &[PathBuf]) -> Vec<Shape> {
+    let mut shapes = Vec::new();
+    match real(folders) {
+        Some(shape) => shapes.push(shape),
+        None => println!("no real file: name a folder that has .bib files"),
+    }
+    shapes.push(made("one field", |size| {
+        around(b"@a{k,t={", b"word ", b"}}", size)
+    }));
+    shapes.push(made("one quoted field with escapes", |size| {
+        around(b"@a{k,t=\"", b"\\\"x", b"\"}", size)
+    }));
+    shapes.push(made("one field, not ASCII", |size| {
+        around(b"@a{k,t={", "Ωμέγα漢字".as_bytes(), b"}}", size)
+    }));
+    shapes.push(million());
+    shapes.push(made("one entry of many fields", |size| {
+        around(b"@a{k,\n", b" year = 1999,\n", b"}", size)
+    }));
+    shapes.push(made("one value of many names", |size| {
+        around(b"@a{k,t=n", b"#n", b"}", size)
+    }));
+    shapes.push(made("deep braces", deep));
+    shapes.push(made("white space", |size| around(b"", b" \n", b"", size)));
+    shapes.push(made("a comment", |size| {
+        around(b"%", b"@a{k,} ", b"", size)
+    }));
+    shapes
+}
+
+fn made(name: &str, text: impl Fn(usize) -> Vec<u8>) -> Shape {
+    Shape {
+        name: name.into(),
+        small: text(FULL / TIMES),
+        full: text(FULL),
+    }
+}
+
+/// A part repeated between two others.
+fn around(before: &[u8], part: &[u8], after: &[u8], size: usize) -> Vec<u8> {
+    let mut text = before.to_vec();
+    while text.len() < size {
+        text.extend_from_slice(part);
+    }
+    text.extend_from_slice(after);
+    text
+}
+
+fn deep(size: usize) -> Vec<u8> {
+    let mut text = b"@a{k,t={".to_vec();
+    text.resize(text.len() + size / 2, b'{');
+    text.resize(text.len() + size / 2, b'}');
+    text.extend_from_slice(b"}}");
+    text
+}
+
+/// A million tiny entries, and two: more would be longer than a file may be.
+fn million() -> Shape {
+    let entries = |count: usize| b"@a{k,}\n".repeat(count);
+    Shape {
+        name: "a million tiny entries, and two".into(),
+        small: entries(1_000_000),
+        full: entries(2_000_000),
+    }
+}
+
+/// The files that strict reading accepts, one after the other, from the start again until the text
+/// is long enough. An accepted file ends between two items or in a comment, which a newline ends.
+fn real(folders: &[PathBuf]) -> Option<Shape> {
+    let mut files = cases::files(folders);
+    let found = files.len();
+    files.retain(|file| file.len() < LONGEST_PART && oracle::read(file).is_ok());
+    let bytes: usize = files.iter().map(Vec::len).sum();
+    if bytes == 0 {
+        return None;
+    }
+    let text = |size| {
+        let mut text = Vec::new();
+        for file in files.iter().cycle() {
+            if text.len() >= size {
+                break;
+            }
+            text.extend_from_slice(file);
+            text.push(b'\n');
+        }
+        text
+    };
+    Some(Shape {
+        name: format!(
+            "real: {} accepted of {found} files, {bytes} bytes",
+            files.len()
+        ),
+        small: text(FULL / TIMES),
+        full: text(FULL),
+    })
+}

@@ -1,0 +1,93 @@
+//! Compares the proved reader with the Rust, row by row and refusal by refusal.
+//!
+//!     cargo run --release -p differential                    some 400,000 cases, in seconds
+//!     cargo run --release -p differential -- --long          more than twenty million
+//!     cargo run --release -p differential -- --seed 7        other random cases
+//!     cargo run --release -p differential -- FILE FOLDER     these .bib files, folders searched
+//!     cargo run --release -p differential -- --damage 20 FOLDER    and 20 damaged copies of each
+//!
+//! The last line is `N cases, D differ`; the status is 1 if any differ. Before it, the first few
+//! differences stand in full. build.rs of `oracle` and of `proved` say where the two readers come
+//! from.
+
+mod drawn;
+mod edges;
+mod exhaustive;
+mod files;
+mod judge;
+mod report;
+
+use std::path::PathBuf;
+use std::process::ExitCode;
+
+use judge::Judge;
+
+/// What the command line asks for.
+struct Wanted {
+    long: bool,
+    seed: u64,
+    damage: usize,
+    paths: Vec<PathBuf>,
+}
+
+fn main() -> ExitCode {
+    let wanted = match wanted() {
+        Ok(wanted) => wanted,
+        Err(fault) => {
+            eprintln!("differential: {fault}");
+            return ExitCode::from(2);
+        }
+    };
+    println!("seed {}", wanted.seed);
+    let mut judge = Judge::new();
+    if wanted.paths.is_empty() {
+        groups(&mut judge, &wanted);
+    } else {
+        files::run(&mut judge, &wanted.paths, wanted.damage, wanted.seed);
+    }
+    println!("{} cases, {} differ", judge.cases, judge.differ);
+    if judge.differ == 0 {
+        ExitCode::SUCCESS
+    } else {
+        ExitCode::FAILURE
+    }
+}
+
+fn groups(judge: &mut Judge, wanted: &Wanted) {
+    let Wanted { long, seed, .. } = *wanted;
+    judge.group("all short strings", |j| exhaustive::short(j, long));
+    judge.group("all short tails", |j| exhaustive::tails(j, long));
+    judge.group("sequences around UTF-8", |j| exhaustive::sequences(j, long));
+    judge.group("characters", |j| exhaustive::characters(j, long));
+    judge.group("edge lengths", |j| edges::run(j, long));
+    judge.group("by grammar", |j| drawn::grammar(j, seed, long));
+    judge.group("damaged", |j| drawn::damaged(j, seed, long));
+    judge.group("bytes", |j| drawn::bytes(j, seed, long));
+    judge.group("room", |j| drawn::rooms(j, seed, long));
+}
+
+fn wanted() -> Result<Wanted, String> {
+    let mut wanted = Wanted {
+        long: false,
+        seed: 1,
+        damage: 0,
+        paths: Vec::new(),
+    };
+    let mut words = std::env::args().skip(1);
+    while let Some(word) = words.next() {
+        match word.as_str() {
+            "--quick" => wanted.long = false,
+            "--long" => wanted.long = true,
+            "--seed" => wanted.seed = number(&word, words.next())?,
+            "--damage" => wanted.damage = number(&word, words.next())?,
+            _ if word.starts_with("--") => return Err(format!("no option {word}")),
+            _ => wanted.paths.push(word.into()),
+        }
+    }
+    Ok(wanted)
+}
+
+fn number<T: std::str::FromStr>(option: &str, word: Option<String>) -> Result<T, String> {
+    let number = word.and_then(|word| word.parse().ok());
+    number.ok_or_else(|| format!("{option} takes a number"))
+}

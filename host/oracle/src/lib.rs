@@ -1,0 +1,46 @@
+//! The original Rust as judge of the proved reader.
+//!
+//! raw.rs, resolve.rs and chunk.rs of typst/biblatex are compiled here unchanged, from a folder
+//! that build.rs finds; nothing of them is kept in this repository. This crate root gives them what
+//! they import from theirs (`Span`, `Spanned`, and the stand-ins in `types` and `mechanics`), and
+//! `read` turns what the Rust answers into the rows and the numbers of document 01.
+
+pub mod mechanics;
+mod places;
+mod rows;
+pub mod types;
+
+include!(concat!(env!("OUT_DIR"), "/rust.rs"));
+
+use std::fmt;
+
+pub use chunk::ChunksExt;
+pub use rows::{read, read_into, Kind, Refusal, Row, LONGEST_FILE};
+pub use types::{TypeError, TypeErrorKind};
+
+/// A range of bytes.
+pub type Span = std::ops::Range<usize>;
+
+/// A value and where it stands.
+#[derive(Clone, Eq, PartialEq)]
+pub struct Spanned<T> {
+    pub v: T,
+    pub span: Span,
+}
+
+impl<T> Spanned<T> {
+    pub fn new(v: T, span: Span) -> Self {
+        Self { v, span }
+    }
+
+    /// Whether the span points nowhere, which only the left-out parts of the Rust make.
+    pub fn is_detached(&self) -> bool {
+        self.span.start == usize::MAX
+    }
+}
+
+impl<T: fmt::Debug> fmt::Debug for Spanned<T> {
+    fn fmt(&self, f: &mut fmt::Formatter) -> fmt::Result {
+        write!(f, "{:?} at {:?}", self.v, self.span)
+    }
+}

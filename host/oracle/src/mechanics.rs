@@ -1,0 +1,10 @@
+//! A stand-in for what resolve.rs takes from the Rust's `mechanics`.
+
+const VERBATIM: [&str; 10] = [
+    "doi", "eprint", "file", "pdf", "uri", "url", "urlraw", "verba", "verbb", "verbc",
+];
+
+/// Whether a field is read with most commands and escapes off. Only resolving asks.
+pub fn is_verbatim_field(name: &str) -> bool {
+    VERBATIM.contains(&name)
+}
