@@ -14,4 +14,5 @@ pub mod Encoding
 pub mod Masks
 pub mod Seen
 pub mod Skip
+pub mod Moved
 pub mod Unique

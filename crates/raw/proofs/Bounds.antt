@@ -1,0 +1,62 @@
+-- Bounds of a place, by what a reader was told to answer; and refusals, which have none.
+--     step-place, answer-place, again-place, done-place     the place after it lies in the text
+--     step-ahead, onward-from                          likewise where the text may have ended before
+--     off-onward, off-answer, off-step, off-within          of a refusal there is none
+-- Assumes nothing.
+use Prim.Native.Nat.{ℕ, _+_, _*_, _≤_, _<_, max}
+use mathlib.Core.Path.{_≡_, refl, sym, ap, _∙_, subst}
+use mathlib.Core.List.{List}
+use native.Mathlib.Omega.{arith}
+use Rattle.raw.specs.declared.fault.Fault.{Fault}
+use Rattle.raw.specs.declared.fault.Step.{Step}
+use Rattle.raw.specs.declared.fault.Step.the-variants as step
+use Rattle.raw.specs.declared.fault.Answer.{Answer}
+use Rattle.raw.specs.declared.fault.Answer.the-variants as answer
+use Rattle.raw.specs.declared.fault.Turn.{Turn}
+use Rattle.raw.specs.declared.fault.Turn.the-variants as turn
+use Rattle.raw.specs.Reader.{Out, ok, again, bad}
+use Rattle.raw.specs.Says.{stepOf, Onward, Within, WithinTurn, refusedOf, Says}
+use Rattle.raw.proofs.Saying.{says-off, says-at}
+
+module _ (len w p : ℕ) where
+  pub step-ahead : {r : Step} {q : ℕ} → r ≡ step.At q → Onward len w p r → (p + w ≤ q) × (q ≤ max p len)
+  step-ahead e h = subst (Onward len w p) e h
+
+  pub off-onward : {o : Out} {r : Step} {f : Fault} → o ≡ bad f → r ≡ step.Refused f → (r ≡ stepOf o) × Onward len w p r
+  off-onward e d = (d ∙ sym (ap stepOf e), subst (Onward len w p) (sym d) tt)
+
+  -- from a place before it
+  pub onward-from : (v q : ℕ) (r : Step) → Onward len v q r → p + w ≤ q + v → q ≤ max p len → Onward len w p r
+  onward-from v q (step.At x) h k l = (omega arith, omega arith)
+  onward-from v q (step.Refused f) h k l = tt
+
+  pub step-place : {r : Step} {q : ℕ} → r ≡ step.At q → Onward len w p r → p ≤ len → (p + w ≤ q) × (q ≤ len)
+  step-place e h l = let k = subst (Onward len w p) e h in (k .0, omega arith)
+
+  module _ (n : ℕ) where
+    pub answer-place : {r : Answer} {q m : ℕ} → r ≡ answer.Next q m → Within len w p n r → p ≤ len → (p + w ≤ q) × (q ≤ len) × (m + 8 * p ≤ n + 8 * q)
+    answer-place e h l = let k = subst (Within len w p n) e h in (k .0, omega arith, k .2)
+
+    pub off-within : {r : Answer} {f : Fault} → r ≡ answer.Refused f → Within len w p n r
+    off-within e = subst (Within len w p n) (sym e) tt
+
+    module _ (v : ℕ) where
+      pub again-place : {r : Turn} {q m : ℕ} → r ≡ turn.Again q m → WithinTurn len v w p n r → p ≤ len → (p + v ≤ q) × (q ≤ len) × (m + 8 * p ≤ n + 8 * q)
+      again-place e h l = let k = subst (WithinTurn len v w p n) e h in (k .0, omega arith, k .2)
+
+      pub done-place : {r : Turn} {q m : ℕ} → r ≡ turn.Done q m → WithinTurn len v w p n r → p ≤ len → (p + w ≤ q) × (q ≤ len) × (m + 8 * p ≤ n + 8 * q)
+      done-place e h l = let k = subst (WithinTurn len v w p n) e h in (k .0, omega arith, k .2)
+
+-- a refusal of the whole, from that of a part without rows or with rows
+module _ (len w p : ℕ) {base n : ℕ} {b b′ : List ℕ} {o : Out} {f : Fault} (e : o ≡ bad f) {a : Answer} where
+  pub off-answer : a ≡ answer.Refused f → Says base o n b a b′ × Within len w p n a
+  off-answer d = (says-at (sym d) (says-off e), off-within len w p n d)
+
+  pub off-step : {r : Step} → r ≡ step.Refused f → a ≡ refusedOf r → Says base o n b a b′ × Within len w p n a
+  off-step d h = off-answer (h ∙ ap refusedOf d)
+
+-- what `WithinTurn` says of a turn that follows, from a place before it
+pub turn-later : (len v w p n v′ w′ p′ n′ : ℕ) (r : Turn) → p′ + v′ ≤ p + v → p′ + w′ ≤ p + w → p ≤ max p′ len → n + 8 * p′ ≤ n′ + 8 * p → WithinTurn len v w p n r → WithinTurn len v′ w′ p′ n′ r
+turn-later len v w p n v′ w′ p′ n′ (turn.Again q m) a b c d h = (omega arith, omega arith, omega arith)
+turn-later len v w p n v′ w′ p′ n′ (turn.Done q m) a b c d h = (omega arith, omega arith, omega arith)
+turn-later len v w p n v′ w′ p′ n′ (turn.Refused f) a b c d h = tt

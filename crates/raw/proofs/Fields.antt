@@ -1,0 +1,105 @@
+-- The ways through the readers of a field's value: `single_field`, `abbr_element` and `abbr_turn`.
+-- Assumes nothing.
+use Prim.Native.Nat.{ℕ, zero, suc, _+_, _≤_, _<_}
+use mathlib.Core.Path.{_≡_, refl, sym, ap, _∙_, subst}
+use mathlib.Core.List.{List, []}
+use native.Mathlib.Omega.{arith}
+use lib.ListN.{length, getD}
+use borrow.Author.Tests.{eq-eqb, ne-eqb}
+use Rattle.text.specs.Class.{isWhitespace, isIdStart, holdsOf}
+use Rattle.text.specs.Scan.{see, skip, pastOne}
+use Rattle.text.specs.declared.class.Test.the-variants as test
+use Rattle.raw.specs.declared.row.Kind.the-variants as kind
+use Rattle.raw.specs.declared.fault.Fault.{Fault}
+use Rattle.raw.specs.declared.fault.Fault.the-variants.{UnexpectedEof}
+use Rattle.raw.specs.declared.fault.Answer.the-variants as answer
+use Rattle.raw.specs.declared.fault.Turn.the-variants as turned
+use Rattle.raw.specs.Row.{row}
+use Rattle.raw.specs.Reader.{Out, ok, again, bad, andThen, under, eaten, after, many, sees, when, stop, turn, refuse, over, _then_}
+use Rattle.raw.specs.Grammar.{is, any, white, number, numberTurn, ident, braced, stringLiteral, singleField, abbrElement, abbrTurn}
+use Rattle.raw.specs.Says.{Says, SaysTurn}
+use Rattle.raw.proofs.Good.{Sound}
+use Rattle.raw.proofs.Loop.{many-turn}
+use Rattle.raw.proofs.Readers.{number-turn-good, number-good}
+use Rattle.raw.proofs.Bare.{more-none, then-on, then-off}
+use Rattle.raw.proofs.Eaten.{narrow-is, eaten-off, eaten-on, byte-end, byte-on, byte-off}
+use Rattle.raw.proofs.Steps.{white-on}
+use Rattle.raw.proofs.Saying.{turn-of, turn-done, turn-again, turn-then, said-off}
+
+-- ---- `single_field`, by the byte
+
+module _ (s : List ℕ) (i : ℕ) where
+  abbrev quotedOr : Out
+  quotedOr = sees (is 0x22) stringLiteral (refuse UnexpectedEof) s i
+
+  pub single-end : length s ≤ i → singleField s i ≡ bad (UnexpectedEof i)
+  unfolding singleField
+  single-end h =
+      byte-end (is 0x7B) s i (λ n. braced s i) quotedOr h ∙ byte-end (is 0x22) s i (λ n. stringLiteral s i) (bad (UnexpectedEof i)) h
+
+  module _ (h : i < length s) where
+    pub single-braced : getD s i 0 ≡ 0x7B → singleField s i ≡ braced s i
+    unfolding singleField
+    single-braced e = byte-on (is 0x7B) s i (λ n. braced s i) quotedOr (narrow-is 0x7B (omega arith)) h (eq-eqb _ _ e)
+
+    module _ (d : getD s i 0 ≡ 0x7B → ⊥) where
+      no-brace : singleField s i ≡ quotedOr
+      unfolding singleField
+      no-brace = byte-off (is 0x7B) s i (λ n. braced s i) quotedOr (narrow-is 0x7B (omega arith)) h (ne-eqb _ _ d)
+
+      pub single-quoted : getD s i 0 ≡ 0x22 → singleField s i ≡ stringLiteral s i
+      single-quoted e =
+          no-brace ∙ byte-on (is 0x22) s i (λ n. stringLiteral s i) (bad (UnexpectedEof i)) (narrow-is 0x22 (omega arith)) h (eq-eqb _ _ e)
+
+      pub single-off : (getD s i 0 ≡ 0x22 → ⊥) → singleField s i ≡ bad (UnexpectedEof i)
+      single-off e =
+          no-brace ∙ byte-off (is 0x22) s i (λ n. stringLiteral s i) (bad (UnexpectedEof i)) (narrow-is 0x22 (omega arith)) h (ne-eqb _ _ e)
+
+-- ---- `abbr_element`, by what `eat_if` told
+
+module _ (s : List ℕ) (i : ℕ) {r : ℕ} (e : r ≡ pastOne (holdsOf test.Digit) i (see s i)) where
+  abbrev nameOr : Out
+  nameOr = sees isIdStart (over kind.Name ident) singleField s i
+
+  pub element-number : (r ≡ i → ⊥) → abbrElement s i ≡ under (row kind.Literal i) (number s i)
+  unfolding abbrElement
+  element-number h = eaten-on (holdsOf test.Digit) s i (λ n. under (row kind.Literal i) (number s i)) nameOr e h
+
+  -- a number takes its first digit
+  pub number-past : (r ≡ i → ⊥) → {q : ℕ} → number s i ≡ ok q [] → r ≤ q
+  unfolding number numberTurn
+  number-past h {q} d =
+      let t : numberTurn 0 s i ≡ again r [] 0 = eaten-on (holdsOf test.Digit) s i (λ n. again n [] 0) _ e h in
+      let m : number s i ≡ number s r = many-turn number-turn-good 0 s i ∙ ap (λ (o : Out). after o (λ a p. many numberTurn a s p)) t ∙ more-none (number s r) in
+      let k = subst (Sound 0 0 r (length s)) (sym m ∙ d) (number-good .kept .sound s r) in
+      omega arith
+
+  module _ (h : r ≡ i) {q : ℕ} (d : q ≡ pastOne (holdsOf test.IdStart) i (see s i)) where
+    no-digit : abbrElement s i ≡ nameOr
+    unfolding abbrElement
+    no-digit = eaten-off (holdsOf test.Digit) s i (λ n. under (row kind.Literal i) (number s i)) nameOr e h
+
+    pub element-name : (q ≡ i → ⊥) → abbrElement s i ≡ under (row kind.Name i) (ident s i)
+    unfolding holdsOf
+    element-name k = no-digit ∙ eaten-on isIdStart s i (λ n. under (row kind.Name i) (ident s i)) (singleField s i) d k
+
+    pub element-field : q ≡ i → abbrElement s i ≡ singleField s i
+    unfolding holdsOf
+    element-field k = no-digit ∙ eaten-off isIdStart s i (λ n. under (row kind.Name i) (ident s i)) (singleField s i) d k
+
+-- ---- `abbr_turn`
+
+module _ (s : List ℕ) (i : ℕ) {base n : ℕ} {b b′ : List ℕ} where
+  pub element-off : {x : Fault} → Says base (abbrElement s i) n b (answer.Refused x) b′ → abbrTurn 0 s i ≡ bad x
+  unfolding abbrTurn
+  element-off h = then-off _ (said-off h)
+
+  module _ {p m : ℕ} (h : Says base (abbrElement s i) n b (answer.Next p m) b′) {p₂ p₃ : ℕ} (w : p₂ ≡ skip isWhitespace s p) (e : p₃ ≡ pastOne (holdsOf test.Hash) p₂ (see s p₂)) where
+    pub turn-last : p₃ ≡ p₂ → SaysTurn base (abbrTurn 0 s i) n b (turned.Done p₂ m) b′
+    unfolding abbrTurn
+    turn-last k = turn-then _ h (turn-of (then-on _ (white-on s p w)) (turn-done (eaten-off (holdsOf test.Hash) s p₂ ((white then turn 0) s) (ok p₂ []) e k)))
+
+    pub turn-hash : {p₄ : ℕ} → (p₃ ≡ p₂ → ⊥) → p₄ ≡ skip isWhitespace s p₃ → SaysTurn base (abbrTurn 0 s i) n b (turned.Again p₄ m) b′
+    unfolding abbrTurn
+    turn-hash k v =
+        turn-then _ h (turn-of (then-on _ (white-on s p w) ∙ eaten-on (holdsOf test.Hash) s p₂ ((white then turn 0) s) (ok p₂ []) e k) (turn-again (then-on _ (white-on s p₃ v))))

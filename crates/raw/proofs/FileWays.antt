@@ -1,0 +1,124 @@
+-- The ways through the functions of src/file.rt, over what their calls told.
+--     file-end, file-entry, file-comment, file-other     a turn of the file, by the byte it stands at
+--     comment-further                                     a comment that stands there is passed
+--     read-long, read-ill, read-off, read-full, read-fits     the answers of `read`
+-- Assumes nothing.
+use Prim.Native.Nat.{ℕ, _+_, _/_, _≤_, _<_}
+use native.Mathlib.Omega.{arith}
+use mathlib.Core.Path.{_≡_, refl, sym, ap, _∙_, subst}
+use mathlib.Core.Bool.{false}
+use mathlib.Core.List.{List, []}
+use lib.ListN.{length, getD}
+use lib.Dec.{leb}
+use borrow.Author.Tests.{ne-eqb, le-leb, lt-leb}
+use Rattle.text.specs.Class.{isWhitespace, holdsOf}
+use Rattle.text.specs.Scan.{see, nextOf, skip, fails, Inside}
+use Rattle.text.specs.Utf8.{validityOf}
+use Rattle.text.specs.declared.class.Test.the-variants as test
+use Rattle.text.specs.declared.utf8.Validity.{Validity}
+use Rattle.text.specs.declared.utf8.Validity.the-variants as validity
+use Rattle.text.proofs.Seen.{see-end, see-inside}
+use Rattle.text.proofs.Skip.{skip-ahead}
+use Rattle.raw.specs.declared.fault.Fault.{Fault}
+use Rattle.raw.specs.declared.fault.Fault.the-variants.{TooLong, NotUtf8, NoRoom}
+use Rattle.raw.specs.declared.fault.Step.the-variants as step
+use Rattle.raw.specs.declared.fault.Answer.{Answer}
+use Rattle.raw.specs.declared.fault.Answer.the-variants as answer
+use Rattle.raw.specs.declared.fault.Reading.{Reading}
+use Rattle.raw.specs.declared.fault.Reading.the-variants as reading
+use Rattle.raw.specs.Row.{Row, moved, overlay}
+use Rattle.raw.specs.Reader.{Out, ok, again, bad, andThen}
+use Rattle.raw.specs.Grammar.{is, comment, entry, fileTurn, file}
+use Rattle.raw.specs.Says.{stepOf, answerOf, Room, Says}
+use Rattle.raw.specs.Read.{mostBytes, checked, strict, readingOut, leftOut, Read}
+use Rattle.raw.proofs.Rows.{moved-none, overlay-fits}
+use Rattle.raw.proofs.Bare.{then-on}
+use Rattle.raw.proofs.Saying.{says-at, said-off}
+use Rattle.raw.proofs.Steps.{scan-on, white-on, comment-on}
+use Rattle.raw.proofs.Bytes.{seen-key, seen-other}
+use Rattle.raw.proofs.Eaten.{narrow-is}
+
+-- ---- a turn
+
+module _ (s : List ℕ) (at : ℕ) {p : ℕ} (e : p ≡ skip isWhitespace s at) where
+  pub file-end : length s ≤ p → fileTurn 0 s at ≡ ok p []
+  unfolding fileTurn
+  file-end h = then-on _ (white-on s at e) ∙ rw (see-end s p h)
+
+  module _ (h : p < length s) where
+    pub file-entry : getD s p 0 ≡ 0x40 → fileTurn 0 s at ≡ andThen (entry s p) (λ q. again q [] 0)
+    unfolding fileTurn
+    file-entry q = then-on _ (white-on s at e) ∙ rw (seen-key s p h 0x40 q (omega arith))
+
+    pub file-comment : {r : ℕ} → getD s p 0 ≡ 0x25 → step.At r ≡ stepOf (comment s p) → fileTurn 0 s at ≡ again r [] 0
+    unfolding fileTurn holdsOf
+    file-comment q d = then-on _ (white-on s at e) ∙ rw (seen-key s p h 0x25 q (omega arith)) (then-on _ (comment-on s p d))
+
+    pub file-other : {r : ℕ} → (getD s p 0 ≡ 0x40 → ⊥) → (getD s p 0 ≡ 0x25 → ⊥) → r ≡ nextOf p (see s p) → (fileTurn 0 s at ≡ again r [] 0) × (p < r)
+    unfolding fileTurn holdsOf
+    file-other {r} x y d =
+        let o = seen-other s p h in
+        let n : r ≡ o .1 = d ∙ ap (nextOf p) (o .2) in
+        let i = subst (Inside s p) (o .2) (see-inside s p) in
+        let a = o .3 (is 0x40) (narrow-is 0x40 (omega arith)) (ne-eqb _ _ x) in
+        let b = o .3 (is 0x25) (narrow-is 0x25 (omega arith)) (ne-eqb _ _ y) in
+        (then-on _ (white-on s at e) ∙ rw (o .2, a, b, n), omega arith)
+
+-- where a percent sign stands, it is passed
+pub comment-further : (s : List ℕ) (p : ℕ) {r : ℕ} → p < length s → getD s p 0 ≡ 0x25 → step.At r ≡ stepOf (comment s p) → p < r
+unfolding comment holdsOf
+comment-further s p {r} h q d =
+    let t : comment s p ≡ ok (skip (fails test.Newline) s (p + 1)) [] = rw (seen-key s p h 0x25 q (omega arith)) (scan-on (fails test.Newline) s (p + 1) refl) in
+    let n : r ≡ skip (fails test.Newline) s (p + 1) = let x = d ∙ ap stepOf t in cc in
+    omega (arith, skip-ahead (fails test.Newline) s (p + 1) .from)
+
+-- ---- `read`
+
+full-rows : (b : List ℕ) {q n : ℕ} (p : ℕ) (rs : List Row) → answer.Next q n ≡ answer.Next p (0 + length rs) → length b / 4 < n → leb (length rs) (length b / 4) ≡ false
+full-rows b {n = n} p rs e l = let k : n ≡ 0 + length rs = cc in lt-leb (length rs) (length b / 4) (omega arith)
+
+full : (o : Out) (b : List ℕ) (q n : ℕ) → answer.Next q n ≡ answerOf o 0 → length b / 4 < n → (reading.Refused NoRoom ≡ readingOut o (length b)) × (b ≡ leftOut o b)
+full (ok p rs) b q n e l = let t = full-rows b p rs e l in (rw t, rw t)
+full (again p rs a) b q n e l = let t = full-rows b p rs e l in (rw t, rw t)
+full (bad f) b q n e l = let z : _≡_ {A = ℕ} 0 1 = cc in absurd (omega arith)
+
+fits-rows : (b b′ : List ℕ) {q n : ℕ} (p : ℕ) (rs : List Row) → answer.Next q n ≡ answer.Next p (0 + length rs) → n ≤ length b / 4 → b′ ≡ overlay b 0 (moved 0 rs) → (reading.Rows n ≡ readingOut (ok p rs) (length b)) × (b′ ≡ leftOut (ok p rs) b)
+fits-rows b b′ {n = n} p rs e l r =
+    let k : n ≡ 0 + length rs = cc in
+    let h : length rs ≤ length b / 4 = omega arith in
+    let t = le-leb (length rs) (length b / 4) h in
+    (rw t (ap reading.Rows (omega arith)), rw t (r ∙ ap (overlay b 0) (moved-none rs) ∙ overlay-fits rs b h))
+
+fits : (o : Out) (b : List ℕ) {b′ : List ℕ} (q n : ℕ) → answer.Next q n ≡ answerOf o 0 → n ≤ length b / 4 → Room 0 o 0 b b′ → (reading.Rows n ≡ readingOut o (length b)) × (b′ ≡ leftOut o b)
+fits (ok p rs) b {b′} q n e l r = fits-rows b b′ p rs e l r
+fits (again p rs a) b {b′} q n e l r = fits-rows b b′ p rs e l r
+fits (bad f) b q n e l r = let z : _≡_ {A = ℕ} 0 1 = cc in absurd (omega arith)
+
+pub read-long : (s b : List ℕ) → mostBytes < length s → Read s b (reading.Refused TooLong) b
+unfolding strict
+read-long s b h = let t = lt-leb (length s) mostBytes h in record { answer = rw t; rows = rw t }
+
+module _ (s b : List ℕ) (h : length s ≤ mostBytes) {v : Validity} (d : v ≡ validityOf s) where
+  strict-by : {x : Validity} → v ≡ x → strict s ≡ checked s x
+  unfolding strict
+  strict-by q = rw (le-leb (length s) mostBytes h, sym d ∙ q)
+
+  pub read-ill : {i : ℕ} → v ≡ validity.IllFormed i → Read s b (reading.Refused (NotUtf8 i)) b
+  read-ill q = let t = strict-by q in record { answer = ap (λ (o : Out). readingOut o (length b)) (sym t); rows = ap (λ (o : Out). leftOut o b) (sym t) }
+
+  module _ (q : v ≡ validity.Valid) {y y′ : List ℕ} {r : Answer} (w : Says 0 (file s 0) 0 y r y′) where
+    -- by the reading that was counted first
+    as-file : {x : Reading} {b′ : List ℕ} → (x ≡ readingOut (file s 0) (length b)) × (b′ ≡ leftOut (file s 0) b) → Read s b x b′
+    as-file k =
+        let t = strict-by q in
+        record { answer = k .0 ∙ ap (λ (o : Out). readingOut o (length b)) (sym t); rows = k .1 ∙ ap (λ (o : Out). leftOut o b) (sym t) }
+
+    pub read-off : {f : Fault} → r ≡ answer.Refused f → Read s b (reading.Refused f) b
+    read-off z = let t = said-off (says-at z w) in as-file (ap (λ (o : Out). readingOut o (length b)) (sym t), ap (λ (o : Out). leftOut o b) (sym t))
+
+    module _ {p n : ℕ} (z : r ≡ answer.Next p n) where
+      pub read-full : length b / 4 < n → Read s b (reading.Refused NoRoom) b
+      read-full l = as-file (full (file s 0) b p n (sym z ∙ w .told) l)
+
+      pub read-fits : {x : Answer} {b′ : List ℕ} → n ≤ length b / 4 → Says 0 (file s 0) 0 b x b′ → Read s b (reading.Rows n) b′
+      read-fits l k = as-file (fits (file s 0) b p n (sym z ∙ w .told) l (k .room))

@@ -1,0 +1,209 @@
+-- The proof of specs/Strict.antt: `strict-reading`.
+--     file-turn       a file is its first item, and then the file
+--     file-ends       an accepted text is read to its end
+-- Assumes nothing.
+use Prim.Native.Nat.{ℕ, zero, suc, _+_, _≤_, _<_}
+use native.Mathlib.Omega.{arith}
+use mathlib.Core.Path.{_≡_, refl, sym, ap, _∙_, subst}
+use mathlib.Core.Bool.{Bool, true, false, cond}
+use mathlib.Core.List.{List, [], _++_}
+use lib.ListN.{length, take, length-append, length-take}
+use lib.Dec.{leb}
+use Rattle.text.specs.Class.{holdsOf}
+use Rattle.text.specs.Utf8.{Octets, none, validityOf, isBoundary}
+use Rattle.text.specs.Scan.{see, Inside}
+use Rattle.text.specs.declared.scanner.Seen.{Seen}
+use Rattle.text.specs.declared.scanner.Seen.the-variants.{End, Char}
+use Rattle.text.specs.declared.class.Test.the-variants as test
+use Rattle.text.specs.declared.utf8.Validity.{Validity}
+use Rattle.text.specs.declared.utf8.Validity.the-variants as validity
+use Rattle.text.proofs.Seen.{see-inside}
+use Rattle.text.proofs.Moved.{see-front}
+use Rattle.text.proofs.Rfc3629.{rfc3629}
+use Rattle.raw.specs.declared.fault.Fault.{Fault}
+use Rattle.raw.specs.declared.fault.Fault.the-variants.{TooLong, NotUtf8}
+use Rattle.raw.specs.Row.{Row}
+use Rattle.raw.specs.Reader.{Out, ok, again, bad, more, andThen, eaten, after, stop, turn, loop, many}
+use Rattle.raw.specs.Grammar.{is, any, white, comment, entry, fileTurn, file}
+use Rattle.raw.specs.Read.{mostBytes, checked, strict}
+use Rattle.raw.specs.Strict.{Same, Fresh, Accepted, Refusal, Strict}
+use Rattle.raw.proofs.Trace.{Trace, Refused, Traced, trace-reach}
+use Rattle.raw.proofs.Spans.{reach-inside, reach-same, trace-rising, trace-spans, trace-clean}
+use Rattle.raw.proofs.Good.{Stops, Sound}
+use Rattle.raw.proofs.Loop.{many-turn}
+use Rattle.raw.proofs.Entries.{entry-good, file-turn-good, file-good}
+use Rattle.raw.proofs.Rules.{file-rules}
+
+-- ---- no fuel
+
+file-any : (a : ℕ) (s : List ℕ) (p : ℕ) → many fileTurn a s p ≡ file s p
+unfolding fileTurn file
+file-any a s p = many-turn file-turn-good a s p ∙ sym (many-turn file-turn-good 0 s p)
+
+pub file-turn : (s : List ℕ) (p : ℕ) → file s p ≡ after (fileTurn 0 s p) (λ a q. file s q)
+file-turn s p = sym (file-any 0 s p) ∙ many-turn file-turn-good 0 s p ∙ by (fileTurn 0 s p)
+  where
+    by : (o : Out) → after o (λ a q. many fileTurn a s q) ≡ after o (λ a q. file s q)
+    by (ok q rs) = refl
+    by (again q rs a) = ap (more rs) (file-any a s q)
+    by (bad f) = refl
+
+-- ---- to the end
+
+module _ (s : List ℕ) where
+  -- an answer is no turn, and if it accepts, then at the end of the text
+  abbrev Ends : Out → Type 0
+  Ends (ok q rs) = length s ≤ q
+  Ends (again q rs a) = Unit {0}
+  Ends (bad f) = Unit {0}
+
+  abbrev Done : Out → Type 0
+  Done (ok q rs) = length s ≤ q
+  Done (again q rs a) = ⊥
+  Done (bad f) = Unit {0}
+
+  more-ends : (rs : List Row) (o : Out) → Ends o → Ends (more rs o)
+  more-ends rs (ok q ss) h = h
+  more-ends rs (again q ss a) h = tt
+  more-ends rs (bad f) h = tt
+
+  chain-ends : (o : Out) (g : ℕ → Out) → ((q : ℕ) → Ends (g q)) → Ends (andThen o g)
+  chain-ends (ok q rs) g G = more-ends rs (g q) (G q)
+  chain-ends (again q rs a) g G = more-ends rs (g q) (G q)
+  chain-ends (bad f) g G = tt
+
+  turned-ends : (o : Out) → Ends (andThen o (turn 0 s))
+  turned-ends o = chain-ends o (turn 0 s) (λ q. tt)
+
+  turn-ends : (a p : ℕ) → Ends (fileTurn a s p)
+  unfolding fileTurn
+  turn-ends a p = chain-ends (white s p) _ (λ q. by q (see s q) (see-inside s q))
+    where
+      by : (q : ℕ) (x : Seen) → Inside s q x → Ends (eaten (is 0x40) x (λ n. andThen (entry s q) (turn 0 s)) (eaten (holdsOf test.Percent) x (λ n. andThen (comment s q) (turn 0 s)) (eaten any x (turn 0 s) (stop s q))))
+      by q End h = h
+      by q (Char c n) h = on (is 0x40 c) (holdsOf test.Percent c)
+        where
+          on : (b d : Bool) → Ends (cond b (andThen (entry s q) (turn 0 s)) (cond d (andThen (comment s q) (turn 0 s)) (again n [] 0)))
+          on true d = turned-ends (entry s q)
+          on false true = turned-ends (comment s q)
+          on false false = tt
+
+  more-done : (rs : List Row) (o : Out) → Done o → Done (more rs o)
+  more-done rs (ok q ss) h = h
+  more-done rs (again q ss a) h = h
+  more-done rs (bad f) h = tt
+
+  after-done : (o : Out) (g : ℕ → ℕ → Out) → Ends o → ((b q : ℕ) → Done (g b q)) → Done (after o g)
+  after-done (ok q rs) g h G = h
+  after-done (again q rs a) g h G = more-done rs (g a q) (G a q)
+  after-done (bad f) g h G = tt
+
+  loop-done : (n a p : ℕ) → Done (loop fileTurn n a s p)
+  unfolding loop
+  loop-done zero a p = tt
+  loop-done (suc n) a p = after-done (fileTurn a s p) (λ b q. loop fileTurn n b s q) (turn-ends a p) (loop-done n)
+
+  file-done : (p : ℕ) → Done (file s p)
+  unfolding file many
+  file-done p = loop-done (suc (length s)) 0 p
+
+  pub file-ends : (p q : ℕ) (rs : List Row) → file s p ≡ ok q rs → p ≤ length s → q ≡ length s
+  file-ends p q rs e h =
+      let x : length s ≤ q = subst Done e (file-done p) in
+      let y : Sound 0 0 p (length s) (ok q rs) = subst (Sound 0 0 p (length s)) e (file-good .kept .sound s p) in
+      omega arith
+
+-- ---- what is looked at
+
+module _ (s : List ℕ) (p q : ℕ) (rs : List Row) (e : entry s p ≡ ok q rs) where
+  entry-at : (p < q) × (q ≤ length s)
+  entry-at = let y : Sound 1 1 p (length s) (ok q rs) = subst (Sound 1 1 p (length s)) e (entry-good .kept .sound s p) in (omega arith, omega arith)
+
+  entry-same : (t : List ℕ) → q ≤ length t → Same s t p q → entry t p ≡ ok q rs
+  entry-same t h x = entry-good .kept .local s t p q (subst (λ (o : Out). Stops o q) (sym e) refl) h (λ i a b. x i a (omega arith)) ∙ e
+
+  entry-longer : (t : List ℕ) → Fresh t → entry (s ++ t) p ≡ ok q rs
+  entry-longer t f =
+      let a = entry-at in
+      entry-same (s ++ t) (omega (arith, length-append s t)) (λ i h l. sym (see-front s t i f (omega arith)))
+
+  entry-cut : entry (take q s) p ≡ ok q rs
+  entry-cut =
+      let a = entry-at in
+      let t : Trace s p rs q = subst (Traced s p) e (entry-good .traced s p) in
+      entry-same (take q s) (omega (arith, length-take q s)) (reach-same (trace-reach t))
+
+item-same : (a b : ℕ) (s t : List ℕ) (p q : ℕ) (rs : List Row) → fileTurn a s p ≡ again q rs b → q ≤ length t → Same s t p (q + 1) → fileTurn a t p ≡ again q rs b
+item-same a b s t p q rs e h x = file-turn-good a .kept .local s t p q (subst (λ (o : Out). Stops o q) (sym e) refl) h x ∙ e
+
+-- ---- strict reading
+
+start-boundary : (s : List ℕ) → Octets s → isBoundary s 0 ≡ true
+start-boundary s o = rfc3629 .boundary s 0 o .1 (record { inside = omega arith; before = none; after = o })
+
+file-accepts : (s : List ℕ) (q : ℕ) (rs : List Row) → Octets s → file s 0 ≡ ok q rs → Accepted s q rs
+file-accepts s q rs o e =
+    let t : Trace s 0 rs q = subst (Traced s 0) e (file-good .traced s 0) in
+    record {
+      end = file-ends s 0 q rs e (omega arith);
+      rules = file-rules s 0 q rs e;
+      sound = trace-clean t;
+      rising = trace-rising t;
+      spans = trace-spans o t (omega arith) (start-boundary s o);
+    }
+
+file-refuses : (s : List ℕ) (f : Fault) → file s 0 ≡ bad f → Refusal s f
+file-refuses s f e =
+    let r : Refused s 0 f = subst (Traced s 0) e (file-good .traced s 0) in
+    record { number = (omega (arith, r .least), r .most); place = reach-inside (r .place) (omega arith) }
+
+-- by what strict reading is: a text too long, one that is not UTF-8, or the file
+module _ (s : List ℕ) (P : Out → Type 0) (long : P (bad TooLong)) (ill : (n : ℕ) → n < length s → P (bad (NotUtf8 n))) (read : Octets s → P (file s 0)) where
+  checked-by : (v : Validity) → validityOf s ≡ v → P (checked s v)
+  checked-by validity.Valid e = read (rfc3629 .accepts s .0 e)
+  checked-by (validity.IllFormed n) e = ill n (rfc3629 .refuses s n .0 e .inside)
+
+  strict-by : P (strict s)
+  unfolding strict
+  strict-by = by (leb (length s) mostBytes)
+    where
+      by : (b : Bool) → P (cond b (checked s (validityOf s)) (bad TooLong))
+      by true = checked-by (validityOf s) refl
+      by false = long
+
+accepts : (s : List ℕ) (q : ℕ) (rs : List Row) → strict s ≡ ok q rs → Accepted s q rs
+accepts s q rs =
+    strict-by s (λ o. o ≡ ok q rs → Accepted s q rs)
+    (λ e. let z : _≡_ {A = ℕ} 0 1 = cc in absurd (omega arith)) (λ n h e. let z : _≡_ {A = ℕ} 0 1 = cc in absurd (omega arith))
+    (file-accepts s q rs)
+
+-- the number and the place of a refusal that was made here
+made : (s : List ℕ) (g f : Fault) → bad g ≡ bad f → Refusal s g → Refusal s f
+made s g f e r = let q : g ≡ f = cc in subst (Refusal s) q r
+
+refuses : (s : List ℕ) (f : Fault) → strict s ≡ bad f → Refusal s f
+refuses s f =
+    strict-by s (λ o. o ≡ bad f → Refusal s f)
+    (λ e. made s TooLong f e (record { number = (omega arith, omega arith); place = omega arith }))
+    (λ n h e. made s (NotUtf8 n) f e (record { number = (omega arith, omega arith); place = omega arith }))
+    (λ o. file-refuses s f)
+
+decides : (s : List ℕ) (q a : ℕ) (rs : List Row) → strict s ≡ again q rs a → ⊥
+decides s q a rs =
+    strict-by s (λ o. o ≡ again q rs a → ⊥)
+    (λ e. let z : _≡_ {A = ℕ} 0 1 = cc in omega arith) (λ n h e. let z : _≡_ {A = ℕ} 0 1 = cc in omega arith)
+    (λ o e. subst (Done s) e (file-done s 0))
+
+pub strict-reading : Strict
+strict-reading =
+    record {
+      turns = file-turn;
+      entries = λ s t p q rs e. entry-same s p q rs e t;
+      longer = λ s t p q rs e. entry-longer s p q rs e t;
+      cut = entry-cut;
+      items = item-same;
+      moves = λ a. file-good .shift a .moves;
+      accepts = accepts;
+      refuses = refuses;
+      decides = decides;
+    }

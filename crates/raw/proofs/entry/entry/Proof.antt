@@ -1,0 +1,151 @@
+-- `raw::entry::entry` meets its contract. Assumes nothing.
+use Prim.Native.Nat.{_+_}
+use native.Mathlib.Omega.{arith}
+use lib.ListN.{length}
+use borrow.Author.Needs.{needs}
+use Rattle.raw.proofs.Bounds.{step-place, answer-place}
+use Rattle.raw.proofs.Later.{ready-later}
+use Rattle.raw.proofs.EntryWays.{entry-at-off, entry-type-off, entry-rest-off, entry-end-off, entry-on}
+use Rattle.raw.proofs.entry.entry.Statement.{statement}
+use Rattle.raw.proofs.entry.entry.Tie as tie
+
+at-sign-requires : tie.Need-at-sign-requires
+at-sign-requires c κs = search needs
+
+enum-known-r1 : tie.Need-enum-known-r1
+enum-known-r1 c = search needs
+
+enum-told : tie.Need-enum-told
+enum-told c = search needs
+
+refused-requires : tie.Need-refused-requires
+refused-requires c κs = search needs
+
+returns : tie.Need-returns
+returns c =
+    let p = c .before .before .before in
+    let a = p .before .before .before .args in
+    entry-at-off (a .s .now) (a .at) (p .at-sign .ensures .0) (c .before .enum-told .given .1) (c .refused .ensures)
+
+ident-requires : tie.Need-ident-requires
+ident-requires c κs = search needs
+
+enum-known-r2 : tie.Need-enum-known-r2
+enum-known-r2 c = search needs
+
+enum-told-2 : tie.Need-enum-told-2
+enum-told-2 c = search needs
+
+refused-requires-2 : tie.Need-refused-requires-2
+refused-requires-2 c κs = search needs
+
+returns-2 : tie.Need-returns-2
+returns-2 c =
+    let p = c .before .before .before .before .before in
+    let a = p .before .before .before .before .before .args in
+    entry-type-off (a .s .now) (a .at) (p .before .before .at-sign .ensures .0) (p .r1 .given .1) (c .before .before .before .ident .ensures .0) (c .before .enum-told2 .given .1) (c .refused2 .ensures)
+
+form-of-requires : tie.Need-form-of-requires
+form-of-requires c κs =
+    let t = c .before in
+    let p = t .before .before .before .before in
+    let a = p .before .before .before .before .before .args in
+    let k₁ = step-place (length (a .s .now)) 1 (a .at) (p .r1 .given .1) (p .before .before .at-sign .ensures .1) (p .before .before .before .before .before .pre .place) in
+    let k₂ = step-place (length (a .s .now)) 1 _ (t .r2 .given .1) (t .before .before .ident .ensures .1) (k₁ .1) in
+    (omega arith, k₂ .1)
+
+rest-requires : tie.Need-rest-requires
+rest-requires c κs =
+    let t = c .before .before .before in
+    let p = t .before .before .before .before in
+    let a = p .before .before .before .before .before .args in
+    let k₁ = step-place (length (a .s .now)) 1 (a .at) (p .r1 .given .1) (p .before .before .at-sign .ensures .1) (p .before .before .before .before .before .pre .place) in
+    let k₂ = step-place (length (a .s .now)) 1 _ (t .r2 .given .1) (t .before .before .ident .ensures .1) (k₁ .1) in
+    (ready-later _ (a .n + 1) (p .before .before .before .before .before .pre) (omega arith) (k₂ .1) (omega arith), omega arith, omega arith)
+
+enum-known-r3 : tie.Need-enum-known-r3
+enum-known-r3 c = search needs
+
+enum-told-3 : tie.Need-enum-told-3
+enum-told-3 c = search needs
+
+same-length : tie.Need-same-length
+same-length c = search needs
+
+returns-3 : tie.Need-returns-3
+returns-3 c =
+    let t = c .before .before .before .before .before .before .before .before in
+    let p = t .before .before .before .before in
+    let a = p .before .before .before .before .before .args in
+    entry-rest-off (a .s .now) (a .at) (p .before .before .at-sign .ensures .0) (p .r1 .given .1) (t .before .before .ident .ensures .0) (t .r2 .given .1) (c .before .before .before .before .before .before .form-of .ensures) (c .enum-told3 .given .1) (c .before .before .before .before .rest .ensures .0)
+
+eat-whitespace-requires : tie.Need-eat-whitespace-requires
+eat-whitespace-requires c κs = search needs
+
+closing-requires : tie.Need-closing-requires
+closing-requires c κs = search needs
+
+enum-known-r5 : tie.Need-enum-known-r5
+enum-known-r5 c = search needs
+
+enum-told-4 : tie.Need-enum-told-4
+enum-told-4 c = search needs
+
+refused-requires-3 : tie.Need-refused-requires-3
+refused-requires-3 c κs = search needs
+
+same-length-2 : tie.Need-same-length-2
+same-length-2 c = search needs
+
+returns-4 : tie.Need-returns-4
+returns-4 c =
+    let t = c .before .before .before .before .before .before .before .before .before .before .before .before .before .before in
+    let p = t .before .before .before .before in
+    let a = p .before .before .before .before .before .args in
+    entry-end-off (a .s .now) (a .at) (p .before .before .at-sign .ensures .0) (p .r1 .given .1) (t .before .before .ident .ensures .0) (t .r2 .given .1) (c .before .before .before .before .before .before .before .before .before .before .before .before .form-of .ensures) (c .before .before .before .before .before .before .before .before .before .before .rest .ensures .0) (c .before .before .before .before .before .before .r3 .given .1) (c .before .before .before .before .eat-whitespace .ensures .0) (c .before .before .before .closing .ensures .0) (c .before .enum-told4 .given .1) (c .refused3 .ensures)
+
+same-length-3 : tie.Need-same-length-3
+same-length-3 c = search needs
+
+returns-5 : tie.Need-returns-5
+returns-5 c =
+    let t = c .before .before .before .before .before .before .before .before .before .before .before .before .before .before in
+    let p = t .before .before .before .before in
+    let a = p .before .before .before .before .before .args in
+    let k₁ = step-place (length (a .s .now)) 1 (a .at) (p .r1 .given .1) (p .before .before .at-sign .ensures .1) (p .before .before .before .before .before .pre .place) in
+    let k₂ = step-place (length (a .s .now)) 1 _ (t .r2 .given .1) (t .before .before .ident .ensures .1) (k₁ .1) in
+    let k₃ = answer-place (length (a .s .now)) 1 _ (a .n + 1) (c .before .before .before .before .before .before .r3 .given .1) (c .before .before .before .before .before .before .before .before .before .before .rest .ensures .1) (k₂ .1) in
+    let k₅ = step-place (length (a .s .now)) 1 (c .before .before .before .before .eat-whitespace .result) (c .before .r5 .given .1) (c .before .before .before .closing .ensures .1) (omega arith) in (
+      entry-on (a .s .now) (a .at) (p .before .before .at-sign .ensures .0) (p .r1 .given .1) (t .before .before .ident .ensures .0) (t .r2 .given .1) (c .before .before .before .before .before .before .before .before .before .before .before .before .form-of .ensures) (c .before .before .before .before .before .before .before .before .before .before .rest .ensures .0) (c .before .before .before .before .before .before .r3 .given .1) (c .before .before .before .before .eat-whitespace .ensures .0) (c .before .before .before .closing .ensures .0) (c .before .r5 .given .1),
+      (omega arith, omega arith, omega arith),
+    )
+
+pub entry-spec : {M : Type 1} → statement M
+entry-spec =
+    tie.close
+    (tie.spec
+    at-sign-requires
+    enum-known-r1
+    enum-told
+    refused-requires
+    returns
+    ident-requires
+    enum-known-r2
+    enum-told-2
+    refused-requires-2
+    returns-2
+    form-of-requires
+    rest-requires
+    enum-known-r3
+    enum-told-3
+    same-length
+    returns-3
+    eat-whitespace-requires
+    closing-requires
+    enum-known-r5
+    enum-told-4
+    refused-requires-3
+    same-length-2
+    returns-4
+    same-length-3
+    returns-5)

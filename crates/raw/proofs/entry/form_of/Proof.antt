@@ -1,0 +1,57 @@
+-- `raw::entry::form_of` meets its contract. Assumes nothing.
+use mathlib.Core.Path.{sym, _∙_}
+use mathlib.Core.List.{[], _∷_}
+use borrow.Author.Needs.{needs}
+use Rattle.raw.specs.Grammar.{formOf}
+use Rattle.raw.proofs.Spelling.{ascii-word}
+use Rattle.raw.proofs.entry.form_of.Statement.{statement}
+use Rattle.raw.proofs.entry.form_of.Tie as tie
+
+slice-aggregate-spells : tie.Need-slice-aggregate-spells
+slice-aggregate-spells c = search needs
+
+spells-requires : tie.Need-spells-requires
+spells-requires c κs = let p = c .before .before .pre in (p .0, p .1, ascii-word (0x73 ∷ 0x74 ∷ 0x72 ∷ 0x69 ∷ 0x6E ∷ 0x67 ∷ []) tt)
+
+returns : tie.Need-returns
+unfolding formOf
+returns c = rw (sym (c .before .spells .ensures) ∙ c .if1 .taken)
+
+slice-aggregate-spells-2 : tie.Need-slice-aggregate-spells-2
+slice-aggregate-spells-2 c = search needs
+
+spells-requires-2 : tie.Need-spells-requires-2
+spells-requires-2 c κs = let p = c .before .before .before .before .before .pre in (p .0, p .1, ascii-word (0x70 ∷ 0x72 ∷ 0x65 ∷ 0x61 ∷ 0x6D ∷ 0x62 ∷ 0x6C ∷ 0x65 ∷ []) tt)
+
+returns-2 : tie.Need-returns-2
+unfolding formOf
+returns-2 c = rw (sym (c .before .before .before .before .spells .ensures) ∙ c .before .before .before .if1 .left, sym (c .before .spells2 .ensures) ∙ c .if2 .taken)
+
+slice-aggregate-spells-3 : tie.Need-slice-aggregate-spells-3
+slice-aggregate-spells-3 c = search needs
+
+spells-requires-3 : tie.Need-spells-requires-3
+spells-requires-3 c κs = let p = c .before .before .before .before .before .before .before .before .pre in (p .0, p .1, ascii-word (0x63 ∷ 0x6F ∷ 0x6D ∷ 0x6D ∷ 0x65 ∷ 0x6E ∷ 0x74 ∷ []) tt)
+
+returns-3 : tie.Need-returns-3
+unfolding formOf
+returns-3 c = rw (sym (c .before .before .before .before .before .before .before .spells .ensures) ∙ c .before .before .before .before .before .before .if1 .left, sym (c .before .before .before .before .spells2 .ensures) ∙ c .before .before .before .if2 .left, sym (c .before .spells3 .ensures) ∙ c .if3 .taken)
+
+returns-4 : tie.Need-returns-4
+unfolding formOf
+returns-4 c = rw (sym (c .before .before .before .before .before .before .before .spells .ensures) ∙ c .before .before .before .before .before .before .if1 .left, sym (c .before .before .before .before .spells2 .ensures) ∙ c .before .before .before .if2 .left, sym (c .before .spells3 .ensures) ∙ c .if3 .left)
+
+pub form-of-spec : {M : Type 1} → statement M
+form-of-spec =
+    tie.close
+    (tie.spec
+    slice-aggregate-spells
+    spells-requires
+    returns
+    slice-aggregate-spells-2
+    spells-requires-2
+    returns-2
+    slice-aggregate-spells-3
+    spells-requires-3
+    returns-3
+    returns-4)

@@ -1,0 +1,42 @@
+-- `raw::entry::lead` meets its contract. Assumes nothing.
+use borrow.Author.Needs.{needs}
+use Rattle.raw.proofs.EntryWays.{lead-off, lead-on}
+use Rattle.raw.proofs.entry.lead.Statement.{statement}
+use Rattle.raw.proofs.entry.lead.Tie as tie
+
+eat-whitespace-requires : tie.Need-eat-whitespace-requires
+eat-whitespace-requires c κs = search needs
+
+opening-requires : tie.Need-opening-requires
+opening-requires c κs = search needs
+
+enum-known-r2 : tie.Need-enum-known-r2
+enum-known-r2 c = search needs
+
+enum-told : tie.Need-enum-told
+enum-told c = search needs
+
+returns : tie.Need-returns
+returns c =
+    let a = c .before .before .before .before .before .args in
+    lead-off (a .s .now) (a .at) (c .before .before .before .eat-whitespace .ensures .0) (c .before .before .before .eat-whitespace .ensures .1) (c .before .before .opening .ensures .0) (c .enum-told .given .1)
+
+eat-whitespace-requires-2 : tie.Need-eat-whitespace-requires-2
+eat-whitespace-requires-2 c κs = search needs
+
+returns-2 : tie.Need-returns-2
+returns-2 c =
+    let a = c .before .before .before .before .before .before .before .args in
+    lead-on (a .s .now) (a .at) (c .before .before .before .before .before .eat-whitespace .ensures .0) (c .before .before .before .before .before .eat-whitespace .ensures .1) (c .before .before .before .before .opening .ensures .0) (c .before .before .before .before .opening .ensures .1) (c .before .before .r2 .given .1) (c .eat-whitespace2 .ensures .0) (c .eat-whitespace2 .ensures .1)
+
+pub lead-spec : {M : Type 1} → statement M
+lead-spec =
+    tie.close
+    (tie.spec
+    eat-whitespace-requires
+    opening-requires
+    enum-known-r2
+    enum-told
+    returns
+    eat-whitespace-requires-2
+    returns-2)

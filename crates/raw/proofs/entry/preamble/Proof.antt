@@ -1,0 +1,65 @@
+-- `raw::entry::preamble` meets its contract. Assumes nothing.
+use native.Mathlib.Omega.{arith}
+use lib.ListN.{length}
+use borrow.Author.Needs.{needs}
+use Rattle.raw.proofs.Bounds.{step-place}
+use Rattle.raw.proofs.EntryWays.{preamble-off, preamble-on}
+use Rattle.raw.proofs.entry.preamble.Statement.{statement}
+use Rattle.raw.proofs.entry.preamble.Tie as tie
+
+string-requires : tie.Need-string-requires
+string-requires c κs = search needs
+
+enum-known-r1 : tie.Need-enum-known-r1
+enum-known-r1 c = search needs
+
+enum-told : tie.Need-enum-told
+enum-told c = search needs
+
+refused-requires : tie.Need-refused-requires
+refused-requires c κs = search needs
+
+returns : tie.Need-returns
+returns c = let a = c .before .before .before .before .before .before .args in preamble-off (a .s .now) (a .at) (c .before .before .before .string .ensures .0) (c .before .enum-told .given .1) (c .refused .ensures)
+
+add-put-row : tie.Need-add-put-row
+add-put-row c = search needs
+
+add-put-row-2 : tie.Need-add-put-row-2
+add-put-row-2 c =
+    let a = c .before .before .before .before .before .before .before .args in
+    let k = step-place (length (a .s .now)) 2 (a .at) (c .before .before .r1 .given .1) (c .before .before .before .before .string .ensures .1) (c .before .before .before .before .before .before .before .pre .place) in
+    omega arith
+
+put-row-requires : tie.Need-put-row-requires
+put-row-requires c κs =
+    let a = c .before .before .before .before .before .before .before .args in
+    let k = step-place (length (a .s .now)) 2 (a .at) (c .before .before .r1 .given .1) (c .before .before .before .before .string .ensures .1) (c .before .before .before .before .before .before .before .pre .place) in
+    (omega arith, omega arith)
+
+add-t12 : tie.Need-add-t12
+add-t12 c = search needs
+
+same-length : tie.Need-same-length
+same-length c = search needs
+
+returns-2 : tie.Need-returns-2
+returns-2 c =
+    let a = c .before .before .before .before .before .before .before .before .before .before .args in
+    preamble-on (a .s .now) (a .at) (c .before .before .before .before .before .before .before .string .ensures .0) (c .before .before .before .before .before .before .before .string .ensures .1) (c .before .before .before .before .before .r1 .given .1) (c .before .before .put-row .ensures)
+
+pub preamble-spec : {M : Type 1} → statement M
+preamble-spec =
+    tie.close
+    (tie.spec
+    string-requires
+    enum-known-r1
+    enum-told
+    refused-requires
+    returns
+    add-put-row
+    add-put-row-2
+    put-row-requires
+    add-t12
+    same-length
+    returns-2)

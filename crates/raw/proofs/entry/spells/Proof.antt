@@ -1,0 +1,71 @@
+-- `raw::entry::spells` meets its contract: a letter of the word is one byte. Assumes nothing.
+use Prim.Native.Nat.{_+_, _-_, _≤_}
+use mathlib.Core.Path.{_≡_, sym, ap, _∙_}
+use native.Mathlib.Omega.{arith}
+use lib.ListN.{length, drop}
+use borrow.Author.Needs.{needs}
+use Rattle.raw.specs.Grammar.{spells}
+use Rattle.raw.proofs.Spelling.{spells-length, spells-on, spells-off, spells-done}
+use Rattle.raw.proofs.entry.spells.Statement.{statement}
+use Rattle.raw.proofs.entry.spells.Tie as tie
+
+abbrev Inv-loop : tie.InvT-loop
+Inv-loop s at end word k₀ k = (k ≤ length word) × (spells word s at end ≡ spells (drop k word) s (at + k) end)
+
+abbrev μ-loop : tie.MeasureT-loop
+μ-loop s at end word k₀ k = length word - k
+
+sub-if1 : tie.Need-sub-if1 Inv-loop μ-loop
+sub-if1 c = omega arith
+
+returns : tie.Need-returns Inv-loop μ-loop
+returns c = let a = c .before .before .before .args in let p = c .before .before .before .pre in sym (spells-length (a .word .now) (a .s .now) (a .at) (a .end) (p .2) (p .0) (p .1) (c .if1 .taken))
+
+loop-holds : tie.Need-loop-holds Inv-loop μ-loop
+loop-holds c = let a = c .before .before .before .args in (omega arith, ap (λ n. spells (a .word .now) (a .s .now) n (a .end)) (omega arith))
+
+add-lower : tie.Need-add-lower Inv-loop μ-loop
+add-lower c = omega arith
+
+shared-slice-read-lower : tie.Need-shared-slice-read-lower Inv-loop μ-loop
+shared-slice-read-lower c = omega arith
+
+lower-requires : tie.Need-lower-requires Inv-loop μ-loop
+lower-requires c κs = search needs
+
+shared-slice-read-if2 : tie.Need-shared-slice-read-if2 Inv-loop μ-loop
+shared-slice-read-if2 c = omega arith
+
+returns-2 : tie.Need-returns-2 Inv-loop μ-loop
+returns-2 c = let a = c .before .before .before .before .before .before .before .before .before .args in sym (c .before .before .before .before .before .loop .inv .1 ∙ spells-off (a .s .now) (a .word .now) (a .at) (a .end) (c .before .before .before .before .before .before .before .before .before .pre) (c .before .before .before .before .before .before .if1 .left) (c .before .before .before .before .before .loop .k) (c .before .before .before .before .loop-test .taken) (λ q. c .if2 .taken (c .before .before .lower .ensures ∙ q)))
+
+add-k : tie.Need-add-k Inv-loop μ-loop
+add-k c = omega arith
+
+loop-less : tie.Need-loop-less Inv-loop μ-loop
+loop-less c = omega arith
+
+loop-again : tie.Need-loop-again Inv-loop μ-loop
+loop-again c = let a = c .before .before .before .before .before .before .before .before .before .args in (omega arith, c .before .before .before .before .before .loop .inv .1 ∙ spells-on (a .s .now) (a .word .now) (a .at) (a .end) (c .before .before .before .before .before .before .before .before .before .pre) (c .before .before .before .before .before .before .if1 .left) (c .before .before .before .before .before .loop .k) (c .before .before .before .before .loop-test .taken) (sym (c .before .before .lower .ensures) ∙ c .if2 .left))
+
+returns-3 : tie.Need-returns-3 Inv-loop μ-loop
+returns-3 c = let a = c .before .before .before .before .before .args in sym (c .before .loop .inv .1 ∙ spells-done (a .s .now) (a .word .now) (a .at) (a .end) (c .before .before .before .before .before .pre) (c .before .before .if1 .left) (c .before .loop .k) (c .before .loop .inv .0) (c .loop-test .left))
+
+pub spells-spec : {M : Type 1} → statement M
+spells-spec =
+    tie.close
+    (tie.spec
+    Inv-loop
+    μ-loop
+    sub-if1
+    returns
+    loop-holds
+    add-lower
+    shared-slice-read-lower
+    lower-requires
+    shared-slice-read-if2
+    returns-2
+    add-k
+    loop-less
+    loop-again
+    returns-3)

@@ -1,0 +1,56 @@
+-- `raw::field::field_end` meets its contract. Assumes nothing.
+use native.Mathlib.Omega.{arith}
+use borrow.Author.Needs.{needs}
+use Rattle.raw.proofs.Saying.{turn-done, turn-again, turn-off}
+use Rattle.raw.proofs.FieldWays.{end-end, end-comma, end-brace, end-off}
+use Rattle.raw.proofs.field.field_end.Statement.{statement}
+use Rattle.raw.proofs.field.field_end.Tie as tie
+
+eat-whitespace-requires : tie.Need-eat-whitespace-requires
+eat-whitespace-requires c κs = search needs
+
+shared-slice-read-b : tie.Need-shared-slice-read-b
+shared-slice-read-b c = search needs
+
+add-eat-whitespace : tie.Need-add-eat-whitespace
+add-eat-whitespace c = search needs
+
+eat-whitespace-requires-2 : tie.Need-eat-whitespace-requires-2
+eat-whitespace-requires-2 c κs = search needs
+
+comment-requires : tie.Need-comment-requires
+comment-requires c κs = search needs
+
+returns : tie.Need-returns
+returns c =
+    let a = c .before .before .before .before .before .before .before .args in
+    (λ base b. turn-again (end-comma (a .s .now) (a .at) (c .before .before .before .before .before .eat-whitespace .ensures .0) (c .before .before .before .before .if1 .taken) (c .before .before .if2 .taken) (c .before .eat-whitespace2 .ensures .0) (c .comment .ensures .0)), (omega arith, omega arith, omega arith))
+
+returns-2 : tie.Need-returns-2
+returns-2 c =
+    let a = c .before .before .before .before .before .before .args in
+    (λ base b. turn-done (end-brace (a .s .now) (a .at) (c .before .before .before .before .eat-whitespace .ensures .0) (c .before .before .before .if1 .taken) (c .before .if2 .left) (c .if3 .taken)), (omega arith, omega arith, omega arith))
+
+returns-3 : tie.Need-returns-3
+returns-3 c =
+    let a = c .before .before .before .before .before .before .args in
+    (λ base b. turn-off (end-off (a .s .now) (a .at) (c .before .before .before .before .eat-whitespace .ensures .0) (c .before .before .before .if1 .taken) (c .before .if2 .left) (c .if3 .left)), tt)
+
+returns-4 : tie.Need-returns-4
+returns-4 c =
+    let a = c .before .before .before .args in
+    (λ base b. turn-off (end-end (a .s .now) (a .at) (c .before .eat-whitespace .ensures .0) (c .if1 .left)), tt)
+
+pub field-end-spec : {M : Type 1} → statement M
+field-end-spec =
+    tie.close
+    (tie.spec
+    eat-whitespace-requires
+    shared-slice-read-b
+    add-eat-whitespace
+    eat-whitespace-requires-2
+    comment-requires
+    returns
+    returns-2
+    returns-3
+    returns-4)

@@ -1,0 +1,96 @@
+-- `raw::field::fields` meets its contract: each turn of the loop is one of `many`. Assumes nothing.
+use Prim.Native.Nat.{_+_, _*_, _-_, _≤_}
+use mathlib.Core.Path.{_≡_, refl, _∙_}
+use native.Mathlib.Omega.{arith}
+use lib.ListN.{length}
+use borrow.Author.Needs.{needs}
+use Rattle.raw.specs.Reader.{many}
+use Rattle.raw.specs.Grammar.{fieldsTurn, fields}
+use Rattle.raw.proofs.Saying.{turn-at, says-off}
+use Rattle.raw.proofs.Turns.{Leads, leads, loop-on, loop-done, loop-off}
+use Rattle.raw.proofs.Bounds.{again-place, done-place}
+use Rattle.raw.proofs.Later.{ready-later}
+use Rattle.raw.proofs.field.fields.Statement.{statement}
+use Rattle.raw.proofs.field.fields.Tie as tie
+
+abbrev Inv-loop : tie.InvT-loop
+Inv-loop s base at rows₀ n kind p₀ m₀ rows p m =
+    (at ≤ p) ×
+    (p ≤ length s) ×
+    (m + 8 * at ≤ n + 8 * p) ×
+    (length rows ≡ length rows₀) ×
+    Leads (fieldsTurn kind) s base p m rows (many (fieldsTurn kind) 0 s at) n rows₀
+
+abbrev μ-loop : tie.MeasureT-loop
+μ-loop s base at rows₀ n kind p₀ m₀ rows p m = length s - p
+
+loop-holds : tie.Need-loop-holds Inv-loop μ-loop
+loop-holds c = let a = c .before .before .args in (omega arith, c .before .before .pre .place, omega arith, refl, leads (fieldsTurn (a .kind)) (a .s .now) (a .base) (a .at) (a .n) (a .rows .now))
+
+fields-turn-requires : tie.Need-fields-turn-requires Inv-loop μ-loop
+fields-turn-requires c κs =
+    let l = c .before .loop in ready-later (l .p) (l .m) (c .before .before .before .before .pre) (l .inv .0) (l .inv .1) (l .inv .2)
+
+enum-known-q : tie.Need-enum-known-q Inv-loop μ-loop
+enum-known-q c = search needs
+
+loop-less : tie.Need-loop-less Inv-loop μ-loop
+loop-less c =
+    let a = c .before .before .before .before .before .before .before .before .before .before .args in
+    let l = c .before .before .before .before .before .before .before .loop in
+    let k = again-place (length (a .s .now)) 0 (l .p) (l .m) 1 (c .before .q .given .1) (c .before .before .before .before .before .fields-turn .ensures .1) (l .inv .1) in
+    omega arith
+
+loop-again : tie.Need-loop-again Inv-loop μ-loop
+unfolding fieldsTurn
+loop-again c =
+    let a = c .before .before .before .before .before .before .before .before .before .before .args in
+    let l = c .before .before .before .before .before .before .before .loop in
+    let k = again-place (length (a .s .now)) 0 (l .p) (l .m) 1 (c .before .q .given .1) (c .before .before .before .before .before .fields-turn .ensures .1) (l .inv .1) in
+    let t = turn-at (c .before .q .given .1) (c .before .before .before .before .before .fields-turn .ensures .0) in
+    (omega arith, k .1, omega arith, c .before .before .before .before .before .fields-turn .kept .1 .1 .1 .0 ∙ l .inv .3, loop-on (fieldsTurn (a .kind)) (a .s .now) (l .p) (λ a s p. refl) (l .inv .4) (omega arith) (k .1) t)
+
+enum-known-q-2 : tie.Need-enum-known-q-2 Inv-loop μ-loop
+enum-known-q-2 c = search needs
+
+same-length : tie.Need-same-length Inv-loop μ-loop
+same-length c = c .before .before .before .before .before .fields-turn .kept .1 .1 .1 .0 ∙ c .before .before .before .before .before .before .before .loop .inv .3
+
+returns : tie.Need-returns Inv-loop μ-loop
+unfolding fields
+returns c =
+    let a = c .before .before .before .before .before .before .before .before .before .before .args in
+    let l = c .before .before .before .before .before .before .before .loop in
+    let k = done-place (length (a .s .now)) 0 (l .p) (l .m) 1 (c .before .q2 .given .1) (c .before .before .before .before .before .fields-turn .ensures .1) (l .inv .1) in
+    (loop-done (fieldsTurn (a .kind)) (a .s .now) (l .p) (l .inv .4) (turn-at (c .before .q2 .given .1) (c .before .before .before .before .before .fields-turn .ensures .0)), (omega arith, omega arith, omega arith))
+
+enum-known-f : tie.Need-enum-known-f Inv-loop μ-loop
+enum-known-f c = search needs
+
+same-length-2 : tie.Need-same-length-2 Inv-loop μ-loop
+same-length-2 c = c .before .before .before .before .before .fields-turn .kept .1 .1 .1 .0 ∙ c .before .before .before .before .before .before .before .loop .inv .3
+
+returns-2 : tie.Need-returns-2 Inv-loop μ-loop
+unfolding fields
+returns-2 c =
+    let a = c .before .before .before .before .before .before .before .before .before .before .args in
+    let l = c .before .before .before .before .before .before .before .loop in
+    (says-off (loop-off (fieldsTurn (a .kind)) (a .s .now) (l .p) (l .inv .4) (turn-at (c .before .f .given .1) (c .before .before .before .before .before .fields-turn .ensures .0))), tt)
+
+pub fields-spec : {M : Type 1} → statement M
+fields-spec =
+    tie.close
+    (tie.spec
+    Inv-loop
+    μ-loop
+    loop-holds
+    fields-turn-requires
+    enum-known-q
+    loop-less
+    loop-again
+    enum-known-q-2
+    same-length
+    returns
+    enum-known-f
+    same-length-2
+    returns-2)

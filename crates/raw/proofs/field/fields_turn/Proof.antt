@@ -1,0 +1,71 @@
+-- `raw::field::fields_turn` meets its contract. Assumes nothing.
+use mathlib.Core.Logic.{⊎-elim}
+use native.Mathlib.Omega.{arith}
+use lib.ListN.{length}
+use borrow.Author.Needs.{needs}
+use Rattle.raw.proofs.Saying.{says-at, turn-done, turn-off}
+use Rattle.raw.proofs.Bounds.{answer-place, turn-later}
+use Rattle.raw.proofs.FieldWays.{fields-eof, fields-brace, fields-other, fields-end, fields-off, fields-on}
+use Rattle.raw.proofs.field.fields_turn.Statement.{statement}
+use Rattle.raw.proofs.field.fields_turn.Tie as tie
+
+returns : tie.Need-returns
+returns c = let a = c .before .before .before .args in (turn-off (fields-eof (a .kind) (a .s .now) (a .at) (c .if1 .taken)), tt)
+
+eat-whitespace-requires : tie.Need-eat-whitespace-requires
+eat-whitespace-requires c κs = search needs
+
+shared-slice-read-if3 : tie.Need-shared-slice-read-if3
+shared-slice-read-if3 c = search needs
+
+returns-2 : tie.Need-returns-2
+returns-2 c =
+    let a = c .before .before .before .before .before .before .before .args in
+    (turn-done (fields-brace (a .kind) (a .s .now) (a .at) (c .before .before .before .before .if1 .left) (c .before .before .before .eat-whitespace .ensures .0) (c .before .before .if2 .taken) (c .if3 .taken)), (omega arith, omega arith, omega arith))
+
+field-requires : tie.Need-field-requires
+field-requires c κs = search needs
+
+enum-known-f : tie.Need-enum-known-f
+enum-known-f c = search needs
+
+same-length : tie.Need-same-length
+same-length c = search needs
+
+returns-3 : tie.Need-returns-3
+returns-3 c =
+    let a = c .before .before .before .before .before .before .before .before .before .before .before .before .args in
+    (fields-off (a .kind) (a .s .now) (a .at) (c .before .before .before .before .before .before .before .before .eat-whitespace .result) (⊎-elim (λ w. fields-other (a .kind) (a .s .now) (a .at) (c .before .before .before .before .before .before .before .before .before .if1 .left) (c .before .before .before .before .before .before .before .before .eat-whitespace .ensures .0) (w .0 .taken) (w .2 .left)) (λ w. fields-end (a .kind) (a .s .now) (a .at) (c .before .before .before .before .before .before .before .before .before .if1 .left) (c .before .before .before .before .before .before .before .before .eat-whitespace .ensures .0) (w .left)) (c .before .before .before .before .before .before .before .if2 .came)) (says-at (c .before .f .given .1) (c .before .before .before .before .before .field .ensures .0)), tt)
+
+enum-known-p2 : tie.Need-enum-known-p2
+enum-known-p2 c = search needs
+
+field-end-requires : tie.Need-field-end-requires
+field-end-requires c κs = search needs
+
+same-length-2 : tie.Need-same-length-2
+same-length-2 c = search needs
+
+returns-4 : tie.Need-returns-4
+returns-4 c =
+    let a = c .before .before .before .before .before .before .before .before .before .before .before .before .before .args in
+    let len = length (a .s .now) in
+    let k = answer-place len 3 _ (a .n) (c .before .before .p2 .given .1) (c .before .before .before .before .before .before .field .ensures .1) (omega (arith, c .before .before .before .before .before .before .before .before .before .eat-whitespace .ensures .1 .to, c .before .before .before .before .before .before .before .before .before .before .before .before .before .pre .place)) in
+    (fields-on (a .kind) (a .s .now) (a .at) (c .before .before .before .before .before .before .before .before .before .eat-whitespace .result) (⊎-elim (λ w. fields-other (a .kind) (a .s .now) (a .at) (c .before .before .before .before .before .before .before .before .before .before .if1 .left) (c .before .before .before .before .before .before .before .before .before .eat-whitespace .ensures .0) (w .0 .taken) (w .2 .left)) (λ w. fields-end (a .kind) (a .s .now) (a .at) (c .before .before .before .before .before .before .before .before .before .before .if1 .left) (c .before .before .before .before .before .before .before .before .before .eat-whitespace .ensures .0) (w .left)) (c .before .before .before .before .before .before .before .before .if2 .came)) (says-at (c .before .before .p2 .given .1) (c .before .before .before .before .before .before .field .ensures .0)) (c .field-end .ensures .0 (a .base) _), turn-later len 1 0 _ _ 1 0 (a .at) (a .n) (c .field-end .result) (omega arith) (omega arith) (omega arith) (omega arith) (c .field-end .ensures .1))
+
+pub fields-turn-spec : {M : Type 1} → statement M
+fields-turn-spec =
+    tie.close
+    (tie.spec
+    returns
+    eat-whitespace-requires
+    shared-slice-read-if3
+    returns-2
+    field-requires
+    enum-known-f
+    same-length
+    returns-3
+    enum-known-p2
+    field-end-requires
+    same-length-2
+    returns-4)

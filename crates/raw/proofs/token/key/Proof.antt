@@ -1,0 +1,15 @@
+-- `raw::token::key` meets its contract. Assumes nothing.
+use borrow.Author.Needs.{needs}
+use Rattle.raw.proofs.Steps.{key-told}
+use Rattle.raw.proofs.token.key.Statement.{statement}
+use Rattle.raw.proofs.token.key.Tie as tie
+
+eat-while-requires : tie.Need-eat-while-requires
+eat-while-requires c κs = search needs
+
+returns : tie.Need-returns
+returns c =
+    let a = c .before .before .args in key-told (a .s .now) (a .at) (c .eat-while .ensures .0) (c .eat-while .ensures .1)
+
+pub key-spec : {M : Type 1} → statement M
+key-spec = tie.close (tie.spec eat-while-requires returns)

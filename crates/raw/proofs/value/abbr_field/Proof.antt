@@ -1,0 +1,127 @@
+-- `raw::value::abbr_field` meets its contract: each turn of the loop is one of `many`. Assumes nothing.
+use Prim.Native.Nat.{_+_, _*_, _-_, _≤_}
+use mathlib.Core.Path.{_≡_, refl, ap, _∙_}
+use native.Mathlib.Omega.{arith}
+use lib.ListN.{length}
+use borrow.Author.Needs.{needs}
+use Rattle.raw.specs.declared.row.Kind.the-variants as kind
+use Rattle.raw.specs.Row.{row}
+use Rattle.raw.specs.Reader.{many, under}
+use Rattle.raw.specs.Grammar.{abbrTurn, abbrField}
+use Rattle.raw.proofs.Saying.{turn-at, says-off, says-under}
+use Rattle.raw.proofs.Turns.{Leads, leads, loop-on, loop-done, loop-off}
+use Rattle.raw.proofs.Bounds.{again-place, done-place}
+use Rattle.raw.proofs.value.abbr_field.Statement.{statement}
+use Rattle.raw.proofs.value.abbr_field.Tie as tie
+
+abbrev Inv-loop : tie.InvT-loop
+Inv-loop s base at rows₀ n p₀ m₀ rows p m =
+    (at ≤ p) ×
+    (p ≤ length s) ×
+    (m + 8 * at ≤ n + 1 + 8 * p) ×
+    (length rows ≡ length rows₀) ×
+    Leads abbrTurn s base p m rows (many abbrTurn 0 s at) (n + 1) rows₀
+
+abbrev μ-loop : tie.MeasureT-loop
+μ-loop s base at rows₀ n p₀ m₀ rows p m = length s - p
+
+add-m : tie.Need-add-m Inv-loop μ-loop
+add-m c = search needs
+
+loop-holds : tie.Need-loop-holds Inv-loop μ-loop
+loop-holds c = let a = c .before .before .args in (omega arith, c .before .before .pre .place, omega arith, refl, leads abbrTurn (a .s .now) (a .base) (a .at) (a .n + 1) (a .rows .now))
+
+abbr-turn-requires : tie.Need-abbr-turn-requires Inv-loop μ-loop
+abbr-turn-requires c κs = record { file = c .before .before .before .before .pre .file; place = c .before .loop .inv .1; rows = omega (arith, c .before .before .before .before .pre .rows) }
+
+enum-known-q : tie.Need-enum-known-q Inv-loop μ-loop
+enum-known-q c = search needs
+
+loop-less : tie.Need-loop-less Inv-loop μ-loop
+loop-less c =
+    let a = c .before .before .before .before .before .before .before .before .before .before .args in
+    let l = c .before .before .before .before .before .before .before .loop in
+    let len = length (a .s .now) in
+    let k = again-place len 1 (l .p) (l .m) 1 (c .before .q .given .1) (c .before .before .before .before .before .abbr-turn .ensures .1) (l .inv .1) in
+    omega arith
+
+loop-again : tie.Need-loop-again Inv-loop μ-loop
+unfolding abbrTurn
+loop-again c =
+    let a = c .before .before .before .before .before .before .before .before .before .before .args in
+    let l = c .before .before .before .before .before .before .before .loop in
+    let len = length (a .s .now) in
+    let k = again-place len 1 (l .p) (l .m) 1 (c .before .q .given .1) (c .before .before .before .before .before .abbr-turn .ensures .1) (l .inv .1) in
+    let t = turn-at (c .before .q .given .1) (c .before .before .before .before .before .abbr-turn .ensures .0) in
+    (omega arith, k .1, omega arith, c .before .before .before .before .before .abbr-turn .kept .1 .1 .1 .0 ∙ l .inv .3, loop-on abbrTurn (a .s .now) (l .p) (λ a s p. refl) (l .inv .4) (omega arith) (k .1) t)
+
+enum-known-q-2 : tie.Need-enum-known-q-2 Inv-loop μ-loop
+enum-known-q-2 c = search needs
+
+add-put-row : tie.Need-add-put-row Inv-loop μ-loop
+add-put-row c = let k = c .before .before .before .before .before .before .before .before .before .before .before .pre .file in let h = c .before .before .before .before .before .before .before .before .before .before .before .pre .place in omega arith
+
+add-put-row-2 : tie.Need-add-put-row-2 Inv-loop μ-loop
+add-put-row-2 c =
+    let a = c .before .before .before .before .before .before .before .before .before .before .before .args in
+    let l = c .before .before .before .before .before .before .before .before .loop in
+    let len = length (a .s .now) in
+    let k = done-place len 1 (l .p) (l .m) 1 (c .before .before .q2 .given .1) (c .before .before .before .before .before .before .abbr-turn .ensures .1) (l .inv .1) in
+    omega (arith, c .before .before .before .before .before .before .before .before .before .before .before .pre .file)
+
+put-row-requires : tie.Need-put-row-requires Inv-loop μ-loop
+put-row-requires c κs =
+    let a = c .before .before .before .before .before .before .before .before .before .before .before .args in
+    let l = c .before .before .before .before .before .before .before .before .loop in
+    let len = length (a .s .now) in
+    let k = done-place len 1 (l .p) (l .m) 1 (c .before .before .q2 .given .1) (c .before .before .before .before .before .before .abbr-turn .ensures .1) (l .inv .1) in
+    (omega (arith, c .before .before .before .before .before .before .before .before .before .before .before .pre .file, c .before .before .before .before .before .before .before .before .before .before .before .pre .place), omega (arith, c .before .before .before .before .before .before .before .before .before .before .before .pre .file))
+
+same-length : tie.Need-same-length Inv-loop μ-loop
+same-length c = c .before .before .put-row .kept .0 ∙ c .before .before .before .before .before .before .before .before .before .abbr-turn .kept .1 .1 .1 .0 ∙ c .before .before .before .before .before .before .before .before .before .before .before .loop .inv .3
+
+returns : tie.Need-returns Inv-loop μ-loop
+unfolding abbrField
+returns c =
+    let a = c .before .before .before .before .before .before .before .before .before .before .before .before .before .before .args in
+    let l = c .before .before .before .before .before .before .before .before .before .before .before .loop in
+    let len = length (a .s .now) in
+    let k = done-place len 1 (l .p) (l .m) 1 (c .before .before .before .before .before .q2 .given .1) (c .before .before .before .before .before .before .before .before .before .abbr-turn .ensures .1) (l .inv .1) in
+    let t = loop-done abbrTurn (a .s .now) (l .p) (l .inv .4) (turn-at (c .before .before .before .before .before .q2 .given .1) (c .before .before .before .before .before .before .before .before .before .abbr-turn .ensures .0)) in
+    (rw (c .before .before .put-row .ensures) (says-under kind.Value (a .at) t), (omega arith, omega arith, omega arith))
+
+enum-known-f : tie.Need-enum-known-f Inv-loop μ-loop
+enum-known-f c = search needs
+
+same-length-2 : tie.Need-same-length-2 Inv-loop μ-loop
+same-length-2 c = c .before .before .before .before .before .abbr-turn .kept .1 .1 .1 .0 ∙ c .before .before .before .before .before .before .before .loop .inv .3
+
+returns-2 : tie.Need-returns-2 Inv-loop μ-loop
+unfolding abbrField
+returns-2 c =
+    let a = c .before .before .before .before .before .before .before .before .before .before .args in
+    let l = c .before .before .before .before .before .before .before .loop in
+    let e = loop-off abbrTurn (a .s .now) (l .p) (l .inv .4) (turn-at (c .before .f .given .1) (c .before .before .before .before .before .abbr-turn .ensures .0)) in
+    (says-off (ap (under (row kind.Value (a .at))) e), tt)
+
+pub abbr-field-spec : {M : Type 1} → statement M
+abbr-field-spec =
+    tie.close
+    (tie.spec
+    Inv-loop
+    μ-loop
+    add-m
+    loop-holds
+    abbr-turn-requires
+    enum-known-q
+    loop-less
+    loop-again
+    enum-known-q-2
+    add-put-row
+    add-put-row-2
+    put-row-requires
+    same-length
+    returns
+    enum-known-f
+    same-length-2
+    returns-2)

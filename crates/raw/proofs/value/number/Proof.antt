@@ -1,0 +1,66 @@
+-- `raw::value::number` meets its contract: each byte is a turn of `numberTurn`. Assumes nothing.
+use Prim.Native.Nat.{_-_}
+use native.Mathlib.Omega.{arith}
+use lib.ListN.{length}
+use Rattle.raw.specs.Grammar.{numberTurn}
+use Rattle.raw.proofs.Bytes.{Reached, reached}
+use Rattle.raw.proofs.ByteTurns.{dotted, number-end, number-digit, number-point, number-again, number-done}
+use Rattle.raw.proofs.value.number.Statement.{statement}
+use Rattle.raw.proofs.value.number.Tie as tie
+
+abbrev Inv-loop : tie.InvT-loop
+Inv-loop s at i₀ dot₀ i dot = Reached numberTurn s at (dotted dot) i
+
+abbrev μ-loop : tie.MeasureT-loop
+μ-loop s at i₀ dot₀ i dot = length s - i
+
+loop-holds : tie.Need-loop-holds Inv-loop μ-loop
+loop-holds c = reached
+
+shared-slice-read-b : tie.Need-shared-slice-read-b Inv-loop μ-loop
+shared-slice-read-b c = omega arith
+
+add-i : tie.Need-add-i Inv-loop μ-loop
+add-i c = omega arith
+
+loop-less : tie.Need-loop-less Inv-loop μ-loop
+loop-less c = omega arith
+
+loop-again : tie.Need-loop-again Inv-loop μ-loop
+loop-again c = number-digit (c .before .before .before .loop .dot) (c .before .before .before .loop .inv) (c .before .before .loop-test .taken) (c .if1 .taken)
+
+returns : tie.Need-returns Inv-loop μ-loop
+returns c = number-again (c .before .before .before .before .loop-test .taken) (c .before .if2 .taken) (c .before .before .before .before .before .loop .dot) (c .before .before .before .before .before .loop .inv) (c .if3 .taken)
+
+add-i-2 : tie.Need-add-i-2 Inv-loop μ-loop
+add-i-2 c = omega arith
+
+loop-less-2 : tie.Need-loop-less-2 Inv-loop μ-loop
+loop-less-2 c = omega arith
+
+loop-again-2 : tie.Need-loop-again-2 Inv-loop μ-loop
+loop-again-2 c = number-point (c .before .before .before .before .loop-test .taken) (c .before .if2 .taken) (c .before .before .before .before .before .loop .dot) (c .before .before .before .before .before .loop .inv) (c .if3 .left)
+
+returns-2 : tie.Need-returns-2 Inv-loop μ-loop
+returns-2 c = number-done (c .before .before .before .before .loop .dot) (c .before .before .before .before .loop .inv) (c .before .before .before .loop-test .taken) (c .before .if1 .left) (c .if2 .left)
+
+returns-3 : tie.Need-returns-3 Inv-loop μ-loop
+returns-3 c = number-end (c .before .loop .dot) (c .before .loop .inv) (c .loop-test .left)
+
+pub number-spec : {M : Type 1} → statement M
+number-spec =
+    tie.close
+    (tie.spec
+    Inv-loop
+    μ-loop
+    loop-holds
+    shared-slice-read-b
+    add-i
+    loop-less
+    loop-again
+    returns
+    add-i-2
+    loop-less-2
+    loop-again-2
+    returns-2
+    returns-3)

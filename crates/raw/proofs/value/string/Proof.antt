@@ -1,0 +1,69 @@
+-- `raw::value::string` meets its contract. Assumes nothing.
+use mathlib.Core.Path.{sym, ap, _∙_}
+use native.Mathlib.Omega.{arith}
+use lib.ListN.{length}
+use borrow.Author.Needs.{needs}
+use Rattle.raw.specs.Says.{stepOf}
+use Rattle.raw.proofs.Bounds.{step-ahead, onward-from, off-onward}
+use Rattle.raw.proofs.Enclosed.{string-first-off, string-inside-off, string-rest}
+use Rattle.raw.proofs.value.string.Statement.{statement}
+use Rattle.raw.proofs.value.string.Tie as tie
+
+quote-requires : tie.Need-quote-requires
+quote-requires c κs = search needs
+
+enum-known-r1 : tie.Need-enum-known-r1
+enum-known-r1 c = search needs
+
+enum-told : tie.Need-enum-told
+enum-told c = search needs
+
+returns : tie.Need-returns
+returns c =
+    let a = c .before .before .before .before .args in
+    off-onward (length (a .s .now)) 2 (a .at) (string-first-off (a .s .now) (a .at) (c .before .before .quote .ensures .0) (c .enum-told .given .1)) (c .enum-told .given .1)
+
+quoted-requires : tie.Need-quoted-requires
+quoted-requires c κs = search needs
+
+enum-known-r2 : tie.Need-enum-known-r2
+enum-known-r2 c = search needs
+
+enum-told-2 : tie.Need-enum-told-2
+enum-told-2 c = search needs
+
+returns-2 : tie.Need-returns-2
+returns-2 c =
+    let a = c .before .before .before .before .before .before .before .before .args in
+    off-onward
+    (length (a .s .now))
+    2
+    (a .at)
+    (string-inside-off (a .s .now) (a .at) (c .before .before .before .before .before .before .quote .ensures .0) (c .before .before .before .before .r1 .given .1) (c .before .before .quoted .ensures .0) (c .enum-told2 .given .1))
+    (c .enum-told2 .given .1)
+
+quote-requires-2 : tie.Need-quote-requires-2
+quote-requires-2 c κs = search needs
+
+returns-3 : tie.Need-returns-3
+returns-3 c =
+    let a = c .before .before .before .before .before .before .before .before .before .before .args in
+    let k = step-ahead (length (a .s .now)) 1 (a .at) (c .before .before .before .before .before .before .r1 .given .1) (c .before .before .before .before .before .before .before .before .quote .ensures .1) in
+    let l = step-ahead (length (a .s .now)) 0 _ (c .before .before .r2 .given .1) (c .before .before .before .before .quoted .ensures .1) in
+    let e = string-rest (a .s .now) (a .at) (c .before .before .before .before .before .before .before .before .quote .ensures .0) (c .before .before .before .before .before .before .r1 .given .1) (c .before .before .before .before .quoted .ensures .0) (c .before .before .r2 .given .1) in
+    (c .quote2 .ensures .0 ∙ sym (ap stepOf e), onward-from (length (a .s .now)) 2 (a .at) 1 _ (c .quote2 .result) (c .quote2 .ensures .1) (omega arith) (omega arith))
+
+pub string-spec : {M : Type 1} → statement M
+string-spec =
+    tie.close
+    (tie.spec
+    quote-requires
+    enum-known-r1
+    enum-told
+    returns
+    quoted-requires
+    enum-known-r2
+    enum-told-2
+    returns-2
+    quote-requires-2
+    returns-3)

@@ -1,0 +1,94 @@
+-- What the definitions of `Reader` and `Grammar` settle: theorems of strict reading, the proof of which is `strict-reading` of
+-- proofs/Strict.antt. Texts are compared by what they show: `Same`.
+-- Assumes nothing.
+use Prim.Native.Nat.{ℕ, _+_, _≤_, _<_}
+use mathlib.Core.Path.{_≡_}
+use mathlib.Core.Bool.{true, false}
+use mathlib.Core.List.{List, [], _∷_, _++_}
+use lib.ListN.{length, getD, take}
+use Rattle.text.specs.Range.{within}
+use Rattle.text.specs.Utf8.{tail, isBoundary}
+use Rattle.text.specs.Scan.{see}
+use Rattle.raw.specs.declared.fault.Fault.{Fault}
+use Rattle.raw.specs.declared.fault.Fault.the-variants.{TooLong, NotUtf8, UnexpectedEof, ExpectedIdentifier, ExpectedOpeningBrace, ExpectedClosingBrace, ExpectedComma, ExpectedQuotationMark, ExpectedEquals, UnexpectedDecimalPoint, NoRoom}
+use Rattle.raw.specs.Row.{Row, moved}
+use Rattle.raw.specs.Reader.{Out, ok, again, bad, after}
+use Rattle.raw.specs.Grammar.{entry, fileTurn, file}
+use Rattle.raw.specs.Read.{numberOf, startOf, strict}
+use Rattle.raw.specs.Rules.{isRows, clean}
+
+-- ---- the words
+
+-- the texts show the same from p up to e
+abbrev pub Same : List ℕ → List ℕ → ℕ → ℕ → Type 0
+Same s t p e = (i : ℕ) → p ≤ i → i < e → see s i ≡ see t i
+
+-- a refusal, and an answer, d places on
+abbrev pub faultUp : ℕ → Fault → Fault
+faultUp d TooLong = TooLong
+faultUp d (NotUtf8 n) = NotUtf8 (n + d)
+faultUp d (UnexpectedEof n) = UnexpectedEof (n + d)
+faultUp d (ExpectedIdentifier n) = ExpectedIdentifier (n + d)
+faultUp d (ExpectedOpeningBrace n) = ExpectedOpeningBrace (n + d)
+faultUp d (ExpectedClosingBrace n) = ExpectedClosingBrace (n + d)
+faultUp d (ExpectedComma n) = ExpectedComma (n + d)
+faultUp d (ExpectedQuotationMark n) = ExpectedQuotationMark (n + d)
+faultUp d (ExpectedEquals n) = ExpectedEquals (n + d)
+faultUp d (UnexpectedDecimalPoint n) = UnexpectedDecimalPoint (n + d)
+faultUp d NoRoom = NoRoom
+
+abbrev pub shifted : ℕ → Out → Out
+shifted d (ok q rs) = ok (q + d) (moved d rs)
+shifted d (again q rs a) = again (q + d) (moved d rs) a
+shifted d (bad f) = bad (faultUp d f)
+
+-- t goes on no character of the text before it
+abbrev pub Fresh : List ℕ → Type 0
+Fresh t = within tail (getD t 0 256) ≡ false
+
+-- the starts never fall, from n on
+unfoldable pub Rising : ℕ → List Row → Type 0
+Rising n [] = Unit {0}
+Rising n (r ∷ rs) = (n ≤ r .start) × Rising (r .start) rs
+
+-- a row's span lies in the text, and across no character
+pub record Span (s : List ℕ) (r : Row) : Type 0 where
+  pub order : r .start ≤ r .end
+  pub inside : r .end ≤ length s
+  pub starts : isBoundary s (r .start) ≡ true
+  pub ends : isBoundary s (r .end) ≡ true
+
+unfoldable pub Spans : List ℕ → List Row → Type 0
+Spans s [] = Unit {0}
+Spans s (r ∷ rs) = Span s r × Spans s rs
+
+-- what an accepted text gives
+pub record Accepted (s : List ℕ) (q : ℕ) (rs : List Row) : Type 0 where
+  -- it is read to its end
+  pub end : q ≡ length s
+  -- and the rows pass 01's rules
+  pub rules : isRows rs ≡ true
+  pub sound : clean rs ≡ true
+  pub rising : Rising 0 rs
+  pub spans : Spans s rs
+
+-- what a refused one gives: 01's numbers 1 to 10, at a place of the text
+pub record Refusal (s : List ℕ) (f : Fault) : Type 0 where
+  pub number : (1 ≤ numberOf f) × (numberOf f ≤ 10)
+  pub place : startOf f ≤ length s
+
+pub record Strict : Type 0 where
+  -- the fuel of a loop never runs out: a file is its first item, and then the file
+  pub turns : (s : List ℕ) (p : ℕ) → file s p ≡ after (fileTurn 0 s p) (λ a q. file s q)
+  -- an entry is told by what it ate: it is read the same in every text that shows that, in one that goes on, and in one cut behind it
+  pub entries : (s t : List ℕ) (p q : ℕ) (rs : List Row) → entry s p ≡ ok q rs → q ≤ length t → Same s t p q → entry t p ≡ ok q rs
+  pub longer : (s t : List ℕ) (p q : ℕ) (rs : List Row) → entry s p ≡ ok q rs → Fresh t → entry (s ++ t) p ≡ ok q rs
+  pub cut : (s : List ℕ) (p q : ℕ) (rs : List Row) → entry s p ≡ ok q rs → entry (take q s) p ≡ ok q rs
+  -- any item of a file is told by what it ate and by the character after it
+  pub items : (a b : ℕ) (s t : List ℕ) (p q : ℕ) (rs : List Row) → fileTurn a s p ≡ again q rs b → q ≤ length t → Same s t p (q + 1) → fileTurn a t p ≡ again q rs b
+  -- a text behind another is read as by itself, moved
+  pub moves : (a s : List ℕ) (p : ℕ) → file (a ++ s) (p + length a) ≡ shifted (length a) (file s p)
+  -- strict reading accepts or refuses
+  pub accepts : (s : List ℕ) (q : ℕ) (rs : List Row) → strict s ≡ ok q rs → Accepted s q rs
+  pub refuses : (s : List ℕ) (f : Fault) → strict s ≡ bad f → Refusal s f
+  pub decides : (s : List ℕ) (q a : ℕ) (rs : List Row) → strict s ≡ again q rs a → ⊥

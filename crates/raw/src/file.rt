@@ -1,0 +1,99 @@
+// The file, after src/raw.rs: `parse`; and `read`, which checks, counts and then writes.
+use crate::entry;
+use crate::fault::Answer;
+use crate::fault::Fault;
+use crate::fault::Reading;
+use crate::fault::Turn;
+use crate::token;
+use text::scanner;
+use text::utf8;
+use text::utf8::Validity;
+ghost use lib.ListN.{length};
+ghost use Rattle.raw.specs.Grammar.{fileTurn, file};
+ghost use Rattle.raw.specs.Says.{Says, Within, SaysTurn, WithinTurn, Ready};
+ghost use Rattle.raw.specs.Read.{Read};
+
+// Eat an entry, a comment or any other character, after white space.
+fn file_turn(s: &[u8], base: usize, at: usize, rows: &mut [u32], n: usize) -> Turn
+    requires { ⌜ Ready base (length (now s)) at n ⌝ }
+    ensures says { λ r. ⌜ SaysTurn base (fileTurn 0 (now (s .entry)) at) n (now (rows .entry)) r (now (rows .exit)) ⌝ }
+    ensures within { λ r. ⌜ WithinTurn (length (now (s .entry))) 1 0 at n r ⌝ }
+{
+    let p1 = scanner::eat_whitespace(s, at);
+    if s.len() <= p1 {
+        return Turn::Done { at: p1, n };
+    }
+    let b = s[p1];
+    if b == 0x40 {
+        match entry::entry(s, base, p1, rows, n) {
+            Answer::Next { at: p2, n: n2 } => {
+                return Turn::Again { at: p2, n: n2 };
+            }
+            Answer::Refused(f) => {
+                return Turn::Refused(f);
+            }
+        }
+    }
+    if b == 0x25 {
+        return Turn::Again {
+            at: token::comment(s, p1),
+            n,
+        };
+    }
+    Turn::Again {
+        at: scanner::eat(s, p1),
+        n,
+    }
+}
+
+// Reads a text that stands base bytes into a file: its rows from row n on.
+pub fn parse(s: &[u8], base: usize, rows: &mut [u32], n: usize) -> Answer
+    requires { ⌜ Ready base (length (now s)) 0 n ⌝ }
+    ensures says { λ r. ⌜ Says base (file (now (s .entry)) 0) n (now (rows .entry)) r (now (rows .exit)) ⌝ }
+    ensures within { λ r. ⌜ Within (length (now (s .entry))) 0 0 n r ⌝ }
+{
+    let mut p = 0;
+    let mut m = n;
+    loop {
+        match file_turn(s, base, p, rows, m) {
+            Turn::Again { at: q, n: k } => {
+                p = q;
+                m = k;
+            }
+            Turn::Done { at: q, n: k } => {
+                return Answer::Next { at: q, n: k };
+            }
+            Turn::Refused(f) => {
+                return Answer::Refused(f);
+            }
+        }
+    }
+}
+
+// Reads a file strictly: the number of its rows, which then stand in the lent numbers, or the refusal, which leaves them as they were.
+pub fn read(s: &[u8], rows: &mut [u32]) -> Reading
+    ensures { λ r. ⌜ Read (now (s .entry)) (now (rows .entry)) r (now (rows .exit)) ⌝ }
+{
+    if 16_777_215 < s.len() {
+        return Reading::Refused(Fault::TooLong);
+    }
+    match utf8::validate(s) {
+        Validity::IllFormed(i) => {
+            return Reading::Refused(Fault::NotUtf8(i));
+        }
+        Validity::Valid => {}
+    }
+    let mut none = [0u32; 0];
+    match parse(s, 0, &mut none, 0) {
+        Answer::Refused(f) => {
+            return Reading::Refused(f);
+        }
+        Answer::Next { at: _, n } => {
+            if rows.len() / 4 < n {
+                return Reading::Refused(Fault::NoRoom);
+            }
+            parse(s, 0, rows, 0);
+            return Reading::Rows(n);
+        }
+    }
+}

@@ -1,0 +1,51 @@
+// The row form: kind, detail, start, end, four numbers to a row in lent numbers.
+ghost use mathlib.Core.Path.{_≡_};
+ghost use Prim.Native.Nat.{_≤_};
+ghost use Rattle.raw.specs.Row.{kindOf, row, putRow};
+
+// What a row is of. Document 01 gives the numbers.
+pub enum Kind {
+    Preamble,
+    Entry,
+    EntryType,
+    Key,
+    FieldName,
+    Value,
+    Literal,
+    Name,
+    DefinitionName,
+    Damage,
+    Cause,
+}
+
+pub fn kind_number(kind: Kind) -> u32
+    ensures { λ r. ⌜ r ≡ kindOf kind ⌝ }
+{
+    match kind {
+        Kind::Preamble => 0,
+        Kind::Entry => 1,
+        Kind::EntryType => 2,
+        Kind::Key => 3,
+        Kind::FieldName => 4,
+        Kind::Value => 5,
+        Kind::Literal => 6,
+        Kind::Name => 7,
+        Kind::DefinitionName => 8,
+        Kind::Damage => 9,
+        Kind::Cause => 10,
+    }
+}
+
+// The one place that writes a row: row n of the lent numbers, where it fits whole.
+pub fn put_row(rows: &mut [u32], n: usize, kind: Kind, start: usize, end: usize)
+    requires { ⌜ (start ≤ 16777215) × (end ≤ 16777215) ⌝ }
+    ensures { λ _. ⌜ now (rows .exit) ≡ putRow (now (rows .entry)) n (row kind start end) ⌝ }
+{
+    if n < rows.len() / 4 {
+        let i = n * 4;
+        rows[i] = kind_number(kind);
+        rows[i + 1] = 0;
+        rows[i + 2] = start as u32;
+        rows[i + 3] = end as u32;
+    }
+}

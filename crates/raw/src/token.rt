@@ -1,0 +1,110 @@
+// Tokens, after src/raw.rs: `comma`, `brace`, `quote`, `equals`, `comment`, `key`, `ident`. None puts a row.
+use crate::fault::Fault;
+use crate::fault::Step;
+use text::class::Test;
+use text::scanner;
+ghost use mathlib.Core.Path.{_≡_};
+ghost use Prim.Native.Nat.{_≤_, max};
+ghost use lib.ListN.{length};
+ghost use Rattle.raw.specs.Grammar.{comma, atSign, opening, closing, quote, equals, comment, key, ident};
+ghost use Rattle.raw.specs.Says.{stepOf, Onward};
+
+// Eat a comma.
+pub fn comma(s: &[u8], at: usize) -> Step
+    ensures { λ r. ⌜ (r ≡ stepOf (comma (now (s .entry)) at)) × Onward (length (now (s .entry))) 1 at r ⌝ }
+{
+    let next = scanner::eat_if(s, at, Test::Comma);
+    if next == at {
+        return Step::Refused(Fault::ExpectedComma(at));
+    }
+    Step::At(next)
+}
+
+// Eat the "@" that an entry begins with.
+pub fn at_sign(s: &[u8], at: usize) -> Step
+    ensures { λ r. ⌜ (r ≡ stepOf (atSign (now (s .entry)) at)) × Onward (length (now (s .entry))) 1 at r ⌝ }
+{
+    if at < s.len() {
+        if s[at] == 0x40 {
+            return Step::At(at + 1);
+        }
+    }
+    Step::Refused(Fault::ExpectedIdentifier(at))
+}
+
+// Eat the delimiter that opens: a brace, or a double quote.
+pub fn opening(s: &[u8], at: usize) -> Step
+    ensures { λ r. ⌜ (r ≡ stepOf (opening (now (s .entry)) at)) × Onward (length (now (s .entry))) 1 at r ⌝ }
+{
+    if at < s.len() {
+        let b = s[at];
+        if (b == 0x7b) | (b == 0x22) {
+            return Step::At(at + 1);
+        }
+    }
+    Step::Refused(Fault::ExpectedOpeningBrace(at))
+}
+
+// Eat the delimiter that closes: a brace, or a double quote.
+pub fn closing(s: &[u8], at: usize) -> Step
+    ensures { λ r. ⌜ (r ≡ stepOf (closing (now (s .entry)) at)) × Onward (length (now (s .entry))) 1 at r ⌝ }
+{
+    if at < s.len() {
+        let b = s[at];
+        if (b == 0x7d) | (b == 0x22) {
+            return Step::At(at + 1);
+        }
+    }
+    Step::Refused(Fault::ExpectedClosingBrace(at))
+}
+
+// Eat a quote.
+pub fn quote(s: &[u8], at: usize) -> Step
+    ensures { λ r. ⌜ (r ≡ stepOf (quote (now (s .entry)) at)) × Onward (length (now (s .entry))) 1 at r ⌝ }
+{
+    let next = scanner::eat_if(s, at, Test::QuotationMark);
+    if next == at {
+        return Step::Refused(Fault::ExpectedQuotationMark(at));
+    }
+    Step::At(next)
+}
+
+// Eat an equals sign.
+pub fn equals(s: &[u8], at: usize) -> Step
+    ensures { λ r. ⌜ (r ≡ stepOf (equals (now (s .entry)) at)) × Onward (length (now (s .entry))) 1 at r ⌝ }
+{
+    let next = scanner::eat_if(s, at, Test::Equals);
+    if next == at {
+        return Step::Refused(Fault::ExpectedEquals(at));
+    }
+    Step::At(next)
+}
+
+// The place after an inline comment, if there is one.
+pub fn comment(s: &[u8], at: usize) -> usize
+    ensures { λ r. ⌜ (Step.At r ≡ stepOf (comment (now (s .entry)) at)) × (at ≤ r) × (r ≤ max at (length (now (s .entry)))) ⌝ }
+{
+    let next = scanner::eat_if(s, at, Test::Percent);
+    if next == at {
+        return at;
+    }
+    scanner::eat_until(s, next, Test::Newline)
+}
+
+// Eat an entry key.
+pub fn key(s: &[u8], at: usize) -> usize
+    ensures { λ r. ⌜ (Step.At r ≡ stepOf (key (now (s .entry)) at)) × (at ≤ r) × (r ≤ max at (length (now (s .entry)))) ⌝ }
+{
+    scanner::eat_while(s, at, Test::Key)
+}
+
+// Eat an identifier.
+pub fn ident(s: &[u8], at: usize) -> Step
+    ensures { λ r. ⌜ (r ≡ stepOf (ident (now (s .entry)) at)) × Onward (length (now (s .entry))) 1 at r ⌝ }
+{
+    let next = scanner::eat_if(s, at, Test::IdStart);
+    if next == at {
+        return Step::Refused(Fault::ExpectedIdentifier(at));
+    }
+    Step::At(scanner::eat_while(s, next, Test::IdContinue))
+}
