@@ -29,4 +29,6 @@ pub mod Steps
 pub mod Turns
 pub mod FieldWays
 pub mod Fields
+pub mod Numbers
+pub mod Halves
 pub mod Unique

@@ -6,3 +6,4 @@ pub mod Read
 pub mod Rules
 pub mod Strict
 pub mod Worked
+pub mod Numbers

@@ -25,9 +25,12 @@ pub record Row : Type 0 where
   pub start : ℕ
   pub end : ℕ
 
--- a row of a kind, with detail 0
+-- a row of a kind, with a detail; and with detail 0
+abbrev pub rowWith : Kind → ℕ → ℕ → ℕ → Row
+rowWith k d a b = record { kind = kindOf k; detail = d; start = a; end = b }
+
 abbrev pub row : Kind → ℕ → ℕ → Row
-row k a b = record { kind = kindOf k; detail = 0; start = a; end = b }
+row k a b = rowWith k 0 a b
 
 -- a row d places on
 abbrev pub rowUp : ℕ → Row → Row

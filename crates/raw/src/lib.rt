@@ -1,4 +1,5 @@
 // Strict reading of a .bib file, after src/raw.rs: rows out, or the refusal.
+pub mod check;
 pub mod entry;
 pub mod fault;
 pub mod field;

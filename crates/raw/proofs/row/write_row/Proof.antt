@@ -1,11 +1,11 @@
--- `raw::row::put_row` meets its contract. Assumes nothing.
+-- `raw::row::write_row` meets its contract. Assumes nothing.
 use native.Mathlib.Omega.{arith}
 use lib.ListN.{length-set}
 use borrow.Author.Needs.{needs}
-use Rattle.raw.specs.Row.{row}
+use Rattle.raw.specs.Row.{rowWith}
 use Rattle.raw.proofs.Rows.{put-sets, put-out}
-use Rattle.raw.proofs.row.put_row.Statement.{statement}
-use Rattle.raw.proofs.row.put_row.Tie as tie
+use Rattle.raw.proofs.row.write_row.Statement.{statement}
+use Rattle.raw.proofs.row.write_row.Tie as tie
 
 mul-i : tie.Need-mul-i
 mul-i c = search needs
@@ -58,13 +58,13 @@ same-length c = search needs
 returns : tie.Need-returns
 returns c =
     let a = c .before .before .before .args in
-    rw (c .kind-number .ensures) (put-sets (a .rows .now) (a .n) (row (a .kind) (a .start) (a .end)) (c .before .if1 .taken))
+    rw (c .kind-number .ensures) (put-sets (a .rows .now) (a .n) (rowWith (a .kind) (a .detail) (a .start) (a .end)) (c .before .if1 .taken))
 
 returns-2 : tie.Need-returns-2
-returns-2 c = let a = c .before .before .args in put-out (a .rows .now) (a .n) (row (a .kind) (a .start) (a .end)) (c .if1 .left)
+returns-2 c = let a = c .before .before .args in put-out (a .rows .now) (a .n) (rowWith (a .kind) (a .detail) (a .start) (a .end)) (c .if1 .left)
 
-pub put-row-spec : {M : Type 1} → statement M
-put-row-spec =
+pub write-row-spec : {M : Type 1} → statement M
+write-row-spec =
     tie.close
     (tie.spec
     mul-i

@@ -1,0 +1,11 @@
+pub mod Stores
+pub mod Sevens
+pub mod Checks
+pub mod Turns
+pub mod Answers
+pub mod Big
+pub mod Inverse
+pub mod Told
+pub mod Readings
+pub mod RoundTrip
+pub mod Unique

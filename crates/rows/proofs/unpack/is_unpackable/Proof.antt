@@ -1,0 +1,100 @@
+-- `rows::unpack::is_unpackable` meets its contract: each turn of the loop takes a row of the rules. Assumes nothing.
+use Prim.Native.Nat.{_%_, _-_, _≤_}
+use mathlib.Core.Path.{_≡_, refl, _∙_}
+use native.Mathlib.Omega.{arith}
+use lib.ListN.{length}
+use borrow.Author.Needs.{needs}
+use Rattle.raw.specs.Numbers.{awaitOf}
+use Rattle.rows.specs.Unpack.{isUnpackable}
+use Rattle.rows.proofs.Checks.{found, seven-count, seven-start, seven-turn, seven-off, seven-end}
+use Rattle.rows.proofs.unpack.is_unpackable.Statement.{statement}
+use Rattle.rows.proofs.unpack.is_unpackable.Tie as tie
+
+abbrev Inv-loop : tie.InvT-loop
+Inv-loop bytes state₀ p₀ state p =
+    (length bytes % 7 ≡ 0) × (p % 7 ≡ 0) × (p ≤ length bytes) × (isUnpackable bytes ≡ found bytes (awaitOf state) p)
+
+abbrev μ-loop : tie.MeasureT-loop
+μ-loop bytes state₀ p₀ state p = length bytes - p
+
+returns : tie.Need-returns Inv-loop μ-loop
+returns c = seven-count (c .before .before .args .bytes .now) (c .if1 .taken)
+
+loop-holds : tie.Need-loop-holds Inv-loop μ-loop
+loop-holds c = (c .if1 .left, omega arith, omega arith, seven-start (c .before .before .args .bytes .now) (c .if1 .left))
+
+shared-slice-read-head : tie.Need-shared-slice-read-head Inv-loop μ-loop
+shared-slice-read-head c = search needs
+
+cast-head : tie.Need-cast-head Inv-loop μ-loop
+cast-head c = omega (arith, c .shared-slice-known2 .given (c .before .before .loop .p))
+
+step-requires : tie.Need-step-requires Inv-loop μ-loop
+step-requires c κs = search needs
+
+add-three : tie.Need-add-three Inv-loop μ-loop
+add-three c = search needs
+
+three-requires : tie.Need-three-requires Inv-loop μ-loop
+three-requires c κs = search needs
+
+add-three-2 : tie.Need-add-three-2 Inv-loop μ-loop
+add-three-2 c = search needs
+
+three-requires-2 : tie.Need-three-requires-2 Inv-loop μ-loop
+three-requires-2 c κs = search needs
+
+add-if2 : tie.Need-add-if2 Inv-loop μ-loop
+add-if2 c = search needs
+
+add-p : tie.Need-add-p Inv-loop μ-loop
+add-p c = search needs
+
+loop-less : tie.Need-loop-less Inv-loop μ-loop
+loop-less c = search needs
+
+loop-again : tie.Need-loop-again Inv-loop μ-loop
+loop-again c =
+    let l = c .before .before .before .before .before .before in
+    let a = c .before .before .before .before .before .before .before .before .before .args in
+    let m = l .loop .inv in
+    (m .0, omega arith, omega arith, seven-turn (a .bytes .now) (l .loop .p) (l .loop .state) _ _ _ (omega arith) refl refl (omega (arith, c .before .before .three .ensures .0, c .before .three2 .ensures .0)) (c .before .before .before .step .ensures) (m .3))
+
+returns-2 : tie.Need-returns-2 Inv-loop μ-loop
+returns-2 c =
+    let l = c .before .before .before .before .before .before in
+    let a = c .before .before .before .before .before .before .before .before .before .args in
+    let m = l .loop .inv in
+    seven-off (a .bytes .now) (l .loop .p) (awaitOf (l .loop .state)) (omega arith) (omega (arith, c .before .before .three .ensures .0, c .before .three2 .ensures .0)) (m .3)
+
+is-whole-requires : tie.Need-is-whole-requires Inv-loop μ-loop
+is-whole-requires c κs = search needs
+
+returns-3 : tie.Need-returns-3 Inv-loop μ-loop
+returns-3 c =
+    let l = c .before .before in
+    let a = c .before .before .before .before .before .args in
+    c .is-whole .ensures ∙ seven-end (a .bytes .now) (l .loop .p) (l .loop .state) (c .before .loop-test .left) (l .loop .inv .3)
+
+pub is-unpackable-spec : {M : Type 1} → statement M
+is-unpackable-spec =
+    tie.close
+    (tie.spec
+    Inv-loop
+    μ-loop
+    returns
+    loop-holds
+    shared-slice-read-head
+    cast-head
+    step-requires
+    add-three
+    three-requires
+    add-three-2
+    three-requires-2
+    add-if2
+    add-p
+    loop-less
+    loop-again
+    returns-2
+    is-whole-requires
+    returns-3)

@@ -1,0 +1,5 @@
+pub mod Big
+pub mod Seven
+pub mod Pack
+pub mod Unpack
+pub mod RoundTrip

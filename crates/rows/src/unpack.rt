@@ -1,0 +1,95 @@
+// Bytes into rows: checked first, written second.
+use crate::fault::RowFault;
+use raw::check;
+use raw::check::State;
+ghost use mathlib.Core.Path.{_≡_};
+ghost use mathlib.Core.List.{[], _∷_, _++_};
+ghost use Prim.Native.Nat.{_+_, _*_, _/_, _≤_};
+ghost use lib.ListN.{length, take, drop};
+ghost use Rattle.raw.specs.Row.{flat};
+ghost use Rattle.rows.specs.Seven.{rowOf, unpacking, threeAt};
+ghost use Rattle.rows.specs.Unpack.{isUnpackable, Unpack};
+
+// The number of rows, which then stand in the lent numbers.
+pub enum Unpacked {
+    Rows(usize),
+    Refused(RowFault),
+}
+
+// The number of the three bytes from p on, most significant first.
+fn three(bytes: &[u8], p: usize) -> u32
+    requires { ⌜ p + 3 ≤ length (now bytes) ⌝ }
+    ensures { λ r. ⌜ (r ≡ threeAt (now (bytes .entry)) p) × (r ≤ 16777215) ⌝ }
+{
+    let a = bytes[p] as u32;
+    let b = bytes[p + 1] as u32;
+    let c = bytes[p + 2] as u32;
+    a * 65_536 + b * 256 + c
+}
+
+// Whether the bytes are whole rows that pass the row check, with ends inside a file.
+fn is_unpackable(bytes: &[u8]) -> bool
+    ensures { λ r. ⌜ r ≡ isUnpackable (now (bytes .entry)) ⌝ }
+{
+    if bytes.len() % 7 != 0 {
+        return false;
+    }
+    let mut state = State::Part(false);
+    let mut p = 0;
+    while p < bytes.len() {
+        let head = bytes[p] as u32;
+        state = check::step(state, head / 16, head % 16);
+        let start = three(bytes, p + 1);
+        let size = three(bytes, p + 4);
+        if start + size <= 16_777_215 {
+            p += 7;
+        } else {
+            return false;
+        }
+    }
+    check::is_whole(state)
+}
+
+// A row into the four numbers from i on.
+fn put_unpacked(rows: &mut [u32], i: usize, kind: u32, detail: u32, start: u32, end: u32)
+    requires { ⌜ i + 4 ≤ length (now rows) ⌝ }
+    ensures { λ _. ⌜ now (rows .exit) ≡ take i (now (rows .entry)) ++ flat (rowOf kind detail start end ∷ []) ++ drop (i + 4) (now (rows .entry)) ⌝ }
+{
+    rows[i] = kind;
+    rows[i + 1] = detail;
+    rows[i + 2] = start;
+    rows[i + 3] = end;
+}
+
+// The rows of all sevens, from the first number on.
+fn put_all(bytes: &[u8], rows: &mut [u32])
+    requires { ⌜ length (now bytes) / 7 * 4 ≤ length (now rows) ⌝ }
+    ensures { λ _. ⌜ now (rows .exit) ≡ flat (unpacking (now (bytes .entry))) ++ drop (length (now (bytes .entry)) / 7 * 4) (now (rows .entry)) ⌝ }
+{
+    let n = bytes.len() / 7 * 7;
+    let mut p = 0;
+    let mut i = 0;
+    while p < n {
+        let head = bytes[p] as u32;
+        let start = three(bytes, p + 1);
+        let size = three(bytes, p + 4);
+        put_unpacked(rows, i, head / 16, head % 16, start, start + size);
+        p += 7;
+        i += 4;
+    }
+}
+
+// Unpacks rows: their number, which then stand in the lent numbers, or the refusal, which leaves them as they were.
+pub fn unpack(bytes: &[u8], rows: &mut [u32]) -> Unpacked
+    ensures { λ r. ⌜ Unpack (now (bytes .entry)) (now (rows .entry)) r (now (rows .exit)) ⌝ }
+{
+    if is_unpackable(bytes) {
+        let n = bytes.len() / 7;
+        if rows.len() / 4 < n {
+            return Unpacked::Refused(RowFault::NoRoom);
+        }
+        put_all(bytes, rows);
+        return Unpacked::Rows(n);
+    }
+    Unpacked::Refused(RowFault::BadRows)
+}

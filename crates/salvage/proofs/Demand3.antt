@@ -1,0 +1,53 @@
+-- The proof of specs/Demand3.antt: `demand3`.
+-- Assumes nothing.
+use Prim.Native.Nat.{ℕ, _+_, _≤_}
+use native.Mathlib.Omega.{arith}
+use mathlib.Core.Path.{_≡_, refl, sym, ap, _∙_, subst}
+use mathlib.Core.Logic.{_↔_}
+use mathlib.Core.Bool.{true}
+use mathlib.Core.List.{List, _++_}
+use lib.ListN.{length}
+use Rattle.raw.specs.Read.{mostBytes}
+use Rattle.raw.specs.Rules.{isRows, clean}
+use Rattle.raw.specs.Strict.{Rising}
+use Rattle.raw.proofs.Strict.{strict-reading}
+use Rattle.salvage.specs.Salvage.{cut, salvageOf}
+use Rattle.salvage.specs.Demand3.{joined, Whole, AllFit, Demand3}
+use Rattle.salvage.proofs.Cut.{joined-cut, salvage-append}
+use Rattle.salvage.proofs.Each.{each, calls}
+use Rattle.salvage.proofs.Ordered.{pieces-rules, pieces-fit, pieces-rising}
+use Rattle.salvage.proofs.Undamaged.{accepts, opened, same-rows}
+
+undamaged : (s : List ℕ) → length s ≤ mostBytes → (clean (salvageOf s) ≡ true) ↔ Whole s (salvageOf s)
+undamaged s h = (
+  λ k. record { accepts = accepts s h k; opens = λ e x. opened s h k x },
+  λ v. strict-reading .accepts s (length s) (salvageOf s) (v .accepts) .sound,
+)
+
+checked : (s : List ℕ) → length s ≤ mostBytes → isRows (salvageOf s) ≡ true
+unfolding salvageOf
+checked s h = pieces-rules 0 (cut s) (rw (joined-cut s) h)
+
+rising : (s : List ℕ) → Rising 0 (salvageOf s)
+unfolding salvageOf
+rising s = pieces-rising 0 (cut s)
+
+inside : (s : List ℕ) → AllFit (length s) (salvageOf s)
+unfolding salvageOf
+inside s =
+    let e : 0 + length (joined (cut s)) ≡ length s = rw (joined-cut s) (omega arith) in
+    subst (λ (n : ℕ). AllFit n (salvageOf s)) e (pieces-fit 0 (cut s))
+
+pub demand3 : Demand3
+demand3 =
+    record {
+      parts = salvage-append;
+      calls = calls;
+      whole = joined-cut;
+      each = each;
+      undamaged = undamaged;
+      strictly = same-rows;
+      checked = checked;
+      rising = rising;
+      inside = inside;
+    }

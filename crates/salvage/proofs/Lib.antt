@@ -1,0 +1,14 @@
+pub mod Worked
+pub mod Cut
+pub mod Scanned
+pub mod Turned
+pub mod Joint
+pub mod Seam
+pub mod Checked
+pub mod Ordered
+pub mod Each
+pub mod Undamaged
+pub mod Demand3
+pub mod PieceWays
+pub mod FileWays
+pub mod Unique

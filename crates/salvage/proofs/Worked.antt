@@ -1,0 +1,19 @@
+-- The case of specs/Worked.antt computes: `worked`.
+-- Assumes nothing.
+use mathlib.Core.Path.{refl}
+use Rattle.text.specs.Walk.{walkFrom}
+use Rattle.text.specs.Utf8.{alternatives, begins, widthBy, gather, value, octets, lookValid, validityOf}
+use Rattle.text.specs.Class.{whiteSpace, control, isWhitespace, isControl, isKey, isIdContinue, isIdStart, holdsOf}
+use Rattle.text.specs.Scan.{code, seeFrom}
+use Rattle.text.specs.Scan as scan
+use Rattle.raw.specs.Reader.{loop, many}
+use Rattle.raw.specs.Grammar.{white, comma, opening, closing, quote, equals, quotedTurn, quoted, string, stringLiteral, numberTurn, number, bracedTurn, inBraces, braced, ident, singleField, abbrElement, abbrTurn, abbrField, comment, field, fieldEnd, fieldsTurn, fields, key, spells, formOf, lead, rest, atSign, strings, preamble, commented, body, entry, fileTurn, file}
+use Rattle.raw.specs.Read.{strict}
+use Rattle.raw.specs.Row.{moved}
+use Rattle.raw.specs.Worked.{utf8}
+use Rattle.salvage.specs.Salvage.{head, cut, pieces, salvageOf}
+use Rattle.salvage.specs.Worked.{Worked}
+
+pub worked : Worked
+unfolding walkFrom alternatives begins widthBy gather value octets lookValid validityOf whiteSpace control isWhitespace isControl isKey isIdContinue isIdStart holdsOf code scan.rest seeFrom loop many white comma opening closing quote equals quotedTurn quoted string stringLiteral numberTurn number bracedTurn inBraces braced ident singleField abbrElement abbrTurn abbrField comment field fieldEnd fieldsTurn fields key spells formOf lead rest atSign strings preamble commented body entry fileTurn file strict moved utf8 head cut pieces salvageOf
+worked = record { salvage = refl; strictly = refl }

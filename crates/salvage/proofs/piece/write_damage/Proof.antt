@@ -1,0 +1,56 @@
+-- `salvage::piece::write_damage` meets its contract. Assumes nothing.
+use borrow.Author.Needs.{needs}
+use Rattle.salvage.proofs.PieceWays.{damage-put}
+use Rattle.salvage.proofs.piece.write_damage.Statement.{statement}
+use Rattle.salvage.proofs.piece.write_damage.Tie as tie
+
+add-put-row : tie.Need-add-put-row
+add-put-row c = search needs
+
+put-row-requires : tie.Need-put-row-requires
+put-row-requires c κs = search needs
+
+start-requires : tie.Need-start-requires
+start-requires c κs = search needs
+
+add-start : tie.Need-add-start
+add-start c = search needs
+
+end-requires : tie.Need-end-requires
+end-requires c κs = search needs
+
+add-end : tie.Need-add-end
+add-end c = search needs
+
+add-write-row : tie.Need-add-write-row
+add-write-row c = search needs
+
+number-requires : tie.Need-number-requires
+number-requires c κs = search needs
+
+write-row-requires : tie.Need-write-row-requires
+write-row-requires c κs = search needs
+
+same-length : tie.Need-same-length
+same-length c = search needs
+
+returns : tie.Need-returns
+returns c =
+    let a = c .before .before .before .before .before .before .before .before .before .before .before .before .before .args in
+    damage-put (a .w .now) (a .base) (a .n) (a .rows .now) (a .fault) (c .before .before .before .before .before .before .start .ensures) (c .before .before .before .before .before .end .ensures) (c .before .before .before .number .ensures) (c .before .before .before .before .before .before .before .before .before .put-row .ensures) (c .before .before .write-row .ensures)
+
+pub write-damage-spec : {M : Type 1} → statement M
+write-damage-spec =
+    tie.close
+    (tie.spec
+    add-put-row
+    put-row-requires
+    start-requires
+    add-start
+    end-requires
+    add-end
+    add-write-row
+    number-requires
+    write-row-requires
+    same-length
+    returns)

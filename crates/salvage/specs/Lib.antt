@@ -1,0 +1,4 @@
+pub mod Salvage
+pub mod Demand3
+pub mod Inner
+pub mod Worked

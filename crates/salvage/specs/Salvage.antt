@@ -1,0 +1,76 @@
+-- Salvage [01:Salvage]: "Boundaries: each "@" at byte 0 or after byte 0x0A. The bytes before the first, if any, form a piece.
+-- Each piece is checked for UTF-8 and read alone. Of a refused piece only kinds 9 (the piece) and 10 remain."
+--     cut             the pieces of a file
+--     told            the rows that a piece gives
+--     salvageOf       those of a file, each piece at its place
+--     Salvage         the contract of `salvage`
+-- Assumes nothing.
+use Prim.Native.Nat.{ℕ, _+_}
+use mathlib.Core.Path.{_≡_}
+use mathlib.Core.Bool.{Bool, true, false, cond, _&&_}
+use mathlib.Core.List.{List, [], _∷_, _++_}
+use lib.ListN.{length}
+use lib.Dec.{eqb, leb}
+use Rattle.raw.specs.declared.row.Kind.the-variants as kind
+use Rattle.raw.specs.declared.fault.Fault.{Fault}
+use Rattle.raw.specs.declared.fault.Fault.the-variants.{TooLong}
+use Rattle.raw.specs.declared.fault.Reading.{Reading}
+use Rattle.raw.specs.Row.{Row, rowWith, row, moved}
+use Rattle.raw.specs.Reader.{Out, ok, again, bad}
+use Rattle.raw.specs.Read.{numberOf, startOf, endOf, mostBytes, strict, readingOut, leftOut}
+
+-- ---- boundaries
+
+-- what an entry begins with stands at the beginning of this text: "@"
+unfoldable pub head : List ℕ → Bool
+head [] = false
+head (b ∷ s) = eqb b 0x40
+
+-- b ends a line
+abbrev pub newline : ℕ → Bool
+newline b = eqb b 0x0A
+
+-- a byte in front of the first piece
+abbrev pub push : ℕ → List (List ℕ) → List (List ℕ)
+push b [] = (b ∷ []) ∷ []
+push b (w ∷ ws) = (b ∷ w) ∷ ws
+
+-- the pieces: a new one begins after a newline where a head follows
+unfoldable pub cut : List ℕ → List (List ℕ)
+cut [] = []
+cut (b ∷ s) = cond (newline b && head s) ((b ∷ []) ∷ cut s) (push b (cut s))
+
+-- ---- rows
+
+-- why a piece was refused, and where
+abbrev pub cause : Fault → Row
+cause f = rowWith kind.Cause (numberOf f) (startOf f) (endOf f)
+
+-- what remains of a refused piece: the damage, and its cause
+abbrev pub damaged : List ℕ → Fault → List Row
+damaged w f = row kind.Damage 0 (length w) ∷ cause f ∷ []
+
+-- what a piece gives of which strict reading says this
+abbrev pub told : List ℕ → Out → List Row
+told w (ok q rs) = rs
+told w (again q rs a) = rs
+told w (bad f) = damaged w f
+
+-- what pieces give of which the first begins at p
+unfoldable pub pieces : ℕ → List (List ℕ) → List Row
+pieces p [] = []
+pieces p (w ∷ ws) = moved p (told w (strict w)) ++ pieces (p + length w) ws
+
+unfoldable pub salvageOf : List ℕ → List Row
+salvageOf s = pieces 0 (cut s)
+
+-- ---- the call
+
+-- "Salvage itself refuses only with 1 and 16" [01:Numbers a caller can get]: 1 here, 16 by `readingOut`
+unfoldable pub salvaged : List ℕ → Out
+salvaged s = cond (leb (length s) mostBytes) (ok (length s) (salvageOf s)) (bad TooLong)
+
+-- `salvage` of the file s over the lent numbers b answers r and leaves b′
+pub record Salvage (s b : List ℕ) (r : Reading) (b′ : List ℕ) : Type 0 where
+  pub answer : r ≡ readingOut (salvaged s) (length b)
+  pub rows : b′ ≡ leftOut (salvaged s) b

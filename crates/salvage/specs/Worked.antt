@@ -1,0 +1,23 @@
+-- The salvage case of the edge table [01:Edge table], and the remark beside it: "Strict reading accepts the salvage case, with key
+-- `@b{k` at 4..8". The proof of `Worked` is `worked` of proofs/Worked.antt.
+-- Assumes nothing.
+use Prim.Native.String.{String}
+use mathlib.Core.Path.{_≡_}
+use mathlib.Core.List.{List, [], _∷_}
+use Rattle.raw.specs.Row.{Row}
+use Rattle.raw.specs.Reader.{Out, ok}
+use Rattle.raw.specs.Read.{strict}
+use Rattle.raw.specs.Worked.{utf8, _at_to_}
+use Rattle.salvage.specs.Salvage.{salvageOf}
+
+-- `@a{`, newline, `@b{k,}`
+abbrev pub case : String
+case = "@a{\n@b{k,}"
+
+-- 10 detail 7: 4..4
+abbrev pub missingComma : Row
+missingComma = record { kind = 10; detail = 7; start = 4; end = 4 }
+
+pub record Worked : Type 0 where
+  pub salvage : salvageOf (utf8 case) ≡ 9 at 0 to 4 ∷ missingComma ∷ 1 at 4 to 9 ∷ 2 at 5 to 6 ∷ 3 at 7 to 8 ∷ []
+  pub strictly : strict (utf8 case) ≡ ok 10 (1 at 0 to 9 ∷ 2 at 1 to 2 ∷ 3 at 4 to 8 ∷ [])
