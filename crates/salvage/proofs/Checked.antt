@@ -3,17 +3,16 @@
 --     strict-ok, strict-bad       what is accepted, and what is refused
 --     octets-halves       a text that is cut where a head stands
 -- Assumes nothing.
-use Prim.Native.Nat.{ℕ, suc, _+_, _≤_, _<_}
+use Prim.Native.Nat.{ℕ, _+_, _≤_}
 use native.Mathlib.Omega.{arith}
 use mathlib.Core.Path.{_≡_, refl, sym, ap, _∙_, subst}
 use mathlib.Core.Bool.{Bool, true, false, cond}
-use mathlib.Core.List.{List, [], _++_}
-use lib.ListN.{length, getD, take, drop, length-append}
+use mathlib.Core.List.{List, _++_}
+use lib.ListN.{length, getD, length-append}
 use lib.Seq.{getD-append-add, take-append-seam, drop-append-seam}
 use lib.Dec.{leb}
 use borrow.Author.Tests.{leb-true, le-leb}
-use Rattle.text.specs.Range.{within}
-use Rattle.text.specs.Utf8.{tail, Octets, validityOf, isBoundary}
+use Rattle.text.specs.Utf8.{Octets, validityOf, isBoundary}
 use Rattle.text.specs.Rfc3629.{Cut}
 use Rattle.text.specs.declared.utf8.Validity.{Validity}
 use Rattle.text.specs.declared.utf8.Validity.the-variants as validity
@@ -21,7 +20,7 @@ use Rattle.text.proofs.Rfc3629.{rfc3629}
 use Rattle.raw.specs.declared.fault.Fault.{Fault}
 use Rattle.raw.specs.declared.fault.Fault.the-variants.{TooLong, NotUtf8}
 use Rattle.raw.specs.Row.{Row}
-use Rattle.raw.specs.Reader.{Out, ok, again, bad}
+use Rattle.raw.specs.Reader.{ok, bad}
 use Rattle.raw.specs.Grammar.{file}
 use Rattle.raw.specs.Read.{numberOf, mostBytes, checked, strict}
 use Rattle.raw.specs.Strict.{Fresh}

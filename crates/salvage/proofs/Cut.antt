@@ -4,13 +4,12 @@
 --     pieces-move, pieces-append      the rows of pieces further on, and of pieces behind others
 --     salvage-append      salvage of a text that is put together where it is cut
 -- Assumes nothing.
-use Prim.Native.Nat.{ℕ, suc, _+_, _<_}
+use Prim.Native.Nat.{ℕ, _+_, _<_}
 use native.Mathlib.Omega.{arith}
 use mathlib.Core.Path.{_≡_, refl, sym, ap, _∙_}
 use mathlib.Core.Bool.{Bool, true, false, cond, _&&_}
 use mathlib.Core.List.{List, [], _∷_, _++_, append-assoc}
 use lib.ListN.{length, length-append}
-use lib.Dec.{eqb}
 use Rattle.raw.specs.Row.{Row, rowUp, moved}
 use Rattle.raw.specs.Read.{strict}
 use Rattle.raw.proofs.Then.{moved-append}

@@ -2,10 +2,10 @@
 -- Assumes nothing.
 use Prim.Native.Nat.{ℕ, _+_, _≤_}
 use native.Mathlib.Omega.{arith}
-use mathlib.Core.Path.{_≡_, refl, sym, ap, _∙_, subst}
+use mathlib.Core.Path.{_≡_, subst}
 use mathlib.Core.Logic.{_↔_}
 use mathlib.Core.Bool.{true}
-use mathlib.Core.List.{List, _++_}
+use mathlib.Core.List.{List}
 use lib.ListN.{length}
 use Rattle.raw.specs.Read.{mostBytes}
 use Rattle.raw.specs.Rules.{isRows, clean}
@@ -15,6 +15,7 @@ use Rattle.salvage.specs.Salvage.{cut, salvageOf}
 use Rattle.salvage.specs.Demand3.{joined, Whole, AllFit, Demand3}
 use Rattle.salvage.proofs.Cut.{joined-cut, salvage-append}
 use Rattle.salvage.proofs.Each.{each, calls}
+use Rattle.salvage.proofs.Begins.{begins, cuts}
 use Rattle.salvage.proofs.Ordered.{pieces-rules, pieces-fit, pieces-rising}
 use Rattle.salvage.proofs.Undamaged.{accepts, opened, same-rows}
 
@@ -44,6 +45,8 @@ demand3 =
       parts = salvage-append;
       calls = calls;
       whole = joined-cut;
+      begins = λ s ws w vs. begins (length s) s ws w vs (omega arith);
+      cuts = λ s n. cuts s;
       each = each;
       undamaged = undamaged;
       strictly = same-rows;

@@ -2,26 +2,26 @@
 --     each            a piece of a file, behind some and before others
 --     calls           salvage of two texts, and of the whole
 -- Assumes nothing.
-use Prim.Native.Nat.{ℕ, _+_, _*_, _/_, _≤_}
+use Prim.Native.Nat.{ℕ, _+_, _/_, _≤_}
 use native.Mathlib.Omega.{arith}
 use mathlib.Core.Path.{_≡_, refl, sym, ap, _∙_, subst}
 use mathlib.Core.Logic.{_↔_}
 use mathlib.Core.Bool.{Bool, true, false, cond}
-use mathlib.Core.List.{List, [], _∷_, _++_}
-use lib.ListN.{length, drop, length-append}
+use mathlib.Core.List.{List, _∷_, _++_}
+use lib.ListN.{length, length-append}
 use lib.Dec.{leb}
 use borrow.Author.Tests.{leb-true, le-leb}
 use Rattle.raw.specs.declared.fault.Fault.{Fault}
-use Rattle.raw.specs.declared.fault.Fault.the-variants.{TooLong, NoRoom}
+use Rattle.raw.specs.declared.fault.Fault.the-variants.{NoRoom}
 use Rattle.raw.specs.declared.fault.Reading.{Reading}
 use Rattle.raw.specs.declared.fault.Reading.the-variants as reading
-use Rattle.raw.specs.Row.{Row, moved, flat}
+use Rattle.raw.specs.Row.{Row, moved}
 use Rattle.raw.specs.Reader.{Out, ok, again, bad}
-use Rattle.raw.specs.Read.{numberOf, startOf, mostBytes, strict, readingOut, leftOut}
+use Rattle.raw.specs.Read.{mostBytes, strict, readingOut, leftOut}
 use Rattle.raw.specs.Rules.{clean}
 use Rattle.raw.proofs.Strict.{strict-reading}
 use Rattle.raw.proofs.Rows.{moved-length}
-use Rattle.salvage.specs.Salvage.{cut, damaged, told, pieces, salvageOf, salvaged, Salvage}
+use Rattle.salvage.specs.Salvage.{cut, told, pieces, salvageOf, salvaged, Salvage}
 use Rattle.salvage.specs.Demand3.{lined, fresh, Holds, joined, Piece}
 use Rattle.salvage.proofs.Scanned.{true-not-false}
 use Rattle.salvage.proofs.Checked.{strict-bad}

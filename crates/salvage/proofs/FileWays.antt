@@ -5,7 +5,7 @@
 --     salvage-full, salvage-fits      `written`
 --     tally-sound, tally-damaged, salvage-long        `salvage`
 -- Assumes nothing.
-use Prim.Native.Nat.{ℕ, zero, suc, _+_, _-_, _*_, _/_, _≤_, _<_, max}
+use Prim.Native.Nat.{ℕ, _+_, _-_, _*_, _/_, _≤_, _<_}
 use native.Mathlib.Omega.{arith}
 use mathlib.Core.Path.{_≡_, refl, sym, ap, ap₂, _∙_, subst}
 use mathlib.Core.Bool.{Bool, true, false, cond, _&&_}
@@ -18,15 +18,14 @@ use Rattle.raw.specs.declared.fault.Fault.{Fault}
 use Rattle.raw.specs.declared.fault.Fault.the-variants.{TooLong, NoRoom}
 use Rattle.raw.specs.declared.fault.Answer.{Answer}
 use Rattle.raw.specs.declared.fault.Answer.the-variants as answer
-use Rattle.raw.specs.declared.fault.Reading.{Reading}
 use Rattle.raw.specs.declared.fault.Reading.the-variants as reading
 use Rattle.raw.specs.Row.{Row, moved, overlay}
-use Rattle.raw.specs.Reader.{Out, ok, again, bad}
-use Rattle.raw.specs.Read.{mostBytes, strict, readingOut, leftOut}
+use Rattle.raw.specs.Reader.{Out}
+use Rattle.raw.specs.Read.{mostBytes, strict}
 use Rattle.raw.specs.Rules.{clean}
-use Rattle.raw.specs.Says.{answerOf, Within, Ready}
+use Rattle.raw.specs.Says.{answerOf, Within}
 use Rattle.raw.proofs.Rows.{moved-length, overlay-length, overlay-append, overlay-fits}
-use Rattle.salvage.specs.Salvage.{cut, damaged, told, pieces, salvageOf, salvaged, Salvage}
+use Rattle.salvage.specs.Salvage.{cut, told, pieces, salvageOf, salvaged, Salvage}
 use Rattle.salvage.specs.Inner.{Ends, Puts, Piece, Counted, tallyOf}
 use Rattle.salvage.specs.declared.file.Tally.{Tally}
 use Rattle.salvage.specs.declared.file.Tally.the-variants.{Sound, Damaged}

@@ -8,6 +8,7 @@ pub mod Checked
 pub mod Ordered
 pub mod Each
 pub mod Undamaged
+pub mod Begins
 pub mod Demand3
 pub mod PieceWays
 pub mod FileWays

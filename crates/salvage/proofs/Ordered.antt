@@ -3,22 +3,21 @@
 -- Assumes nothing.
 use Prim.Native.Nat.{ℕ, _+_, _≤_}
 use native.Mathlib.Omega.{arith}
-use mathlib.Core.Path.{_≡_, refl, sym, ap, _∙_, subst}
-use mathlib.Core.Bool.{Bool, true, false, cond, _&&_}
+use mathlib.Core.Path.{_≡_, refl, _∙_}
+use mathlib.Core.Bool.{true}
 use mathlib.Core.List.{List, [], _∷_, _++_}
 use lib.ListN.{length, length-append}
-use lib.Dec.{leb}
 use borrow.Author.Tests.{le-leb}
 use Rattle.raw.specs.declared.fault.Fault.{Fault}
 use Rattle.raw.specs.Row.{Row, moved}
 use Rattle.raw.specs.Reader.{Out, ok, again, bad}
-use Rattle.raw.specs.Read.{numberOf, startOf, mostBytes, strict}
+use Rattle.raw.specs.Read.{numberOf, mostBytes, strict}
 use Rattle.raw.specs.Rules.{isRows, run, next}
-use Rattle.raw.specs.Strict.{Rising, Spans, Accepted, Refusal}
+use Rattle.raw.specs.Strict.{Rising, Spans}
 use Rattle.raw.proofs.Strict.{strict-reading}
 use Rattle.raw.proofs.Joins.{rows-append, rows-moved}
 use Rattle.salvage.specs.Salvage.{damaged, told, pieces}
-use Rattle.salvage.specs.Demand3.{joined, Fits, AllFit}
+use Rattle.salvage.specs.Demand3.{joined, AllFit}
 use Rattle.salvage.proofs.Checked.{strict-bad}
 
 -- what holds of the rows of an accepted text, and of damage, holds of what a piece gives

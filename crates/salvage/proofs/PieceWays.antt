@@ -7,12 +7,12 @@
 --     damage-put                          `write_damage`
 --     next-accepted, off-strict, off-damage, off-puts     `write_piece`, by what `judge` answered
 -- Assumes nothing.
-use Prim.Native.Nat.{ℕ, zero, suc, _+_, _-_, _*_, _≤_, _<_, max}
+use Prim.Native.Nat.{ℕ, suc, _+_, _-_, _≤_, _<_}
 use native.Mathlib.Omega.{arith}
-use mathlib.Core.Path.{_≡_, refl, sym, ap, ap₂, _∙_, subst}
+use mathlib.Core.Path.{_≡_, refl, sym, ap, _∙_, subst}
 use mathlib.Core.Bool.{Bool, true, false, cond, _&&_}
 use mathlib.Core.List.{List, [], _∷_}
-use lib.ListN.{length, getD, take, drop, drop-of-length-le}
+use lib.ListN.{length, getD, drop, drop-of-length-le}
 use lib.Dec.{eqb}
 use borrow.Author.Tests.{ne-eqb}
 use Rattle.text.specs.Utf8.{validityOf}
@@ -24,14 +24,14 @@ use Rattle.raw.specs.declared.fault.Fault.{Fault}
 use Rattle.raw.specs.declared.fault.Fault.the-variants.{NotUtf8}
 use Rattle.raw.specs.declared.fault.Answer.{Answer}
 use Rattle.raw.specs.declared.fault.Answer.the-variants as answer
-use Rattle.raw.specs.Row.{Row, kindOf, rowWith, row, moved, putRow, overlay}
+use Rattle.raw.specs.Row.{rowWith, row, moved, putRow, overlay}
 use Rattle.raw.specs.Reader.{Out, ok, again, bad}
 use Rattle.raw.specs.Grammar.{file}
 use Rattle.raw.specs.Read.{numberOf, startOf, endOf, mostBytes, strict}
 use Rattle.raw.specs.Rules.{clean}
-use Rattle.raw.specs.Says.{answerOf, Room, Says, Within, Ready}
+use Rattle.raw.specs.Says.{answerOf, Room, Says, Within}
 use Rattle.raw.proofs.Strict.{strict-reading}
-use Rattle.salvage.specs.Salvage.{head, newline, push, cut, damaged, told}
+use Rattle.salvage.specs.Salvage.{head, newline, cut, damaged, told}
 use Rattle.salvage.specs.Inner.{Ends, Puts, Accepted, Piece, Damage}
 use Rattle.salvage.proofs.Checked.{strict-ill, strict-valid, strict-ok}
 use Rattle.salvage.proofs.Undamaged.{told-ok}

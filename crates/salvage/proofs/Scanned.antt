@@ -7,7 +7,7 @@
 use Prim.Native.Nat.{ℕ, zero, suc, _+_, _≤_, _<_}
 use native.Mathlib.Omega.{arith}
 use mathlib.Core.Path.{_≡_, refl, sym, ap, _∙_, subst}
-use mathlib.Core.Bool.{Bool, true, false, cond}
+use mathlib.Core.Bool.{Bool, true, false}
 use mathlib.Core.List.{List, []}
 use lib.ListN.{length}
 use Rattle.text.specs.Class.{isWhitespace}
@@ -16,7 +16,7 @@ use Rattle.text.specs.declared.scanner.Seen.{Seen}
 use Rattle.text.specs.declared.scanner.Seen.the-variants.{End, Char}
 use Rattle.text.proofs.Moved.{see-ahead}
 use Rattle.raw.specs.Row.{Row}
-use Rattle.raw.specs.Reader.{Out, ok, again, bad, more, after, eaten, stop, turn, many, scanTurn, scan}
+use Rattle.raw.specs.Reader.{ok, more, after, eaten, stop, turn, many, scanTurn, scan}
 use Rattle.raw.specs.Grammar.{white}
 use Rattle.raw.proofs.Loop.{many-turn}
 use Rattle.raw.proofs.Readers.{scan-turn-good}

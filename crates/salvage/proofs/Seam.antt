@@ -4,15 +4,14 @@
 --     seam-boundary, boundary-shift       where they meet is a boundary; those of the second are the whole's
 --     pass, opens-back        what is opened past an opened place; the same of the second text
 -- Assumes nothing.
-use Prim.Native.Nat.{ℕ, zero, suc, _+_, _≤_, _<_, max}
+use Prim.Native.Nat.{ℕ, zero, suc, _+_, _≤_, _<_}
 use native.Mathlib.Omega.{arith}
 use mathlib.Core.Path.{_≡_, refl, sym, ap, _∙_, subst}
 use mathlib.Core.Bool.{Bool, true, false, cond, _&&_}
 use mathlib.Core.List.{List, [], _∷_, _++_}
 use mathlib.Core.Logic.{_⊎_, inl, inr}
-use lib.ListN.{length, getD, drop, length-append}
-use lib.Seq.{getD-append-add, getD-append-seam, drop-append-add, drop-append-seam}
-use lib.Dec.{eqb, leb}
+use lib.ListN.{length, getD, drop}
+use lib.Seq.{getD-append-add, drop-append-add, drop-append-seam}
 use borrow.Author.Tests.{eqb-true}
 use Rattle.text.specs.Class.{whiteSpace, isWhitespace}
 use Rattle.text.specs.Scan.{see}
@@ -25,12 +24,11 @@ use Rattle.raw.specs.Row.{Row, moved}
 use Rattle.raw.specs.Reader.{Out, ok, again, bad}
 use Rattle.raw.specs.Grammar.{white, fileTurn, file}
 use Rattle.raw.specs.Strict.{Fresh, shifted}
-use Rattle.raw.proofs.Good.{Sound}
 use Rattle.raw.proofs.Readers.{white-good}
 use Rattle.raw.proofs.Entries.{file-turn-good, file-good}
 use Rattle.salvage.specs.Salvage.{head, newline, push, cut}
-use Rattle.salvage.specs.Demand3.{lined, Boundary, first, line, Opens, here, later}
-use Rattle.salvage.proofs.Scanned.{Scanned, true-not-false, scan-found, ok-place, white-found, white-scanned, white-stays}
+use Rattle.salvage.specs.Demand3.{lined, Boundary, line, Opens, here, later}
+use Rattle.salvage.proofs.Scanned.{true-not-false, scan-found, ok-place, white-found, white-scanned, white-stays}
 use Rattle.salvage.proofs.Turned.{turn-white, item-sound}
 use Rattle.salvage.proofs.Joint.{Meet, opens-from}
 

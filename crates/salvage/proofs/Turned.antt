@@ -9,7 +9,7 @@ use native.Mathlib.Nat.{eq-or-lt-of-le}
 use mathlib.Core.Logic.{_⊎_, inl, inr}
 use mathlib.Core.Path.{_≡_, refl, sym, ap, _∙_, subst}
 use mathlib.Core.Bool.{Bool, true, false, cond}
-use mathlib.Core.List.{List, [], _++_}
+use mathlib.Core.List.{List, []}
 use lib.ListN.{length}
 use lib.Dec.{eqb}
 use Rattle.text.specs.Class.{isWhitespace, holdsOf}
@@ -18,14 +18,14 @@ use Rattle.text.specs.declared.scanner.Seen.{Seen}
 use Rattle.text.specs.declared.scanner.Seen.the-variants.{End, Char}
 use Rattle.text.specs.declared.class.Test.the-variants as test
 use Rattle.raw.specs.Row.{Row}
-use Rattle.raw.specs.Reader.{Out, ok, again, bad, Reader, more, andThen, eaten, stop, turn, _then_, when, sees}
+use Rattle.raw.specs.Reader.{Out, ok, again, bad, Reader, andThen, eaten, stop, turn}
 use Rattle.raw.specs.Grammar.{is, any, white, comment, entry, fileTurn}
 use Rattle.raw.specs.Strict.{Same}
 use Rattle.raw.proofs.Good.{Stops, Sound}
 use Rattle.raw.proofs.Then.{more-none}
 use Rattle.raw.proofs.Readers.{white-good, comment-good}
 use Rattle.raw.proofs.Entries.{entry-good, file-turn-good}
-use Rattle.salvage.proofs.Scanned.{Halts, Clear, Scanned, true-not-false, ok-place, scan-found, white-found, white-scanned, white-stays}
+use Rattle.salvage.proofs.Scanned.{Halts, Clear, Scanned, true-not-false, ok-place, scan-found, white-found, white-stays}
 
 -- ---- after the white space
 

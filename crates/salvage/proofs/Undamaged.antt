@@ -3,12 +3,12 @@
 --     same-rows           strict reading accepts, and every boundary opens an entry: the rows are the same
 --     clean-both, clean-moved, told-ok        rows without damage; a piece without damage is accepted
 -- Assumes nothing.
-use Prim.Native.Nat.{ℕ, zero, suc, _+_, _≤_, _<_}
+use Prim.Native.Nat.{ℕ, zero, suc, _+_, _≤_}
 use native.Mathlib.Omega.{arith}
 use mathlib.Core.Path.{_≡_, refl, sym, ap, ap₂, _∙_, subst, subst₂}
 use mathlib.Core.Bool.{Bool, true, false, cond}
 use mathlib.Core.List.{List, [], _∷_, _++_, append-nil}
-use mathlib.Core.Logic.{_⊎_, inl, inr}
+use mathlib.Core.Logic.{inl, inr}
 use lib.ListN.{length, length-append}
 use lib.Dec.{eqb}
 use Rattle.text.specs.Walk.{walkFrom}
@@ -29,7 +29,7 @@ use Rattle.salvage.specs.Demand3.{lined, fresh, Boundary, first, line, O
 use Rattle.salvage.proofs.Scanned.{true-not-false}
 use Rattle.salvage.proofs.Checked.{strict-ok, strict-is, octets-halves}
 use Rattle.salvage.proofs.Cut.{pieces-move, salvage-append}
-use Rattle.salvage.proofs.Joint.{Meet, through, split}
+use Rattle.salvage.proofs.Joint.{through, split}
 use Rattle.salvage.proofs.Seam.{Seam, Front, front, meet, head-fresh, parts, seam-boundary, boundary-shift, opens-first, pass, file-back, opens-back}
 
 -- ---- rows
@@ -71,7 +71,7 @@ salvage-none r d e = ap (λ (l : List ℕ). moved d (salvageOf l)) e
 rest : (a s : List ℕ) (k : ℕ) → length a ≡ suc k → file (a ++ s) (suc k) ≡ shifted (length a) (file s 0)
 rest a s k e = let x : suc k ≡ 0 + length a = omega arith in ap (file (a ++ s)) x ∙ file-good .shift a .moves s 0
 
-head-opens : (r : List ℕ) → head r ≡ true → fresh r ≡ true
+pub head-opens : (r : List ℕ) → head r ≡ true → fresh r ≡ true
 unfolding fresh
 head-opens [] h = refl
 head-opens (b ∷ r) h = h

@@ -1,6 +1,6 @@
 -- Demand 3: one author's damaged file never costs another's entry. The proof is `demand3` of proofs/Demand3.antt.
 -- Assumes nothing.
-use Prim.Native.Nat.{ℕ, suc, _+_, _/_, _*_, _≤_}
+use Prim.Native.Nat.{ℕ, suc, _+_, _/_, _*_, _≤_, _<_}
 use mathlib.Core.Path.{_≡_}
 use mathlib.Core.Logic.{_↔_}
 use mathlib.Core.Bool.{Bool, true, false}
@@ -12,7 +12,7 @@ use Rattle.raw.specs.declared.fault.Fault.{Fault}
 use Rattle.raw.specs.declared.fault.Reading.{Reading}
 use Rattle.raw.specs.declared.fault.Reading.the-variants as reading
 use Rattle.raw.specs.Row.{Row, moved, flat}
-use Rattle.raw.specs.Reader.{Out, ok, again, bad}
+use Rattle.raw.specs.Reader.{ok, again, bad}
 use Rattle.raw.specs.Grammar.{white, fileTurn}
 use Rattle.raw.specs.Read.{numberOf, startOf, mostBytes, strict}
 use Rattle.raw.specs.Rules.{isRows, clean}
@@ -84,8 +84,10 @@ pub record Demand3 : Type 0 where
   pub parts : (a s : List ℕ) → lined a ≡ true → fresh s ≡ true → salvageOf (a ++ s) ≡ salvageOf a ++ moved (length a) (salvageOf s)
   -- and of calls, where length and rows are enough for both
   pub calls : (a s x y b x′ y′ b′ : List ℕ) (m n : ℕ) (r : Reading) → lined a ≡ true → fresh s ≡ true → length (a ++ s) ≤ mostBytes → m + n ≤ length b / 4 → Salvage a x (reading.Rows m) x′ → Salvage s y (reading.Rows n) y′ → Salvage (a ++ s) b r b′ → (rs : List Row) × (ss : List Row) × Holds rs x (reading.Rows m) x′ × Holds ss y (reading.Rows n) y′ × Holds (rs ++ moved (length a) ss) b r b′
-  -- 2. The pieces make up the file; each gives the rows of its strict reading at its place, or damage and cause
+  -- 2. The pieces make up the file, and begin at its boundaries, and there only; each gives the rows of its strict reading at its place, or damage and cause
   pub whole : (s : List ℕ) → joined (cut s) ≡ s
+  pub begins : (s : List ℕ) (ws : List (List ℕ)) (w : List ℕ) (vs : List (List ℕ)) → cut s ≡ ws ++ w ∷ vs → 0 < length (joined ws) → Boundary s (length (joined ws))
+  pub cuts : (s : List ℕ) (n : ℕ) → Boundary s n → 0 < n → (ws : List (List ℕ)) × (vs : List (List ℕ)) × (cut s ≡ ws ++ vs) × (length (joined ws) ≡ n)
   pub each : (s : List ℕ) (ws : List (List ℕ)) (w : List ℕ) (vs : List (List ℕ)) → length s ≤ mostBytes → cut s ≡ ws ++ w ∷ vs → Piece s ws w vs
   -- 3. No damage shows exactly if strict reading accepts the whole file and every boundary opens one of its entries; the rows are
   -- then those of strict reading

@@ -3,14 +3,14 @@
 use Prim.Native.Nat.{ℕ, _+_, _-_, _*_, _≤_, _<_}
 use mathlib.Core.Path.{_≡_}
 use mathlib.Core.Bool.{Bool, true, cond}
-use mathlib.Core.List.{List, [], _∷_}
+use mathlib.Core.List.{List, _∷_}
 use lib.ListN.{length, take, drop}
 use Rattle.raw.specs.declared.fault.Fault.{Fault}
 use Rattle.raw.specs.Row.{Row, moved, overlay}
 use Rattle.raw.specs.Read.{startOf, mostBytes, strict}
 use Rattle.raw.specs.Rules.{clean}
 use Rattle.raw.specs.Says.{Ready}
-use Rattle.salvage.specs.Salvage.{cut, damaged, told, salvageOf}
+use Rattle.salvage.specs.Salvage.{cut, told, salvageOf}
 use Rattle.salvage.specs.declared.file.Tally.{Tally}
 use Rattle.salvage.specs.declared.file.Tally.the-variants.{Sound, Damaged}
 

@@ -3,9 +3,9 @@
 -- Assumes nothing.
 use Prim.Native.String.{String}
 use mathlib.Core.Path.{_≡_}
-use mathlib.Core.List.{List, [], _∷_}
+use mathlib.Core.List.{[], _∷_}
 use Rattle.raw.specs.Row.{Row}
-use Rattle.raw.specs.Reader.{Out, ok}
+use Rattle.raw.specs.Reader.{ok}
 use Rattle.raw.specs.Read.{strict}
 use Rattle.raw.specs.Worked.{utf8, _at_to_}
 use Rattle.salvage.specs.Salvage.{salvageOf}

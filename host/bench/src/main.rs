@@ -13,14 +13,20 @@
 //!
 //! Each shape is read at two sizes. `growth` is how much a byte of the larger costs, measured in
 //! bytes of the smaller, by the best times: about 1 where the cost grows in proportion.
+//!
+//! Then packing and unpacking the rows beside the Rust packer, with ratios of the same sense; and
+//! salvage: on sound files beside strict reading, where the figure is salvage's time divided by
+//! strict reading's, and on files of many pieces.
 
+mod packing;
+mod salvage;
 mod shapes;
 mod timing;
 
 use std::path::PathBuf;
 use std::process::ExitCode;
 
-use timing::Times;
+use timing::{growth, Times};
 
 /// Measured for one text: the Rust, the proved reader into lent rows and into fresh ones.
 struct Measured {
@@ -43,8 +49,18 @@ fn main() -> ExitCode {
         println!("{}", shape.name);
         let small = measure(&shape.small, rounds);
         let full = measure(&shape.full, rounds);
-        growth(&small, &full);
+        let times = [
+            ("Rust", &small.rust, &full.rust),
+            ("lent", &small.lent, &full.lent),
+            ("fresh", &small.fresh, &full.fresh),
+        ];
+        growth(small.bytes, full.bytes, &times);
     }
+    let real = shapes::real(&folders);
+    for shape in real.into_iter().chain([shapes::million()]) {
+        packing::run(&shape, rounds);
+    }
+    salvage::run(&folders, rounds);
     ExitCode::SUCCESS
 }
 
@@ -109,15 +125,4 @@ fn agreed_rows(text: &[u8]) -> usize {
         "the readers differ"
     );
     rows
-}
-
-fn growth(small: &Measured, full: &Measured) {
-    let by = full.bytes as f64 / small.bytes as f64;
-    let of = |small: &Times, full: &Times| full.best() / small.best() / by;
-    println!(
-        "  growth at {by:.2} times the bytes: Rust {:.2}, lent {:.2}, fresh {:.2}",
-        of(&small.rust, &full.rust),
-        of(&small.lent, &full.lent),
-        of(&small.fresh, &full.fresh)
-    );
 }

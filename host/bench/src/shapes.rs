@@ -5,6 +5,7 @@ use std::path::PathBuf;
 /// The larger file of a shape, in bytes, and how many times the smaller one it is.
 const FULL: usize = 10_500_000;
 const TIMES: usize = 4;
+const MILLION: usize = 1_000_000;
 
 /// Longer real files are left out, so that the whole stays as short as a file must be.
 const LONGEST_PART: usize = 6_000_000;
@@ -73,21 +74,49 @@ fn deep(size: usize) -> Vec<u8> {
 }
 
 /// A million tiny entries, and two: more would be longer than a file may be.
-fn million() -> Shape {
+pub fn million() -> Shape {
     let entries = |count: usize| b"@a{k,}\n".repeat(count);
     Shape {
         name: "a million tiny entries, and two".into(),
-        small: entries(1_000_000),
-        full: entries(2_000_000),
+        small: entries(MILLION),
+        full: entries(2 * MILLION),
     }
 }
 
-/// The files that strict reading accepts, one after the other, from the start again until the text
-/// is long enough. An accepted file ends between two items or in a comment, which a newline ends.
-fn real(folders: &[PathBuf]) -> Option<Shape> {
+/// Files of many refused pieces, and of one piece that no boundary cuts: a million and four, which
+/// is as many as a file has of the longest.
+pub fn pieces() -> [Shape; 4] {
+    let shape = |name: &str, piece: &[u8]| Shape {
+        name: name.into(),
+        small: piece.repeat(MILLION),
+        full: piece.repeat(TIMES * MILLION),
+    };
+    [
+        shape("a million two-byte pieces, and four", b"@\n"),
+        shape("a million pieces that are left open, and four", b"@a{\n"),
+        shape("a million pieces that are not UTF-8, and four", b"@\xFF\n"),
+        shape("one piece of a million lines, and of four", b"a\n"),
+    ]
+}
+
+/// The files that strict reading accepts.
+pub fn real(folders: &[PathBuf]) -> Option<Shape> {
+    joined("accepted", folders, |file| oracle::read(file).is_ok())
+}
+
+/// The files that strict reading accepts and in which salvage sees no damage: it gives their rows.
+pub fn sound(folders: &[PathBuf]) -> Option<Shape> {
+    joined("sound", folders, |file| {
+        oracle::read(file).is_ok_and(|rows| oracle::salvage(file) == Ok(rows))
+    })
+}
+
+/// The files that are wanted, one after the other, from the start again until the text is long
+/// enough. An accepted file ends between two items or in a comment, which a newline ends.
+fn joined(wanted: &str, folders: &[PathBuf], want: impl Fn(&[u8]) -> bool) -> Option<Shape> {
     let mut files = cases::files(folders);
     let found = files.len();
-    files.retain(|file| file.len() < LONGEST_PART && oracle::read(file).is_ok());
+    files.retain(|file| file.len() < LONGEST_PART && want(file));
     let bytes: usize = files.iter().map(Vec::len).sum();
     if bytes == 0 {
         return None;
@@ -105,7 +134,7 @@ fn real(folders: &[PathBuf]) -> Option<Shape> {
     };
     Some(Shape {
         name: format!(
-            "real: {} accepted of {found} files, {bytes} bytes",
+            "real: {} {wanted} of {found} files, {bytes} bytes",
             files.len()
         ),
         small: text(FULL / TIMES),

@@ -45,6 +45,17 @@ impl Times {
     }
 }
 
+/// Prints how much a byte of the larger text costs, measured in bytes of the smaller, for each name
+/// with its times on both.
+pub fn growth(small: usize, full: usize, times: &[(&str, &Times, &Times)]) {
+    let by = full as f64 / small as f64;
+    let each = |(name, small, full): &(&str, &Times, &Times)| {
+        format!("{name} {:.2}", full.best() / small.best() / by)
+    };
+    let each: Vec<String> = times.iter().map(each).collect();
+    println!("  growth at {by:.2} times the bytes: {}", each.join(", "));
+}
+
 /// The Rust, from bytes to its own form of the file.
 pub fn the_rust(text: &[u8]) -> RawBibliography<'_> {
     let text = std::str::from_utf8(black_box(text)).expect("every shape is UTF-8");

@@ -54,6 +54,33 @@ pub fn damage(random: &mut Random, file: &mut Vec<u8>, other: &[u8]) {
     }
 }
 
+/// What makes a boundary where salvage cuts, what only looks like one, and what spoils the piece
+/// that it stands in.
+const TEARS: [&[u8]; 16] = [
+    b"\n@",
+    b"\n\n@",
+    b"\r\n@",
+    b"\r@",
+    b" @",
+    b"\n @",
+    b"\n",
+    b"@",
+    b"\n@a{k,}\n",
+    b"\n@a{k,t={x}",
+    b"\n@comment{",
+    b"\n@string{s=1}\n@",
+    b"\xFF",
+    b"\xC3\n@",
+    b"\n@\xE2\x82",
+    b"\xC2\x85@",
+];
+
+/// Puts into `file`, at one place, something that matters to salvage.
+pub fn tear(random: &mut Random, file: &mut Vec<u8>) {
+    let at = random.below(file.len() + 1);
+    insert(file, at, random.pick(&TEARS));
+}
+
 fn insert(file: &mut Vec<u8>, at: usize, shard: &[u8]) {
     file.splice(at..at, shard.iter().copied());
 }

@@ -81,6 +81,18 @@ impl Grammar<'_> {
         }
     }
 
+    /// The same with most items at the start of a line, where salvage cuts.
+    pub fn lines(&mut self, most: usize) {
+        for _ in 0..self.random.length(most) {
+            self.item();
+            if self.random.one_in(5) {
+                self.spaces();
+            } else {
+                self.put_any(&["\n", "\n", "\r\n", "\n\n"]);
+            }
+        }
+    }
+
     fn item(&mut self) {
         match self.random.below(20) {
             0..=10 => self.entry(),

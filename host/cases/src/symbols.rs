@@ -30,6 +30,26 @@ pub const WIDER: [&[u8]; 19] = [
     b"\xF0\x9F\x98\x80",
 ];
 
+/// What matters to salvage, in strings of which most have several pieces: a boundary and its
+/// parts, what only looks like one, items and their fronts, what closes them, and bytes that are
+/// UTF-8 together but not alone.
+pub const PIECES: [&[u8]; 14] = [
+    b"@",
+    b"\n",
+    b"\n@",
+    b"\r",
+    b"a",
+    b"@a{k,}",
+    b"@a{k,t={",
+    b"@comment{",
+    b"}",
+    b"\"",
+    b"%",
+    b"\n@string{s=1}",
+    b"\xC3",
+    b"\xA9",
+];
+
 /// What tails are put behind: the middle of every reader of the grammar.
 pub const HEADS: [&[u8]; 18] = [
     b"@",

@@ -22,7 +22,8 @@ pub fn tails(judge: &mut Judge, long: bool) {
     }
 }
 
-fn extend(judge: &mut Judge, file: &mut Vec<u8>, symbols: &[&[u8]], left: usize) {
+/// The file, and behind it every string of at most so many of the symbols.
+pub fn extend(judge: &mut Judge, file: &mut Vec<u8>, symbols: &[&[u8]], left: usize) {
     judge.check(file);
     if left == 0 {
         return;

@@ -4,30 +4,69 @@ use std::path::PathBuf;
 
 use cases::{damage, Random};
 
-use crate::judge::Judge;
+use crate::judge::{Judge, SALVAGE};
+use crate::packs::Packs;
+use crate::salvage::spoil;
 
-/// Compares each file, and copies of it that are damaged.
+/// How a copy of a file is spoilt, with another file at hand.
+type Spoil = fn(&mut Random, &mut Vec<u8>, &[u8]);
+
+/// Compares each file, and copies of it that are damaged; packs the rows of each; then salvages
+/// each, and damaged copies.
 pub fn run(judge: &mut Judge, paths: &[PathBuf], copies: usize, seed: u64) {
     let texts = cases::files(paths);
     let bytes: usize = texts.iter().map(Vec::len).sum();
     println!("{} files, {bytes} bytes", texts.len());
+    let copies = if texts.is_empty() { 0 } else { copies };
     judge.group("files", |j| texts.iter().for_each(|text| j.check(text)));
-    if copies > 0 && !texts.is_empty() {
-        judge.group("damaged copies", |j| damaged(j, &texts, copies, seed));
+    if copies > 0 {
+        let random = Random::new(seed, 5);
+        judge.group("damaged copies", |j| {
+            spoilt(j, &texts, copies, random, damaged)
+        });
+    }
+    judge.group("packing of the files' rows", |j| packed(j, &texts));
+    judge.ask(SALVAGE);
+    judge.group("salvage of files", |j| {
+        texts.iter().for_each(|text| j.check(text))
+    });
+    if copies > 0 {
+        let random = Random::new(seed, 11);
+        judge.group("salvage of damaged copies", |j| {
+            spoilt(j, &texts, copies, random, spoil)
+        });
     }
 }
 
-fn damaged(judge: &mut Judge, texts: &[Vec<u8>], copies: usize, seed: u64) {
-    let mut random = Random::new(seed, 5);
+fn spoilt(judge: &mut Judge, texts: &[Vec<u8>], copies: usize, mut random: Random, spoil: Spoil) {
     let mut copy = Vec::new();
     for text in texts {
         let other = &texts[random.below(texts.len())];
         for _ in 0..copies {
             copy.clone_from(text);
-            for _ in 0..=random.below(3) {
-                damage(&mut random, &mut copy, other);
-            }
+            spoil(&mut random, &mut copy, other);
             judge.check(&copy);
+        }
+    }
+}
+
+fn damaged(random: &mut Random, file: &mut Vec<u8>, other: &[u8]) {
+    for _ in 0..=random.below(3) {
+        damage(random, file, other);
+    }
+}
+
+/// Packs and unpacks the rows of each accepted file, and those that each file's salvage gives.
+fn packed(judge: &mut Judge, texts: &[Vec<u8>]) {
+    let mut packs = Packs::new();
+    for text in texts {
+        for rows in [oracle::read(text), oracle::salvage(text)]
+            .into_iter()
+            .flatten()
+        {
+            let numbers = |row: &oracle::Row| [row.kind, row.detail, row.start, row.end];
+            let numbers: Vec<u32> = rows.iter().flat_map(numbers).collect();
+            packs.rows(judge, &numbers);
         }
     }
 }

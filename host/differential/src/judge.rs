@@ -6,15 +6,10 @@ use oracle::{Refusal, Row};
 use proved::Answer;
 
 use crate::report;
-
-/// Numbers before and after the lent room that must stay as they are.
-const GUARD: usize = 8;
+use crate::room::Room;
 
 /// Room lent where the Rust refuses: any room must give that refusal.
 const ROOM_AT_REFUSAL: usize = 4 * 8 + 1;
-
-/// What stands behind the file in memory: a reader that looks past its end is led astray.
-const BEHIND: &[u8] = b"}\"},=#\n}";
 
 /// The refusal for want of room.
 const NO_ROOM: u32 = 16;
@@ -22,18 +17,39 @@ const NO_ROOM: u32 = 16;
 /// Differences that are shown in full.
 const SHOWN: u64 = 5;
 
+/// What is asked of both about a file.
+#[derive(Clone, Copy)]
+pub struct Asked {
+    rust: fn(&[u8], &mut Vec<Row>) -> Result<(), Refusal>,
+    proved: fn(&[u8], &mut [u32]) -> Answer,
+    /// What stands behind the file in memory: a reader that looks past its end is led astray.
+    behind: &'static [u8],
+}
+
+pub const READING: Asked = Asked {
+    rust: oracle::read_into,
+    proved: proved::read,
+    behind: b"}\"},=#\n}",
+};
+
+/// Behind a last newline stands what would be one more boundary.
+pub const SALVAGE: Asked = Asked {
+    rust: oracle::salvage_into,
+    proved: proved::salvage,
+    behind: b"@a{k,}}\"},=#\n@}",
+};
+
 /// Runs cases and counts them.
 pub struct Judge {
     pub cases: u64,
     pub differ: u64,
     accepted: u64,
+    asked: Asked,
     /// The Rust's rows.
     rows: Vec<Row>,
-    /// A copy of the file, with `BEHIND` after it.
+    /// A copy of the file, with what is asked's `behind` after it.
     file: Vec<u8>,
-    /// The room, with guards; between cases equal to `untouched`.
-    room: Vec<u32>,
-    untouched: Vec<u32>,
+    room: Room<u32>,
 }
 
 impl Judge {
@@ -42,11 +58,16 @@ impl Judge {
             cases: 0,
             differ: 0,
             accepted: 0,
+            asked: READING,
             rows: Vec::new(),
             file: Vec::new(),
-            room: Vec::new(),
-            untouched: Vec::new(),
+            room: Room::new(),
         }
+    }
+
+    /// From here on, files are asked about in this way.
+    pub fn ask(&mut self, asked: Asked) {
+        self.asked = asked;
     }
 
     /// Runs a group of cases and prints its counts.
@@ -61,6 +82,14 @@ impl Judge {
             self.differ - before.2,
             start.elapsed().as_secs_f64()
         );
+    }
+
+    /// Counts a case, and says whether it is a difference to be shown.
+    pub fn count(&mut self, accepted: bool, same: bool) -> bool {
+        self.cases += 1;
+        self.accepted += u64::from(accepted);
+        self.differ += u64::from(!same);
+        !same && self.differ <= SHOWN
     }
 
     /// One case, with a row and a number more than is needed lent.
@@ -88,78 +117,49 @@ impl Judge {
     fn ask_the_rust(&mut self, file: &[u8]) -> Result<(), Refusal> {
         self.file.clear();
         self.file.extend_from_slice(file);
-        self.file.extend_from_slice(BEHIND);
-        oracle::read_into(file, &mut self.rows)
+        self.file.extend_from_slice(self.asked.behind);
+        (self.asked.rust)(file, &mut self.rows)
     }
 
     fn compare(&mut self, file: &[u8], rust: Result<(), Refusal>, room: usize) {
-        self.cases += 1;
         let expected = self.expected(rust, room);
-        self.accepted += u64::from(expected.number == 0);
-        self.grow(room + 2 * GUARD);
-        let lent = &mut self.room[GUARD..GUARD + room];
-        let answer = proved::read(&self.file[..file.len()], lent);
-        let same = answer == expected && self.room_is_right(answer, room) && self.file_is(file);
-        if !same {
-            self.differ += 1;
-            if self.differ <= SHOWN {
-                let held = &self.room[..room + 2 * GUARD];
-                report::difference(self.cases, file, room, expected, &self.rows, answer);
-                report::touched(held, &self.untouched, GUARD, answer.count as usize * 4);
-            }
+        let lent = self.room.lend(room);
+        let answer = (self.asked.proved)(&self.file[..file.len()], lent);
+        let written = 4 * expected.count as usize;
+        let same = answer == expected && self.room_is_right(room, written) && self.file_is(file);
+        if self.count(expected.number == 0, same) {
+            report::difference(self.cases, file, room, expected, &self.rows, answer);
+            report::touched(&self.room, room, written);
         }
-        let touched = if same {
-            GUARD + 4 * answer.count as usize
+        if same {
+            self.room.restore(written);
         } else {
-            self.room.len()
-        };
-        self.restore(touched);
+            self.room.restore_all();
+        }
     }
 
     /// 01's order: what the file is refused with, and only then the room.
     fn expected(&self, rust: Result<(), Refusal>, room: usize) -> Answer {
-        let refused = |number, start, end| Answer {
-            number,
-            count: 0,
-            start,
-            end,
-        };
         match rust {
-            Err(refusal) => refused(refusal.number, refusal.start.into(), refusal.end.into()),
-            Ok(()) if self.rows.len() > room / 4 => refused(NO_ROOM, 0, 0),
-            Ok(()) => Answer {
-                number: 0,
-                count: self.rows.len() as u64,
-                start: 0,
-                end: 0,
+            Err(refusal) => Answer {
+                number: refusal.number,
+                count: 0,
+                start: refusal.start.into(),
+                end: refusal.end.into(),
             },
+            Ok(()) if self.rows.len() > room / 4 => Answer::refused(NO_ROOM),
+            Ok(()) => Answer::accepted(self.rows.len() as u64),
         }
     }
 
-    /// Whether the room holds the Rust's rows if the answer is 0, and else is as it was.
-    fn room_is_right(&self, answer: Answer, room: usize) -> bool {
-        let written = 4 * answer.count as usize;
-        let end = room + 2 * GUARD;
-        let rows = self.room[GUARD..GUARD + written].chunks_exact(4);
+    /// Whether the room holds the Rust's rows where they are to be written, and else is as it was.
+    fn room_is_right(&self, room: usize, written: usize) -> bool {
+        let rows = self.room.front(written).chunks_exact(4);
         let same = |(held, row): (&[u32], &Row)| held == [row.kind, row.detail, row.start, row.end];
-        self.room[..GUARD] == self.untouched[..GUARD]
-            && self.room[GUARD + written..end] == self.untouched[GUARD + written..end]
-            && rows.zip(&self.rows).all(same)
+        self.room.rest_is_untouched(room, written) && rows.zip(&self.rows).all(same)
     }
 
     fn file_is(&self, file: &[u8]) -> bool {
-        self.file[..file.len()] == *file && self.file[file.len()..] == *BEHIND
-    }
-
-    fn grow(&mut self, length: usize) {
-        for i in self.room.len()..length {
-            let canary = 0xA500_0000 ^ (i as u32).wrapping_mul(0x9E37_79B1);
-            self.room.push(canary);
-            self.untouched.push(canary);
-        }
-    }
-
-    fn restore(&mut self, length: usize) {
-        self.room[..length].copy_from_slice(&self.untouched[..length]);
+        self.file[..file.len()] == *file && self.file[file.len()..] == *self.asked.behind
     }
 }

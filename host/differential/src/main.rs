@@ -1,7 +1,8 @@
-//! Compares the proved reader with the Rust, row by row and refusal by refusal.
+//! Compares the proved reader with the Rust, row by row and refusal by refusal; then packing and
+//! unpacking with a Rust packer, and salvage with 01's cutting around the Rust.
 //!
-//!     cargo run --release -p differential                    some 400,000 cases, in seconds
-//!     cargo run --release -p differential -- --long          more than twenty million
+//!     cargo run --release -p differential                    some 850,000 cases, in seconds
+//!     cargo run --release -p differential -- --long          more than forty million
 //!     cargo run --release -p differential -- --seed 7        other random cases
 //!     cargo run --release -p differential -- FILE FOLDER     these .bib files, folders searched
 //!     cargo run --release -p differential -- --damage 20 FOLDER    and 20 damaged copies of each
@@ -15,12 +16,16 @@ mod edges;
 mod exhaustive;
 mod files;
 mod judge;
+mod packing;
+mod packs;
 mod report;
+mod room;
+mod salvage;
 
 use std::path::PathBuf;
 use std::process::ExitCode;
 
-use judge::Judge;
+use judge::{Judge, SALVAGE};
 
 /// What the command line asks for.
 struct Wanted {
@@ -41,7 +46,9 @@ fn main() -> ExitCode {
     println!("seed {}", wanted.seed);
     let mut judge = Judge::new();
     if wanted.paths.is_empty() {
-        groups(&mut judge, &wanted);
+        reading(&mut judge, &wanted);
+        packing(&mut judge, &wanted);
+        salvaging(&mut judge, &wanted);
     } else {
         files::run(&mut judge, &wanted.paths, wanted.damage, wanted.seed);
     }
@@ -53,7 +60,7 @@ fn main() -> ExitCode {
     }
 }
 
-fn groups(judge: &mut Judge, wanted: &Wanted) {
+fn reading(judge: &mut Judge, wanted: &Wanted) {
     let Wanted { long, seed, .. } = *wanted;
     judge.group("all short strings", |j| exhaustive::short(j, long));
     judge.group("all short tails", |j| exhaustive::tails(j, long));
@@ -64,6 +71,30 @@ fn groups(judge: &mut Judge, wanted: &Wanted) {
     judge.group("damaged", |j| drawn::damaged(j, seed, long));
     judge.group("bytes", |j| drawn::bytes(j, seed, long));
     judge.group("room", |j| drawn::rooms(j, seed, long));
+}
+
+fn packing(judge: &mut Judge, wanted: &Wanted) {
+    let Wanted { long, seed, .. } = *wanted;
+    judge.group("packing, all short sequences", |j| {
+        packing::sequences(j, long)
+    });
+    judge.group("packing, details", packing::details);
+    judge.group("packing, places", packing::places);
+    judge.group("packing, counts", |j| packing::counts(j, long));
+    judge.group("packing, drawn", |j| packing::drawn(j, seed, long));
+    judge.group("packing, room", |j| packing::rooms(j, seed, long));
+}
+
+fn salvaging(judge: &mut Judge, wanted: &Wanted) {
+    let Wanted { long, seed, .. } = *wanted;
+    judge.ask(SALVAGE);
+    judge.group("salvage, all short files", |j| salvage::short(j, long));
+    judge.group("salvage, places", |j| salvage::places(j, long));
+    judge.group("salvage, edge lengths", |j| edges::run(j, long));
+    judge.group("salvage, by grammar", |j| salvage::grammar(j, seed, long));
+    judge.group("salvage, damaged", |j| salvage::damaged(j, seed, long));
+    judge.group("salvage, bytes", |j| drawn::bytes(j, seed, long));
+    judge.group("salvage, room", |j| salvage::rooms(j, seed, long));
 }
 
 fn wanted() -> Result<Wanted, String> {

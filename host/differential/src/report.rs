@@ -3,9 +3,20 @@
 use oracle::Row;
 use proved::Answer;
 
+use crate::room::{Lent, Room};
+
 /// Longer files and lists are cut.
 const MOST_BYTES: usize = 2_000;
 const MOST_ROWS: usize = 40;
+
+/// What a case of packing or unpacking should give, and what it gives.
+pub struct Given<'a, T> {
+    /// What the answers count.
+    pub unit: &'a str,
+    pub expected: Answer,
+    pub written: &'a [T],
+    pub answer: Answer,
+}
 
 /// The case and what both answer.
 pub fn difference(
@@ -22,7 +33,7 @@ pub fn difference(
         file.len()
     );
     println!("  file  b\"{}\"", shown.escape_ascii());
-    println!("  Rust  {}", said(expected));
+    println!("  Rust  {}", said(expected, "rows"));
     if expected.number == 0 {
         for row in rows.iter().take(MOST_ROWS) {
             println!(
@@ -31,23 +42,39 @@ pub fn difference(
             );
         }
     }
-    println!("  proved {}", said(answer));
+    println!("  proved {}", said(answer, "rows"));
 }
 
-/// What the proved reader changed in the room: all numbers that are not as they were, and whether
-/// any lies outside what it says it wrote.
-pub fn touched(held: &[u32], untouched: &[u32], guard: usize, written: usize) {
-    for (row, numbers) in held[guard..].chunks(4).take(MOST_ROWS).enumerate() {
-        let at = guard + 4 * row;
-        if numbers != &untouched[at..at + numbers.len()] {
-            println!("        {}", list(numbers));
+/// The case of packing or unpacking and what both answer.
+pub fn packing<T: Lent, U: Lent>(case: u64, name: &str, room: usize, input: &[T], given: Given<U>) {
+    let cut = &input[..input.len().min(T::ROW * MOST_ROWS)];
+    println!(
+        "case {case} differs: {name} of {}, room for {room}",
+        input.len()
+    );
+    println!("  input {}", T::list(cut));
+    println!("  Rust  {}", said(given.expected, given.unit));
+    if given.expected.number == 0 {
+        let cut = &given.written[..given.written.len().min(U::ROW * MOST_ROWS)];
+        println!("        {}", U::list(cut));
+    }
+    println!("  proved {}", said(given.answer, given.unit));
+}
+
+/// What the proved function changed in the room: all rows that are not as they were, and whether
+/// anything lies outside what is to be written.
+pub fn touched<T: Lent>(held: &Room<T>, room: usize, written: usize) {
+    let changed: Vec<i64> = held.changed(room).collect();
+    for (row, numbers) in held.front(room).chunks(T::ROW).take(MOST_ROWS).enumerate() {
+        let place = (T::ROW * row) as i64;
+        let numbers_end = place + numbers.len() as i64;
+        if changed.iter().any(|i| (place..numbers_end).contains(i)) {
+            println!("        {}", T::list(numbers));
         }
     }
-    let outside = (0..held.len())
-        .filter(|&i| i < guard || i >= guard + written)
-        .filter(|&i| held[i] != untouched[i])
-        .map(|i| i as i64 - guard as i64);
-    let outside: Vec<String> = outside.take(MOST_ROWS).map(|i| i.to_string()).collect();
+    let outside = |i: &&i64| **i < 0 || **i >= written as i64;
+    let outside = changed.iter().filter(outside).take(MOST_ROWS);
+    let outside: Vec<String> = outside.map(i64::to_string).collect();
     if !outside.is_empty() {
         println!(
             "        changed outside the answer, at {}",
@@ -56,7 +83,8 @@ pub fn touched(held: &[u32], untouched: &[u32], guard: usize, written: usize) {
     }
 }
 
-fn said(answer: Answer) -> String {
+/// An answer, with the name of what it counts.
+fn said(answer: Answer, unit: &str) -> String {
     let Answer {
         number,
         count,
@@ -64,13 +92,8 @@ fn said(answer: Answer) -> String {
         end,
     } = answer;
     match number {
-        0 if start == 0 && end == 0 => format!("{count} rows"),
+        0 if start == 0 && end == 0 => format!("{count} {unit}"),
         _ if number != 0 && count == 0 => format!("refused {number} {start} {end}"),
         _ => format!("number {number}, count {count}, start {start}, end {end}"),
     }
-}
-
-fn list(numbers: &[u32]) -> String {
-    let words: Vec<String> = numbers.iter().map(u32::to_string).collect();
-    words.join(" ")
 }

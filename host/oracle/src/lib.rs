@@ -8,6 +8,7 @@
 pub mod mechanics;
 mod places;
 mod rows;
+mod salvage;
 pub mod types;
 
 include!(concat!(env!("OUT_DIR"), "/rust.rs"));
@@ -16,6 +17,7 @@ use std::fmt;
 
 pub use chunk::ChunksExt;
 pub use rows::{read, read_into, Kind, Refusal, Row, LONGEST_FILE};
+pub use salvage::{salvage, salvage_into};
 pub use types::{TypeError, TypeErrorKind};
 
 /// A range of bytes.

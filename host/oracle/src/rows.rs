@@ -8,7 +8,7 @@ use crate::{Span, Spanned};
 /// The longest file that is read, in bytes.
 pub const LONGEST_FILE: usize = 16_777_215;
 
-/// The kinds of rows that strict reading gives.
+/// The kinds of rows: up to 8 those that strict reading gives, then what salvage adds.
 #[derive(Debug, Clone, Copy, PartialEq, Eq)]
 #[repr(u32)]
 pub enum Kind {
@@ -21,9 +21,11 @@ pub enum Kind {
     Literal = 6,
     Name = 7,
     DefinitionName = 8,
+    Damage = 9,
+    Cause = 10,
 }
 
-/// A row. Strict reading's details are all 0.
+/// A row. Details are 0, but a cause's is the number of the refusal.
 #[derive(Debug, Clone, Copy, PartialEq, Eq)]
 pub struct Row {
     pub kind: u32,
@@ -33,7 +35,7 @@ pub struct Row {
 }
 
 impl Row {
-    fn new(kind: Kind, span: &Span) -> Self {
+    pub(crate) fn new(kind: Kind, span: &Span) -> Self {
         Self {
             kind: kind as u32,
             detail: 0,
@@ -52,7 +54,7 @@ pub struct Refusal {
 }
 
 impl Refusal {
-    fn new(number: u32, span: Span) -> Self {
+    pub(crate) fn new(number: u32, span: Span) -> Self {
         Self {
             number,
             start: small(span.start),

@@ -1,0 +1,97 @@
+//! Salvage: on a sound file beside strict reading, and on files of many pieces at two sizes.
+//!
+//! All rows are written into memory that is there and was written before.
+
+use std::path::PathBuf;
+
+use crate::shapes::{self, Shape};
+use crate::timing::{growth, Times};
+
+/// Measured for one text: strict reading, where the text is sound, and salvage.
+struct Measured {
+    bytes: usize,
+    strict: Times,
+    salvage: Times,
+}
+
+pub fn run(folders: &[PathBuf], rounds: usize) {
+    match shapes::sound(folders) {
+        Some(shape) => beside_reading(&shape, rounds),
+        None => println!("no sound real file: name a folder that has .bib files"),
+    }
+    beside_reading(&shapes::million(), rounds);
+    for shape in shapes::pieces() {
+        println!("salvage of {}", shape.name);
+        let (small, full) = (alone(&shape.small, rounds), alone(&shape.full, rounds));
+        let times = [("salvage", &small.salvage, &full.salvage)];
+        growth(small.bytes, full.bytes, &times);
+    }
+}
+
+fn beside_reading(shape: &Shape, rounds: usize) {
+    println!("salvage of {}", shape.name);
+    let (small, full) = (both(&shape.small, rounds), both(&shape.full, rounds));
+    let times = [
+        ("strict", &small.strict, &full.strict),
+        ("salvage", &small.salvage, &full.salvage),
+    ];
+    growth(small.bytes, full.bytes, &times);
+}
+
+/// Strict reading and salvage of a sound text, by turns.
+fn both(text: &[u8], rounds: usize) -> Measured {
+    let mut rows = agreed_rows(text);
+    let mut measured = Measured::new(text);
+    for _ in 0..rounds {
+        measured.strict.run(|| proved::read(text, &mut rows));
+        measured.salvage.run(|| proved::salvage(text, &mut rows));
+    }
+    let Measured {
+        bytes,
+        strict,
+        salvage,
+    } = &measured;
+    println!("  {bytes} bytes, {} rows", rows.len() / 4);
+    println!("    strict   {}", strict.speed(*bytes));
+    println!(
+        "    salvage  {}, {} of strict reading's time",
+        salvage.speed(*bytes),
+        salvage.ratio(strict)
+    );
+    measured
+}
+
+fn alone(text: &[u8], rounds: usize) -> Measured {
+    let mut rows = agreed_rows(text);
+    let mut measured = Measured::new(text);
+    for _ in 0..rounds {
+        measured.salvage.run(|| proved::salvage(text, &mut rows));
+    }
+    let Measured { bytes, salvage, .. } = &measured;
+    println!("  {bytes} bytes, {} rows", rows.len() / 4);
+    println!("    salvage  {}", salvage.speed(*bytes));
+    measured
+}
+
+impl Measured {
+    fn new(text: &[u8]) -> Self {
+        Self {
+            bytes: text.len(),
+            strict: Times::new(),
+            salvage: Times::new(),
+        }
+    }
+}
+
+/// The numbers of the rows, on which both salvages agree. A benchmark of a wrong answer says
+/// nothing.
+fn agreed_rows(text: &[u8]) -> Vec<u32> {
+    let rows = oracle::salvage(text).expect("no shape is too long");
+    let mut room = vec![1; 4 * rows.len()];
+    let answer = proved::salvage(text, &mut room);
+    assert_eq!((answer.number, answer.count), (0, rows.len() as u64));
+    let numbers = |row: &oracle::Row| [row.kind, row.detail, row.start, row.end];
+    let same = room.iter().copied().eq(rows.iter().flat_map(numbers));
+    assert!(same, "the salvages differ");
+    room
+}

@@ -1,0 +1,117 @@
+//! Salvage: files with boundaries, and with what only looks like one.
+
+use cases::symbols::{ALPHABET, PIECES};
+use cases::{damage, tear, Grammar, Random};
+
+use crate::exhaustive;
+use crate::judge::Judge;
+
+/// Items in a file by grammar, at most.
+const ITEMS: usize = 12;
+
+/// Lengths at which a place of 8, 16 or 24 bits is full.
+const LENGTHS: [usize; 14] = [
+    0, 1, 2, 7, 127, 128, 254, 255, 256, 257, 65_534, 65_535, 65_536, 65_537,
+];
+
+/// What stands at such a place: sound pieces, refused ones of either sort, and both.
+const AT: [&[u8]; 6] = [
+    b"@a{k,t={x} # y}\n",
+    b"@a{\n@string{s=1}\n",
+    b"@a{k,y=1.2.3}\n@preamble{\"x\"}",
+    b"@a{k,}\xFF\n@\n@b{k,}",
+    b"@a{k,} @a{k}\n@b{k,}\n@",
+    b"@a{k,t={\n@b{k,}}}\n",
+];
+
+/// Pieces that a file has many of.
+const MANY: [&[u8]; 5] = [b"@\n", b"@a{k,}\n", b"@a{k}\n", b"\n@\xFF", b"@comment{\n"];
+
+/// Every string of at most six (quick: four) of what matters to salvage, and of at most five
+/// (quick: three) characters of the reader's alphabet.
+pub fn short(judge: &mut Judge, long: bool) {
+    let (pieces, characters) = if long { (6, 5) } else { (4, 3) };
+    exhaustive::extend(judge, &mut Vec::new(), &PIECES, pieces);
+    exhaustive::extend(judge, &mut Vec::new(), &ALPHABET, characters);
+}
+
+/// Pieces at edge places, many pieces, and files as long as they may be and longer.
+pub fn places(judge: &mut Judge, long: bool) {
+    for n in LENGTHS {
+        AT.iter()
+            .for_each(|end| at_place(judge, n, end, Judge::check_rooms));
+        MANY.iter().for_each(|piece| judge.check(&piece.repeat(n)));
+    }
+    for end in &AT[..if long { AT.len() } else { 1 }] {
+        for less in [end.len() - 1, end.len(), end.len() + 1] {
+            at_place(judge, oracle::LONGEST_FILE - less, end, Judge::check);
+        }
+    }
+}
+
+/// This end behind so many bytes, which are blanks up to a newline, and a piece of their own. Where
+/// another byte stands for the newline, the end does not start at a boundary.
+fn at_place(judge: &mut Judge, place: usize, end: &[u8], check: fn(&mut Judge, &[u8])) {
+    let mut file = vec![b' '; place];
+    file.extend_from_slice(end);
+    for last in [b'\n', b'\r', b'@'] {
+        if place > 0 {
+            file[place - 1] = last;
+        }
+        check(judge, &file);
+    }
+}
+
+/// Clears `out` and writes a file by grammar into it, most items on lines of their own.
+fn write(random: &mut Random, out: &mut Vec<u8>, odd: usize) {
+    out.clear();
+    Grammar { random, out, odd }.lines(ITEMS);
+}
+
+/// Files by grammar, half of them with odd tokens.
+pub fn grammar(judge: &mut Judge, seed: u64, long: bool) {
+    let mut random = Random::new(seed, 8);
+    let mut file = Vec::new();
+    for turn in 0..if long { 400_000 } else { 10_000 } {
+        write(&mut random, &mut file, [usize::MAX, 80][turn % 2]);
+        judge.check(&file);
+    }
+}
+
+/// Files by grammar, with damage of all sorts and torn.
+pub fn damaged(judge: &mut Judge, seed: u64, long: bool) {
+    let mut random = Random::new(seed, 9);
+    let (mut file, mut other, mut copy) = (Vec::new(), Vec::new(), Vec::new());
+    for _ in 0..if long { 150_000 } else { 3_000 } {
+        std::mem::swap(&mut file, &mut other);
+        write(&mut random, &mut file, usize::MAX);
+        for _ in 0..8 {
+            copy.clone_from(&file);
+            spoil(&mut random, &mut copy, &other);
+            judge.check(&copy);
+        }
+    }
+}
+
+/// Damages a file in some places and tears it in others.
+pub fn spoil(random: &mut Random, file: &mut Vec<u8>, other: &[u8]) {
+    for _ in 0..random.below(3) {
+        damage(random, file, other);
+    }
+    for _ in 0..random.below(3) {
+        tear(random, file);
+    }
+}
+
+/// Files by grammar, torn or not, with every kind of room.
+pub fn rooms(judge: &mut Judge, seed: u64, long: bool) {
+    let mut random = Random::new(seed, 10);
+    let mut file = Vec::new();
+    for turn in 0..if long { 60_000 } else { 1_000 } {
+        write(&mut random, &mut file, [usize::MAX, 80][turn % 2]);
+        if turn % 3 == 0 {
+            tear(&mut random, &mut file);
+        }
+        judge.check_rooms(&file);
+    }
+}
