@@ -4,10 +4,10 @@ use Prim.Native.Nat.{ℕ}
 use mathlib.Core.Path.{_≡_}
 use mathlib.Core.List.{List}
 use lib.ListN.{length}
-use Rattle.raw.specs.Read.{numberOf, startOf, endOf, strict, readingOut, leftOut}
+use Rattle.raw.specs.Reader.{Out}
+use Rattle.raw.specs.Read.{numberOf, startOf, endOf, readingOut, leftOut}
 use Rattle.raw.specs.declared.fault.Reading.{Reading}
 use Rattle.raw.specs.declared.fault.Reading.the-variants.{Rows, Refused}
-use Rattle.salvage.specs.Salvage.{salvaged}
 use Rattle.rows.specs.declared.pack.Packed.{Packed}
 use Rattle.rows.specs.declared.pack.Packed.the-variants as packed
 use Rattle.rows.specs.declared.unpack.Unpacked.{Unpacked}
@@ -16,7 +16,7 @@ use Rattle.rows.specs.Seven as seven
 use Rattle.rows.specs.Pack.{packedOf, packedInto}
 use Rattle.rows.specs.Unpack.{unpackedOf, unpackedInto}
 
--- ---- strict reading: 0 and the count, or the refusal's number and place
+-- ---- readings: 0 and the count, or the refusal's number and place
 
 abbrev pub statusOf : Reading → ℕ
 statusOf (Rows n) = 0
@@ -34,21 +34,20 @@ abbrev pub placeEnd : Reading → ℕ
 placeEnd (Rows n) = 0
 placeEnd (Refused f) = endOf f
 
--- `bib_read` of the file s over the lent numbers b: what it answers, and all that it leaves
-pub record Exported (s b : List ℕ) (r count start end : ℕ) (b′ : List ℕ) : Type 0 where
-  pub status : r ≡ statusOf (readingOut (strict s) (length b))
-  pub rowCount : count ≡ countOf (readingOut (strict s) (length b))
-  pub from : start ≡ placeStart (readingOut (strict s) (length b))
-  pub to : end ≡ placeEnd (readingOut (strict s) (length b))
-  pub rows : b′ ≡ leftOut (strict s) b
+-- a reading in lent numbers
+pub record Told (g : Reading) (r count start end : ℕ) : Type 0 where
+  pub status : r ≡ statusOf g
+  pub rowCount : count ≡ countOf g
+  pub from : start ≡ placeStart g
+  pub to : end ≡ placeEnd g
 
--- `bib_salvage` of the file s over the lent numbers b: it refuses at 0..0 only
-pub record ExportedSalvage (s b : List ℕ) (r count : ℕ) (b′ : List ℕ) : Type 0 where
-  pub status : r ≡ statusOf (readingOut (salvaged s) (length b))
-  pub rowCount : count ≡ countOf (readingOut (salvaged s) (length b))
-  pub rows : b′ ≡ leftOut (salvaged s) b
+-- a reading of a file that finds o, over the lent numbers b: what it answers, and all that it leaves. `bib_read` finds `strict`, and `bib_salvage`
+-- finds `salvaged`
+pub record Exported (o : Out) (b : List ℕ) (r count start end : ℕ) (b′ : List ℕ) : Type 0 where
+  pub told : Told (readingOut o (length b)) r count start end
+  pub rows : b′ ≡ leftOut o b
 
--- ---- packing: 0 and the count, or the refusal's number
+-- ---- packing: 0 and the count, or the refusal's number; 01 has 0..0 for the place of each refusal
 
 abbrev pub packStatus : Packed → ℕ
 packStatus (packed.Bytes n) = 0
@@ -67,13 +66,17 @@ unpackCount (unpacked.Rows n) = n
 unpackCount (unpacked.Refused f) = 0
 
 -- `bib_pack` of the rows l over the lent bytes b
-pub record ExportedPack (l b : List ℕ) (r count : ℕ) (b′ : List ℕ) : Type 0 where
+pub record ExportedPack (l b : List ℕ) (r count start end : ℕ) (b′ : List ℕ) : Type 0 where
   pub status : r ≡ packStatus (packedOf l (length b))
   pub bytesCount : count ≡ packCount (packedOf l (length b))
+  pub from : start ≡ 0
+  pub to : end ≡ 0
   pub bytes : b′ ≡ packedInto l b
 
 -- `bib_unpack` of the bytes s over the lent numbers b
-pub record ExportedUnpack (s b : List ℕ) (r count : ℕ) (b′ : List ℕ) : Type 0 where
+pub record ExportedUnpack (s b : List ℕ) (r count start end : ℕ) (b′ : List ℕ) : Type 0 where
   pub status : r ≡ unpackStatus (unpackedOf s (length b))
   pub rowCount : count ≡ unpackCount (unpackedOf s (length b))
+  pub from : start ≡ 0
+  pub to : end ≡ 0
   pub rows : b′ ≡ unpackedInto s b

@@ -1,7 +1,8 @@
 // The library for other languages: thin functions over the crates below, without `requires`. host/ has safe wrappers for Rust.
 //
-// Each answers 0, or document 01's number of the refusal; what else it has to say comes back in lent numbers. A refusal leaves what was lent for
-// rows or bytes as it was, and what lies past an answer stays as it was.
+// Each answers 0, or document 01's number of the refusal. What else it has to say comes back in lent numbers: `count`, of the rows or bytes that it
+// wrote, or 0; `start` and `end`, the refusal's place, or 0. A refusal leaves what was lent for rows or bytes as it was, and what lies past an answer
+// stays as it was. include/bib.h says all this to C.
 use raw::fault;
 use raw::fault::Reading;
 use raw::file;
@@ -9,21 +10,14 @@ use rows::pack;
 use rows::pack::Packed;
 use rows::unpack;
 use rows::unpack::Unpacked;
-ghost use Rattle.bib.specs.Export.{Exported, ExportedSalvage, ExportedPack, ExportedUnpack};
+ghost use Rattle.raw.specs.Read.{strict};
+ghost use Rattle.salvage.specs.Salvage.{salvaged};
+ghost use Rattle.bib.specs.Export.{Told, Exported, ExportedPack, ExportedUnpack};
 
-// Reads a file strictly. The number of its rows comes back in `count`, and they stand in `rows`, four numbers to a row; or the refusal's place in
-// `start` and `end`.
-#[no_mangle]
-pub extern "C" fn bib_read(
-    file: &[u8],
-    rows: &mut [u32],
-    count: &mut u64,
-    start: &mut u64,
-    end: &mut u64,
-) -> u32
-    ensures { λ r. ⌜ Exported (now (file .entry)) (now (rows .entry)) r (now (count .exit)) (now (start .exit)) (now (end .exit)) (now (rows .exit)) ⌝ }
+// What a reading comes to in lent numbers.
+fn tell(reading: Reading, count: &mut u64, start: &mut u64, end: &mut u64) -> u32
+    ensures { λ r. ⌜ Told reading r (now (count .exit)) (now (start .exit)) (now (end .exit)) ⌝ }
 {
-    let reading = file::read(file, rows);
     match reading {
         Reading::Rows(n) => {
             *count = n as u64;
@@ -40,34 +34,53 @@ pub extern "C" fn bib_read(
     }
 }
 
-// Salvages a file: each piece is read alone, and of a damaged one the damage and its cause remain. The number of rows comes back in `count`, and
-// they stand in `rows`.
+// Reads a file strictly. Its rows stand in `rows`, four numbers to a row.
 #[no_mangle]
-pub extern "C" fn bib_salvage(file: &[u8], rows: &mut [u32], count: &mut u64) -> u32
-    ensures { λ r. ⌜ ExportedSalvage (now (file .entry)) (now (rows .entry)) r (now (count .exit)) (now (rows .exit)) ⌝ }
+pub extern "C" fn bib_read(
+    file: &[u8],
+    rows: &mut [u32],
+    count: &mut u64,
+    start: &mut u64,
+    end: &mut u64,
+) -> u32
+    ensures { λ r. ⌜ Exported (strict (now (file .entry))) (now (rows .entry)) r (now (count .exit)) (now (start .exit)) (now (end .exit)) (now (rows .exit)) ⌝ }
 {
-    let reading = salvage::file::salvage(file, rows);
-    match reading {
-        Reading::Rows(n) => {
-            *count = n as u64;
-            return 0;
-        }
-        Reading::Refused(f) => {
-            *count = 0;
-            return fault::number(f);
-        }
-    }
+    let reading = file::read(file, rows);
+    tell(reading, count, start, end)
 }
 
-// Packs rows, seven bytes to a row. The number of bytes comes back in `count`, and they stand in `bytes`.
+// Salvages a file: each piece is read alone, and of a damaged one the damage and its cause remain.
 #[no_mangle]
-pub extern "C" fn bib_pack(rows: &[u32], bytes: &mut [u8], count: &mut u64) -> u32
-    ensures { λ r. ⌜ ExportedPack (now (rows .entry)) (now (bytes .entry)) r (now (count .exit)) (now (bytes .exit)) ⌝ }
+pub extern "C" fn bib_salvage(
+    file: &[u8],
+    rows: &mut [u32],
+    count: &mut u64,
+    start: &mut u64,
+    end: &mut u64,
+) -> u32
+    ensures { λ r. ⌜ Exported (salvaged (now (file .entry))) (now (rows .entry)) r (now (count .exit)) (now (start .exit)) (now (end .exit)) (now (rows .exit)) ⌝ }
 {
+    let reading = salvage::file::salvage(file, rows);
+    tell(reading, count, start, end)
+}
+
+// Packs rows, seven bytes to a row, which stand in `bytes`. A refusal has no place here: 0..0.
+#[no_mangle]
+pub extern "C" fn bib_pack(
+    rows: &[u32],
+    bytes: &mut [u8],
+    count: &mut u64,
+    start: &mut u64,
+    end: &mut u64,
+) -> u32
+    ensures { λ r. ⌜ ExportedPack (now (rows .entry)) (now (bytes .entry)) r (now (count .exit)) (now (start .exit)) (now (end .exit)) (now (bytes .exit)) ⌝ }
+{
+    *start = 0;
+    *end = 0;
     let packed = pack::pack(rows, bytes);
     match packed {
-        Packed::Bytes(n) => {
-            *count = n as u64;
+        Packed::Bytes(size) => {
+            *count = size as u64;
             return 0;
         }
         Packed::Refused(f) => {
@@ -77,20 +90,28 @@ pub extern "C" fn bib_pack(rows: &[u32], bytes: &mut [u8], count: &mut u64) -> u
     }
 }
 
-// Unpacks rows. Their number comes back in `count`, and they stand in `rows`, four numbers to a row.
+// Unpacks rows, which stand in `rows`. A refusal has no place here either.
 #[no_mangle]
-pub extern "C" fn bib_unpack(bytes: &[u8], rows: &mut [u32], count: &mut u64) -> u32
-    ensures { λ r. ⌜ ExportedUnpack (now (bytes .entry)) (now (rows .entry)) r (now (count .exit)) (now (rows .exit)) ⌝ }
+pub extern "C" fn bib_unpack(
+    bytes: &[u8],
+    rows: &mut [u32],
+    count: &mut u64,
+    start: &mut u64,
+    end: &mut u64,
+) -> u32
+    ensures { λ r. ⌜ ExportedUnpack (now (bytes .entry)) (now (rows .entry)) r (now (count .exit)) (now (start .exit)) (now (end .exit)) (now (rows .exit)) ⌝ }
 {
+    *start = 0;
+    *end = 0;
     let unpacked = unpack::unpack(bytes, rows);
     match unpacked {
         Unpacked::Rows(n) => {
             *count = n as u64;
             return 0;
         }
-        Unpacked::Refused(f) => {
+        Unpacked::Refused(bad) => {
             *count = 0;
-            return rows::fault::number(f);
+            return rows::fault::number(bad);
         }
     }
 }
