@@ -1,2 +1,3 @@
 pub mod Exports
 pub mod Packs
+pub mod Room
