@@ -1,3 +1,4 @@
 pub mod Exports
 pub mod Packs
+pub mod Room
 pub mod Unique

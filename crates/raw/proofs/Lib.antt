@@ -11,6 +11,7 @@ pub mod Spans
 pub mod Leads
 pub mod Quiet
 pub mod Rules
+pub mod Few
 pub mod Strict
 pub mod Joins
 pub mod Bare

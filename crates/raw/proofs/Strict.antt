@@ -33,6 +33,7 @@ use Rattle.raw.proofs.Good.{Stops, Sound}
 use Rattle.raw.proofs.Loop.{many-turn}
 use Rattle.raw.proofs.Entries.{entry-good, file-turn-good, file-good}
 use Rattle.raw.proofs.Rules.{file-rules}
+use Rattle.raw.proofs.Few.{file-few}
 
 -- ---- no fuel
 
@@ -150,6 +151,7 @@ file-accepts s q rs o e =
       sound = trace-clean t;
       rising = trace-rising t;
       spans = trace-spans o t (omega arith) (start-boundary s o);
+      few = omega (arith, file-few s 0 q rs e, file-ends s 0 q rs e (omega arith));
     }
 
 file-refuses : (s : List ℕ) (f : Fault) → file s 0 ≡ bad f → Refusal s f

@@ -71,6 +71,8 @@ pub record Accepted (s : List ℕ) (q : ℕ) (rs : List Row) : Type 0 where
   pub sound : clean rs ≡ true
   pub rising : Rising 0 rs
   pub spans : Spans s rs
+  -- and are at most as many as the bytes
+  pub few : length rs ≤ length s
 
 -- what a refused one gives: 01's numbers 1 to 10, at a place of the text
 pub record Refusal (s : List ℕ) (f : Fault) : Type 0 where

@@ -17,6 +17,7 @@ use Rattle.salvage.proofs.Cut.{joined-cut, salvage-append}
 use Rattle.salvage.proofs.Each.{each, calls}
 use Rattle.salvage.proofs.Begins.{begins, cuts}
 use Rattle.salvage.proofs.Ordered.{pieces-rules, pieces-fit, pieces-rising}
+use Rattle.salvage.proofs.Few.{salvage-few}
 use Rattle.salvage.proofs.Undamaged.{accepts, opened, same-rows}
 
 undamaged : (s : List ℕ) → length s ≤ mostBytes → (clean (salvageOf s) ≡ true) ↔ Whole s (salvageOf s)
@@ -53,4 +54,5 @@ demand3 =
       checked = checked;
       rising = rising;
       inside = inside;
+      few = salvage-few;
     }

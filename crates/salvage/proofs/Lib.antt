@@ -6,6 +6,7 @@ pub mod Joint
 pub mod Seam
 pub mod Checked
 pub mod Ordered
+pub mod Few
 pub mod Each
 pub mod Undamaged
 pub mod Begins

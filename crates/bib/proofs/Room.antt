@@ -1,0 +1,54 @@
+-- A row for each byte of the file, and one more, is always enough: `room`.
+-- Assumes nothing.
+use Prim.Native.Nat.{ℕ, _/_, _≤_}
+use native.Mathlib.Omega.{arith}
+use mathlib.Core.Path.{_≡_, refl, ap}
+use mathlib.Core.Bool.{Bool, true, false, cond}
+use mathlib.Core.List.{List}
+use lib.ListN.{length}
+use lib.Dec.{leb}
+use borrow.Author.Tests.{le-leb}
+use Rattle.raw.specs.declared.fault.Fault.the-variants.{TooLong, NoRoom}
+use Rattle.raw.specs.declared.fault.Reading.{Reading}
+use Rattle.raw.specs.declared.fault.Reading.the-variants.{Refused}
+use Rattle.raw.specs.Row.{Row}
+use Rattle.raw.specs.Reader.{Out, ok, again, bad}
+use Rattle.raw.specs.Read.{mostBytes, strict, readingOut}
+use Rattle.raw.proofs.Strict.{strict-reading}
+use Rattle.salvage.specs.Salvage.{salvageOf, salvaged}
+use Rattle.salvage.proofs.Demand3.{demand3}
+use Rattle.bib.specs.Export.{statusOf}
+use Rattle.bib.specs.Room.{Enough, Room}
+
+-- rows that fit are answered
+rows-status : (q : ℕ) (rs : List Row) (n : ℕ) → length rs ≤ n / 4 → statusOf (readingOut (ok q rs) n) ≤ 10
+rows-status q rs n h = rw (le-leb (length rs) (n / 4) h) (omega arith)
+
+module _ (s b : List ℕ) (h : Enough s b) where
+  read-status : statusOf (readingOut (strict s) (length b)) ≤ 10
+  read-status = by (strict s) refl
+    where
+      by : (o : Out) → strict s ≡ o → statusOf (readingOut o (length b)) ≤ 10
+      by (ok q rs) e = let k = strict-reading .accepts s q rs e .few in rows-status q rs (length b) (omega arith)
+      by (again q rs a) e = absurd (strict-reading .decides s q a rs e)
+      by (bad f) e = strict-reading .refuses s f e .number .1
+
+  salvage-status : statusOf (readingOut (salvaged s) (length b)) ≤ 10
+  unfolding salvaged
+  salvage-status = by (leb (length s) mostBytes)
+    where
+      by : (x : Bool) → statusOf (readingOut (cond x (ok (length s) (salvageOf s)) (bad TooLong)) (length b)) ≤ 10
+      by true = let k = demand3 .few s in rows-status (length s) (salvageOf s) (length b) (omega arith)
+      by false = omega arith
+
+not-room : (r : Reading) → statusOf r ≤ 10 → r ≡ Refused NoRoom → ⊥
+not-room r h e = let z : statusOf r ≡ 16 = ap statusOf e in omega arith
+
+pub room : Room
+room =
+    record {
+      reading = λ s b h. not-room (readingOut (strict s) (length b)) (read-status s b h);
+      salvaging = λ s b h. not-room (readingOut (salvaged s) (length b)) (salvage-status s b h);
+      read = λ s b b′ r count start end h x e. omega (arith, x .told .status, read-status s b h);
+      salvage = λ s b b′ r count start end h x e. omega (arith, x .told .status, salvage-status s b h);
+    }
