@@ -1,0 +1,96 @@
+//! Rows, as document 01 has them.
+
+use std::fmt;
+
+/// What a row is of.
+#[derive(Debug, Clone, Copy, PartialEq, Eq, Hash)]
+pub enum Kind {
+    /// A preamble, with its quotes.
+    Preamble,
+    Entry,
+    EntryType,
+    Key,
+    FieldName,
+    Value,
+    Literal,
+    Name,
+    DefinitionName,
+    /// A piece that is damaged, of salvage only.
+    Damage,
+    /// Why the piece of the row before is damaged: the detail is the refusal's number.
+    Cause,
+}
+
+/// In the order of their numbers.
+const KINDS: [Kind; 11] = [
+    Kind::Preamble,
+    Kind::Entry,
+    Kind::EntryType,
+    Kind::Key,
+    Kind::FieldName,
+    Kind::Value,
+    Kind::Literal,
+    Kind::Name,
+    Kind::DefinitionName,
+    Kind::Damage,
+    Kind::Cause,
+];
+
+impl Kind {
+    /// Document 01's number.
+    pub fn number(self) -> u32 {
+        self as u32
+    }
+}
+
+/// One row: the bytes `start..end` of the file are of this kind.
+#[derive(Debug, Clone, Copy, PartialEq, Eq, Hash)]
+pub struct Row {
+    pub kind: Kind,
+    /// 0, but in a cause the refusal's number.
+    pub detail: u32,
+    pub start: usize,
+    pub end: usize,
+}
+
+impl fmt::Display for Row {
+    /// `kind detail start end`, in numbers.
+    fn fmt(&self, f: &mut fmt::Formatter<'_>) -> fmt::Result {
+        let kind = self.kind.number();
+        write!(f, "{kind} {} {} {}", self.detail, self.start, self.end)
+    }
+}
+
+/// The rows of a reading. None are made elsewhere, so each has one of the kinds.
+#[derive(Debug, Clone, PartialEq, Eq, Default)]
+pub struct Rows {
+    numbers: Vec<u32>,
+}
+
+impl Rows {
+    pub(crate) fn new(numbers: Vec<u32>) -> Self {
+        Self { numbers }
+    }
+
+    /// As numbers, four to a row: the form that `pack` takes.
+    pub fn numbers(&self) -> &[u32] {
+        &self.numbers
+    }
+
+    pub fn len(&self) -> usize {
+        self.numbers.len() / super::NUMBERS
+    }
+
+    pub fn is_empty(&self) -> bool {
+        self.numbers.is_empty()
+    }
+
+    pub fn iter(&self) -> impl Iterator<Item = Row> + '_ {
+        self.numbers.chunks_exact(super::NUMBERS).map(|row| Row {
+            kind: KINDS[row[0] as usize],
+            detail: row[1],
+            start: row[2] as usize,
+            end: row[3] as usize,
+        })
+    }
+}

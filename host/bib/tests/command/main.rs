@@ -1,0 +1,8 @@
+//! The command, run as people and scripts run it.
+
+mod check;
+mod limits;
+mod run;
+mod scripts;
+mod terminal;
+mod words;

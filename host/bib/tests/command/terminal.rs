@@ -1,0 +1,46 @@
+//! What differs on a terminal.
+
+use crate::run::{shell, Run, Scratch};
+
+/// Runs a line of the shell on a terminal that `script` makes; both streams come back as one.
+fn on_terminal(line: &str) -> Run {
+    shell(&format!("TERM=xterm script -qec {line:?} /dev/null"))
+}
+
+#[test]
+fn colour() {
+    let file = Scratch::new("colour.bib", b"@a{k}");
+    let coloured = format!(
+        "\x1b[1m{}:1:5:\x1b[0m \x1b[1;31mexpected a comma\x1b[0m (7)\r\n@a{{k}}\r\n    \x1b[1;31m^\x1b[0m\r\n",
+        file.name()
+    );
+    let run = on_terminal(&format!("$BIB check {}", file.name()));
+    assert!(run.text().starts_with(&coloured), "{:?}", run.text());
+    for plain in ["NO_COLOR=1 $BIB", "TERM=dumb $BIB"] {
+        let run = on_terminal(&format!("{plain} check {}", file.name()));
+        assert!(!run.text().contains('\x1b'), "{:?}", run.text());
+    }
+    let run = shell(&format!("$BIB check {}", file.name()));
+    assert!(!run.text().contains('\x1b'), "{:?}", run.text());
+}
+
+/// A line that says where the work is, after a while, and is gone at the end.
+#[test]
+fn progress() {
+    let mut file = b"@\n".repeat(400_000);
+    file.pop();
+    let file = Scratch::new("progress.bib", &file);
+    let long = format!(
+        "$BIB check {} > /dev/null",
+        [file.name()].repeat(12).join(" ")
+    );
+    let run = on_terminal(&long);
+    assert!(run.text().contains("\r\x1b[Kchecking "), "{:?}", run.text());
+    assert!(run.text().ends_with("\r\x1b[K"), "{:?}", run.text());
+    shell(&long).says(1, "");
+    on_terminal(&format!(
+        "$BIB check {} 2> /dev/null > /dev/null",
+        file.name()
+    ))
+    .is(1, "");
+}

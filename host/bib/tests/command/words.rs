@@ -1,0 +1,62 @@
+//! What the command is told.
+
+use crate::run::{bib, shell, Scratch};
+
+/// A word that it does not know, and what it says of it.
+#[track_caller]
+fn refused(words: &[&str], sentence: &str) {
+    let hint = "`bib --help` shows what can be asked";
+    bib(words, b"@a{k,}").says(2, &format!("bib: {sentence}; {hint}\n"));
+}
+
+#[test]
+fn unknown_words() {
+    refused(&[], "nothing was asked");
+    refused(&["read"], "`read` is not known");
+    refused(&["--long"], "`--long` is not known");
+    refused(&["rows", "--long"], "`--long` is not known");
+    refused(&["check", "-x"], "`-x` is not known");
+    refused(&["rows", "a", "b"], "`bib rows` takes one file");
+    refused(&["unpack", "-", "-"], "`bib unpack` takes one file");
+}
+
+#[test]
+fn help() {
+    let run = bib(&["--help"], b"");
+    run.is(0, run.text());
+    for word in ["check", "rows", "salvage", "pack", "unpack", "--version"] {
+        assert!(run.text().contains(&format!("bib {word}")), "{word}");
+    }
+    assert_eq!(bib(&["-h"], b""), run);
+    assert_eq!(bib(&["rows", "--help"], b""), run);
+    assert_eq!(bib(&["check", "file", "-h"], b""), run);
+}
+
+#[test]
+fn version() {
+    let version = format!("bib {}\n", env!("CARGO_PKG_VERSION"));
+    bib(&["--version"], b"").is(0, &version);
+    bib(&["-V"], b"").is(0, &version);
+}
+
+#[test]
+fn unreadable_files() {
+    let missing = "bib: cannot read no/such.bib: no such file or directory\n";
+    let folder = "bib: cannot read /: is a directory\n";
+    for work in ["check", "rows", "salvage", "pack", "unpack"] {
+        bib(&[work, "no/such.bib"], b"").says(2, missing);
+        bib(&[work, "/"], b"").says(2, folder);
+    }
+    shell("$BIB rows < /").says(2, "bib: cannot read <stdin>: is a directory\n");
+    let line = "$BIB rows 0> /dev/null";
+    shell(line).says(2, "bib: cannot read <stdin>: bad file descriptor\n");
+}
+
+/// After `--` a word is a file, though it begins with `-`.
+#[test]
+fn files_that_look_like_words() {
+    let file = Scratch::new("-h", b"@a{k,}");
+    let folder = file.0.parent().expect("the file is in a folder").display();
+    let rows = "1 0 0 5\n2 0 1 2\n3 0 3 4\nrows 3\n";
+    shell(&format!("cd '{folder}' && $BIB rows -- -h")).is(0, rows);
+}

@@ -1,0 +1,167 @@
+/* A C program that uses the proved library by its header alone. Prints what does not hold, and how
+ * much did: 'N passed, M failed'. */
+#include "bib.h"
+
+#include <stdio.h>
+#include <stdlib.h>
+#include <string.h>
+
+static int passed, failed;
+
+static void hold(int holds, const char *what)
+{
+    if (holds) {
+        passed++;
+    } else {
+        failed++;
+        printf("does not hold: %s\n", what);
+    }
+}
+
+/* What a call hands back; set before each call to what none of them answers. */
+struct answer {
+    uint32_t status;
+    uint64_t count, start, end;
+};
+
+#define UNSET 0xDEADBEEFDEADBEEFu
+#define UNTOUCHED 0xA5A5A5A5u
+#define ROOM 32
+
+static struct answer unset(void)
+{
+    struct answer a = {UNTOUCHED, UNSET, UNSET, UNSET};
+    return a;
+}
+
+static int says(struct answer a, uint32_t status, uint64_t count, uint64_t start, uint64_t end)
+{
+    return a.status == status && a.count == count && a.start == start && a.end == end;
+}
+
+typedef uint32_t reading(const uint8_t *, size_t, uint32_t *, size_t, uint64_t *, uint64_t *, uint64_t *);
+
+/* Lends room numbers of rows, the ROOM of which are marked first. */
+static struct answer call(reading *read, const char *text, uint32_t rows[ROOM], size_t room)
+{
+    struct answer a = unset();
+    for (size_t i = 0; i < ROOM; i++)
+        rows[i] = UNTOUCHED;
+    a.status = read((const uint8_t *)text, strlen(text), rows, room, &a.count, &a.start, &a.end);
+    return a;
+}
+
+static int untouched(const uint32_t *rows, size_t from)
+{
+    for (size_t i = from; i < ROOM; i++)
+        if (rows[i] != UNTOUCHED)
+            return 0;
+    return 1;
+}
+
+static void reads(void)
+{
+    static const uint32_t small[] = {BIB_ENTRY, 0, 0, 5, BIB_ENTRY_TYPE, 0, 1, 2, BIB_KEY, 0, 3, 4};
+    uint32_t rows[ROOM];
+    struct answer a = call(bib_read, "@a{k,}", rows, ROOM);
+    hold(says(a, BIB_OK, 3, 0, 0), "three rows");
+    hold(memcmp(rows, small, sizeof small) == 0, "the rows are those of document 01");
+    hold(untouched(rows, 12), "what lies past the rows stays");
+    hold(says(call(bib_read, "@a{k,}", rows, 12), BIB_OK, 3, 0, 0), "exactly the room");
+    hold(says(call(bib_read, "@a{k,}", rows, 11), BIB_NO_ROOM, 0, 0, 0), "one number too few");
+    hold(untouched(rows, 0), "no room: the rows stay");
+    hold(says(call(bib_read, "@a{k}", rows, ROOM), BIB_EXPECTED_COMMA, 0, 4, 4), "a comma");
+    hold(untouched(rows, 0), "a refusal: the rows stay");
+    hold(says(call(bib_read, "@a{k,y=1.2.3}", rows, ROOM), BIB_UNEXPECTED_DECIMAL_POINT, 0, 10, 10), "a point");
+    hold(says(call(bib_read, "a\xff", rows, ROOM), BIB_NOT_UTF8, 0, 1, 1), "not UTF-8");
+}
+
+static void takes_nothing(void)
+{
+    struct answer a = unset();
+    a.status = bib_read(NULL, 0, NULL, 0, &a.count, &a.start, &a.end);
+    hold(says(a, BIB_OK, 0, 0, 0), "an empty file, and no room");
+    a = unset();
+    a.status = bib_unpack(NULL, 0, NULL, 0, &a.count, &a.start, &a.end);
+    hold(says(a, BIB_OK, 0, 0, 0), "no bytes to unpack");
+}
+
+static void salvages(void)
+{
+    static const uint32_t want[] = {BIB_DAMAGE, 0, 0, 4, BIB_CAUSE, 7, 4, 4, BIB_ENTRY, 0, 4, 9,
+                                    BIB_ENTRY_TYPE, 0, 5, 6, BIB_KEY, 0, 7, 8};
+    uint32_t rows[ROOM];
+    struct answer a = call(bib_salvage, "@a{\n@b{k,}", rows, ROOM);
+    hold(says(a, BIB_OK, 5, 0, 0), "five rows");
+    hold(memcmp(rows, want, sizeof want) == 0, "damage, its cause, and the second entry");
+    hold(untouched(rows, 20), "what lies past the rows stays");
+    hold(says(call(bib_salvage, "@a{\n@b{k,}", rows, 19), BIB_NO_ROOM, 0, 0, 0), "no room to salvage");
+    hold(untouched(rows, 0), "no room: the rows stay");
+}
+
+/* Every length of line "@\n" needs the most rows: one to a byte, and one more for the last "@". */
+static void enough(void)
+{
+    uint32_t rows[BIB_ENOUGH_NUMBERS(5)];
+    struct answer a = unset();
+    a.status = bib_salvage((const uint8_t *)"@\n@\n@", 5, rows, BIB_ENOUGH_NUMBERS(5), &a.count, &a.start, &a.end);
+    hold(says(a, BIB_OK, 6, 0, 0), "enough numbers, and none to spare");
+}
+
+static void refuses_a_long_file(void)
+{
+    uint32_t rows[ROOM];
+    struct answer a = unset();
+    uint8_t *file = calloc(BIB_MOST_BYTES + 1, 1);
+    if (file == NULL) {
+        hold(0, "memory for a long file");
+        return;
+    }
+    a.status = bib_read(file, BIB_MOST_BYTES + 1, rows, ROOM, &a.count, &a.start, &a.end);
+    hold(says(a, BIB_TOO_LONG, 0, 0, 0), "a byte too many, read");
+    a = unset();
+    a.status = bib_salvage(file, BIB_MOST_BYTES + 1, rows, ROOM, &a.count, &a.start, &a.end);
+    hold(says(a, BIB_TOO_LONG, 0, 0, 0), "a byte too many, salvaged");
+    a = unset();
+    a.status = bib_read(file, BIB_MOST_BYTES, rows, ROOM, &a.count, &a.start, &a.end);
+    hold(says(a, BIB_OK, 0, 0, 0), "the longest file");
+    free(file);
+}
+
+static void packs(void)
+{
+    static const uint32_t rows[] = {BIB_DAMAGE, 0, 0, 4, BIB_CAUSE, 7, 4, 4};
+    static const uint8_t want[] = {0x90, 0, 0, 0, 0, 0, 4, 0xA7, 0, 0, 4, 0, 0, 0};
+    uint8_t bytes[16];
+    uint32_t back[ROOM];
+    struct answer a = unset();
+    memset(bytes, 0xA5, sizeof bytes);
+    a.status = bib_pack(rows, 8, bytes, 13, &a.count, &a.start, &a.end);
+    hold(says(a, BIB_NO_ROOM, 0, 0, 0) && bytes[0] == 0xA5, "a byte too few to pack into");
+    a = unset();
+    a.status = bib_pack(rows, 8, bytes, sizeof bytes, &a.count, &a.start, &a.end);
+    hold(says(a, BIB_OK, 14, 0, 0), "fourteen bytes");
+    hold(memcmp(bytes, want, sizeof want) == 0, "the bytes are those of document 01");
+    hold(bytes[14] == 0xA5 && bytes[15] == 0xA5, "what lies past the bytes stays");
+    a = unset();
+    a.status = bib_unpack(bytes, 14, back, ROOM, &a.count, &a.start, &a.end);
+    hold(says(a, BIB_OK, 2, 0, 0) && memcmp(back, rows, sizeof rows) == 0, "the rows come back");
+    a = unset();
+    a.status = bib_unpack(bytes, 13, back, ROOM, &a.count, &a.start, &a.end);
+    hold(says(a, BIB_BAD_ROWS, 0, 0, 0), "no multiple of seven");
+    a = unset();
+    a.status = bib_pack(rows, 4, bytes, sizeof bytes, &a.count, &a.start, &a.end);
+    hold(says(a, BIB_BAD_ROWS, 0, 0, 0), "damage without a cause");
+}
+
+int main(void)
+{
+    reads();
+    takes_nothing();
+    salvages();
+    enough();
+    refuses_a_long_file();
+    packs();
+    printf("%d passed, %d failed\n", passed, failed);
+    return failed > 0;
+}

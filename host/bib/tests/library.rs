@@ -1,0 +1,127 @@
+//! The wrappers: what they answer, and what they refuse with.
+
+use bib::{Kind, Reason, Refusal, Row};
+
+fn row(kind: Kind, detail: u32, start: usize, end: usize) -> Row {
+    Row {
+        kind,
+        detail,
+        start,
+        end,
+    }
+}
+
+fn refusal(reason: Reason, start: usize, end: usize) -> Refusal {
+    Refusal { reason, start, end }
+}
+
+#[test]
+fn rows_of_a_file() {
+    let rows = bib::read(b"@a{k, t = {x} # y}").unwrap();
+    let want = [
+        row(Kind::Entry, 0, 0, 17),
+        row(Kind::EntryType, 0, 1, 2),
+        row(Kind::Key, 0, 3, 4),
+        row(Kind::FieldName, 0, 6, 7),
+        row(Kind::Value, 0, 10, 17),
+        row(Kind::Literal, 0, 11, 12),
+        row(Kind::Name, 0, 16, 17),
+    ];
+    assert!(rows.iter().eq(want));
+    assert_eq!((rows.len(), rows.is_empty()), (7, false));
+    assert_eq!(rows.numbers()[..8], [1, 0, 0, 17, 2, 0, 1, 2]);
+    assert_eq!(rows.iter().last().unwrap().to_string(), "7 0 16 17");
+}
+
+#[test]
+fn every_kind() {
+    let text = b"@preamble{\"x\"}\n@string{d = 1}\n@a{k, t = d # {x}}\n@b{";
+    let rows = bib::salvage(text).unwrap();
+    let mut seen: Vec<u32> = rows.iter().map(|row| row.kind.number()).collect();
+    seen.sort();
+    seen.dedup();
+    assert_eq!(seen, (0..=10).collect::<Vec<u32>>());
+}
+
+#[test]
+fn salvaged_files() {
+    let rows = bib::salvage(b"@a{\n@b{k,}").unwrap();
+    let want = [
+        row(Kind::Damage, 0, 0, 4),
+        row(Kind::Cause, 7, 4, 4),
+        row(Kind::Entry, 0, 4, 9),
+        row(Kind::EntryType, 0, 5, 6),
+        row(Kind::Key, 0, 7, 8),
+    ];
+    assert!(rows.iter().eq(want));
+}
+
+#[test]
+fn packed_rows() {
+    let rows = bib::salvage(b"@a{\n@b{k,}").unwrap();
+    let bytes = bib::pack(rows.numbers()).unwrap();
+    assert_eq!(bytes[..8], [0x90, 0, 0, 0, 0, 0, 4, 0xA7]);
+    assert_eq!(bib::unpack(&bytes), Ok(rows));
+    assert_eq!(bib::pack(&[]), Ok(vec![]));
+    let bad = Err(refusal(Reason::BadRows, 0, 0));
+    assert_eq!(bib::pack(&[1, 0, 0]), bad);
+    assert_eq!(bib::pack(&[1, 0, 0, 5]), bad);
+    assert_eq!(bib::unpack(&bytes[..6]).map(|_| vec![]), bad);
+}
+
+#[test]
+fn refusals() {
+    let refused = |file: &[u8]| bib::read(file).unwrap_err();
+    assert_eq!(refused(b"a\xff"), refusal(Reason::NotUtf8, 1, 1));
+    assert_eq!(refused(b"@a{k,t=}"), refusal(Reason::UnexpectedEof, 7, 7));
+    assert_eq!(refused(b"@a{k}"), refusal(Reason::ExpectedComma, 4, 4));
+    let long = vec![b' '; bib::MOST_BYTES + 1];
+    assert_eq!(refused(&long), refusal(Reason::TooLong, 0, 0));
+    assert_eq!(bib::salvage(&long), Err(refusal(Reason::TooLong, 0, 0)));
+    assert!(bib::read(&long[1..]).unwrap().is_empty());
+}
+
+#[test]
+fn refusals_as_sentences() {
+    let sentences = [
+        (1, "the file is longer than 16,777,215 bytes (refusal 1)"),
+        (2, "bytes that are not UTF-8 at byte 5 (refusal 2)"),
+        (
+            3,
+            "a value is missing or the text ends too early at byte 5 (refusal 3)",
+        ),
+        (4, "expected an identifier at byte 5 (refusal 4)"),
+        (5, "expected an opening brace at byte 5 (refusal 5)"),
+        (6, "expected a closing brace at byte 5 (refusal 6)"),
+        (7, "expected a comma at byte 5 (refusal 7)"),
+        (8, "expected a quotation mark at byte 5 (refusal 8)"),
+        (9, "expected an equals sign at byte 5 (refusal 9)"),
+        (10, "unexpected decimal point at byte 5 (refusal 10)"),
+        (16, "there is not enough room for the answer (refusal 16)"),
+        (17, "these are not well-formed rows (refusal 17)"),
+    ];
+    for (number, sentence) in sentences {
+        let reason = Reason::of(number).unwrap();
+        assert_eq!(reason.number(), number);
+        assert_eq!(refusal(reason, 5, 5).to_string(), sentence);
+    }
+    let without = (0..100).filter(|number| Reason::of(*number).is_none());
+    assert!(without.eq([0, 11, 12, 13, 14, 15].into_iter().chain(18..100)));
+}
+
+/// The most rows that so many bytes can have find their room, of every length.
+#[test]
+fn room_enough() {
+    for length in 0..200 {
+        let pieces: Vec<u8> = b"@\n".iter().copied().cycle().take(length).collect();
+        let rows = bib::salvage(&pieces).unwrap();
+        assert_eq!(rows.len(), length + length % 2);
+        let fields: Vec<u8> = b"@a{k,"
+            .iter()
+            .chain(b"a=b,".iter().cycle().take(length * 4))
+            .chain(b"}")
+            .copied()
+            .collect();
+        assert_eq!(bib::read(&fields).unwrap().len(), 3 + length * 3);
+    }
+}
