@@ -8,7 +8,7 @@ use Prim.Native.Nat.{ℕ, zero, suc, _+_, _≤_}
 use native.Mathlib.Omega.{arith}
 use mathlib.Core.Path.{_≡_, subst}
 use mathlib.Core.Bool.{Bool}
-use mathlib.Core.List.{List}
+use mathlib.Core.List.{List, []}
 use lib.ListN.{length, length-append}
 use Rattle.text.specs.Class.{isIdStart, holdsOf}
 use Rattle.text.specs.Scan.{see}
@@ -24,6 +24,7 @@ use Rattle.raw.specs.Row.{Row}
 use Rattle.raw.specs.Reader.{Out, ok, again, bad, Reader, more, andThen, under, after, stop, turn, refuse, _then_, over, overFrom, put, when, sees, loop, many}
 use Rattle.raw.specs.Grammar.{is, any, white, comma, stringLiteral, braced, ident, singleField, abbrElement, abbrTurn, abbrField, comment, field, fieldEnd, fieldsTurn, fields, formOf, strings, preamble, body, lead, rest, entry, fileTurn, file}
 use Rattle.raw.proofs.Good.{Sound, Good, eaten-holds}
+use Rattle.raw.proofs.Then.{more-none}
 use Rattle.raw.proofs.Bare.{Bare, bare-ok, bare-bad}
 use Rattle.raw.proofs.Steps.{white-bare, commented-bare, key-bare, comment-bare, ident-bare, comma-bare, at-sign-bare, opening-bare, closing-bare, quote-bare, equals-bare, quoted-bare, number-bare, in-braces-bare, string-bare}
 use Rattle.raw.proofs.Readers.{white-good, comma-good, at-sign-good, opening-good, closing-good, quote-good, equals-good, quoted-good, string-good, number-good, in-braces-good, ident-good, comment-good, key-good, commented-good}
@@ -43,17 +44,16 @@ record Few (v w c : ℕ) (f : Reader) : Type 0 where
 
 -- ---- answers
 
--- from a place before, and with other numbers
-out-from : (v w c v′ w′ c′ p q : ℕ) (o : Out) → p + v′ + c ≤ q + v + c′ → p + w′ + c ≤ q + w + c′ → FewOut v w c q o → FewOut v′ w′ c′ p o
-out-from v w c v′ w′ c′ p q (ok r ss) h k x = omega arith
-out-from v w c v′ w′ c′ p q (again r ss a) h k x = omega arith
-out-from v w c v′ w′ c′ p q (bad f) h k x = tt
-
--- behind rows
+-- behind rows, by an answer from a place further on
 more-few : (v w c v′ w′ c′ p q : ℕ) (rs : List Row) (o : Out) → length rs + p + v′ + c ≤ q + v + c′ → length rs + p + w′ + c ≤ q + w + c′ → FewOut v w c q o → FewOut v′ w′ c′ p (more rs o)
 more-few v w c v′ w′ c′ p q rs (ok r ss) h k x = omega (arith, length-append rs ss)
 more-few v w c v′ w′ c′ p q rs (again r ss a) h k x = omega (arith, length-append rs ss)
 more-few v w c v′ w′ c′ p q rs (bad f) h k x = tt
+
+-- from a place before, and with other numbers
+out-from : (v w c v′ w′ c′ p q : ℕ) (o : Out) → p + v′ + c ≤ q + v + c′ → p + w′ + c ≤ q + w + c′ → FewOut v w c q o → FewOut v′ w′ c′ p o
+out-from v w c v′ w′ c′ p q o h k x =
+    subst (FewOut v′ w′ c′ p) (more-none o) (more-few v w c v′ w′ c′ p q [] o (omega arith) (omega arith) x)
 
 -- one after the other: what is left over adds up, and what is owed
 module _ (w₁ c₁ v w c v′ w′ c′ : ℕ) (k : (v′ + c₁ + c ≤ w₁ + v + c′) × (w′ + c₁ + c ≤ w₁ + w + c′)) where
