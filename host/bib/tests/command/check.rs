@@ -102,12 +102,12 @@ fn columns() {
 0 entries sound, 1 damaged piece
 ",
     );
-    check("@a{k, 漢 =}".as_bytes()).is(
+    check("@a{k, 漢e\u{301} =}".as_bytes()).is(
         1,
         "\
-<stdin>:1:10: expected a value (3)
-@a{k, 漢 =}
-          ^
+<stdin>:1:12: expected a value (3)
+@a{k, 漢e\u{301} =}
+           ^
 0 entries sound, 1 damaged piece
 ",
     );
