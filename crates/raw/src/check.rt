@@ -1,4 +1,7 @@
 // The row check: whether numbers are rows of the readings [01:Rows and their packing]. It does not test file order.
+//
+// Kinds come in as any numbers, so they are compared as numbers: 0 preamble, 1 entry, 2 entry type, 3 key, 4 field name, 5 value, 6 literal,
+// 7 name, 8 definition name, 9 damage, 10 cause. The proofs tie each to `kindOf`, the one definition of a kind's number.
 ghost use mathlib.Core.Path.{_≡_};
 ghost use mathlib.Core.Bool.{cond};
 ghost use Prim.Native.Nat.{_≤_};

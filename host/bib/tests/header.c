@@ -99,7 +99,7 @@ static void salvages(void)
     hold(untouched(rows, 0), "no room: the rows stay");
 }
 
-/* Every length of line "@\n" needs the most rows: one to a byte, and one more for the last "@". */
+/* Lines of "@" alone need the most rows: one to a byte, and one more for a last "@" without its newline. */
 static void enough(void)
 {
     uint32_t rows[BIB_ENOUGH_NUMBERS(5)];
