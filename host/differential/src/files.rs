@@ -4,9 +4,9 @@ use std::path::PathBuf;
 
 use cases::{damage, Random};
 
+use crate::drawn::spoil;
 use crate::judge::{Judge, SALVAGE};
 use crate::packs::Packs;
-use crate::salvage::spoil;
 
 /// How a copy of a file is spoilt, with another file at hand.
 type Spoil = fn(&mut Random, &mut Vec<u8>, &[u8]);

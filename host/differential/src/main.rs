@@ -67,10 +67,10 @@ fn reading(judge: &mut Judge, wanted: &Wanted) {
     judge.group("sequences around UTF-8", |j| exhaustive::sequences(j, long));
     judge.group("characters", |j| exhaustive::characters(j, long));
     judge.group("edge lengths", |j| edges::run(j, long));
-    judge.group("by grammar", |j| drawn::grammar(j, seed, long));
-    judge.group("damaged", |j| drawn::damaged(j, seed, long));
+    judge.group("by grammar", |j| drawn::STRICT.grammar(j, seed, long));
+    judge.group("damaged", |j| drawn::STRICT.damaged(j, seed, long));
     judge.group("bytes", |j| drawn::bytes(j, seed, long));
-    judge.group("room", |j| drawn::rooms(j, seed, long));
+    judge.group("room", |j| drawn::STRICT.rooms(j, seed, long));
 }
 
 fn packing(judge: &mut Judge, wanted: &Wanted) {
@@ -91,10 +91,14 @@ fn salvaging(judge: &mut Judge, wanted: &Wanted) {
     judge.group("salvage, all short files", |j| salvage::short(j, long));
     judge.group("salvage, places", |j| salvage::places(j, long));
     judge.group("salvage, edge lengths", |j| edges::run(j, long));
-    judge.group("salvage, by grammar", |j| salvage::grammar(j, seed, long));
-    judge.group("salvage, damaged", |j| salvage::damaged(j, seed, long));
+    judge.group("salvage, by grammar", |j| {
+        drawn::SALVAGE.grammar(j, seed, long)
+    });
+    judge.group("salvage, damaged", |j| {
+        drawn::SALVAGE.damaged(j, seed, long)
+    });
     judge.group("salvage, bytes", |j| drawn::bytes(j, seed, long));
-    judge.group("salvage, room", |j| salvage::rooms(j, seed, long));
+    judge.group("salvage, room", |j| drawn::SALVAGE.rooms(j, seed, long));
 }
 
 fn wanted() -> Result<Wanted, String> {

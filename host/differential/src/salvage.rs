@@ -1,13 +1,9 @@
 //! Salvage: files with boundaries, and with what only looks like one.
 
 use cases::symbols::{ALPHABET, PIECES};
-use cases::{damage, tear, Grammar, Random};
 
 use crate::exhaustive;
 use crate::judge::Judge;
-
-/// Items in a file by grammar, at most.
-const ITEMS: usize = 12;
 
 /// Lengths at which a place of 8, 16 or 24 bits is full.
 const LENGTHS: [usize; 14] = [
@@ -59,59 +55,5 @@ fn at_place(judge: &mut Judge, place: usize, end: &[u8], check: fn(&mut Judge, &
             file[place - 1] = last;
         }
         check(judge, &file);
-    }
-}
-
-/// Clears `out` and writes a file by grammar into it, most items on lines of their own.
-fn write(random: &mut Random, out: &mut Vec<u8>, odd: usize) {
-    out.clear();
-    Grammar { random, out, odd }.lines(ITEMS);
-}
-
-/// Files by grammar, half of them with odd tokens.
-pub fn grammar(judge: &mut Judge, seed: u64, long: bool) {
-    let mut random = Random::new(seed, 8);
-    let mut file = Vec::new();
-    for turn in 0..if long { 400_000 } else { 10_000 } {
-        write(&mut random, &mut file, [usize::MAX, 80][turn % 2]);
-        judge.check(&file);
-    }
-}
-
-/// Files by grammar, with damage of all sorts and torn.
-pub fn damaged(judge: &mut Judge, seed: u64, long: bool) {
-    let mut random = Random::new(seed, 9);
-    let (mut file, mut other, mut copy) = (Vec::new(), Vec::new(), Vec::new());
-    for _ in 0..if long { 150_000 } else { 3_000 } {
-        std::mem::swap(&mut file, &mut other);
-        write(&mut random, &mut file, usize::MAX);
-        for _ in 0..8 {
-            copy.clone_from(&file);
-            spoil(&mut random, &mut copy, &other);
-            judge.check(&copy);
-        }
-    }
-}
-
-/// Damages a file in some places and tears it in others.
-pub fn spoil(random: &mut Random, file: &mut Vec<u8>, other: &[u8]) {
-    for _ in 0..random.below(3) {
-        damage(random, file, other);
-    }
-    for _ in 0..random.below(3) {
-        tear(random, file);
-    }
-}
-
-/// Files by grammar, torn or not, with every kind of room.
-pub fn rooms(judge: &mut Judge, seed: u64, long: bool) {
-    let mut random = Random::new(seed, 10);
-    let mut file = Vec::new();
-    for turn in 0..if long { 60_000 } else { 1_000 } {
-        write(&mut random, &mut file, [usize::MAX, 80][turn % 2]);
-        if turn % 3 == 0 {
-            tear(&mut random, &mut file);
-        }
-        judge.check_rooms(&file);
     }
 }
