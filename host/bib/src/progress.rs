@@ -6,6 +6,9 @@ use std::time::{Duration, Instant};
 /// Work is long after this time; and the line changes no more often.
 const PATIENCE: Duration = Duration::from_millis(300);
 
+/// The most characters that are shown: a line that the terminal broke could not be cleared.
+const MOST: usize = 79;
+
 /// Back to the beginning of the line, and clear it.
 const AGAIN: &str = "\r\x1b[K";
 
@@ -35,7 +38,8 @@ impl Progress {
     /// Shows where the work is, if it has been long enough since the last time.
     pub fn show(&mut self, line: impl FnOnce() -> String) {
         if self.is_terminal && self.last.elapsed() >= PATIENCE {
-            let _ = write!(io::stderr(), "{AGAIN}{}", line());
+            let line: String = line().chars().take(MOST).collect();
+            let _ = write!(io::stderr(), "{AGAIN}{line}");
             self.shown = true;
             self.last = Instant::now();
         }

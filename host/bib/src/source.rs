@@ -73,8 +73,10 @@ fn stdin() -> io::Result<File> {
 
 /// What can be read, but not more than `most`.
 fn drained(file: File, most: u64) -> io::Result<Vec<u8>> {
-    let known = file.metadata()?.len();
-    let mut bytes = Vec::with_capacity(known.min(most) as usize);
+    let known = file.metadata()?.len().min(most);
+    let mut bytes = Vec::new();
+    // A length that no memory has is a sentence, not an abort.
+    bytes.try_reserve_exact(usize::try_from(known).unwrap_or(usize::MAX))?;
     file.take(most).read_to_end(&mut bytes)?;
     Ok(bytes)
 }

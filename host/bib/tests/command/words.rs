@@ -52,6 +52,19 @@ fn unreadable_files() {
     shell(line).says(2, "bib: cannot read <stdin>: bad file descriptor\n");
 }
 
+/// A file of more bytes than there may be memory.
+#[test]
+fn file_beyond_memory() {
+    let file = Scratch::new("sparse.rows", b"");
+    let made = std::fs::File::options().write(true).open(&file.0);
+    made.and_then(|made| made.set_len(1 << 33))
+        .expect("a file can be long and empty");
+    let name = file.name();
+    let sentence = format!("bib: cannot read {name}: out of memory\n");
+    shell(&format!("ulimit -v 1000000; $BIB unpack {name}")).says(2, &sentence);
+    bib(&["rows", name], b"").is(1, "refused 1 0 0\n");
+}
+
 /// After `--` a word is a file, though it begins with `-`.
 #[test]
 fn files_that_look_like_words() {
