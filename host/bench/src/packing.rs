@@ -7,32 +7,38 @@ use std::hint::black_box;
 use crate::shapes::Shape;
 use crate::timing::{growth, Times};
 
-/// Measured for the rows of one text: the packed bytes, and both ways of both.
+/// Measured for the rows of one text: the packed bytes, and both ways.
 struct Measured {
     bytes: usize,
-    pack: Pair,
-    unpack: Pair,
+    pack: Way,
+    unpack: Way,
 }
 
-struct Pair {
+/// One way: the Rust packer in one pass, the one that judges all before it writes, and the proved
+/// function, which does so too.
+struct Way {
     rust: Times,
+    judging: Times,
     proved: Times,
 }
 
-impl Pair {
+impl Way {
     fn new() -> Self {
         Self {
             rust: Times::new(),
+            judging: Times::new(),
             proved: Times::new(),
         }
     }
 
     fn print(&self, name: &str, bytes: usize) {
-        println!("    {name:6} Rust    {}", self.rust.speed(bytes));
+        println!("    {name:6} Rust           {}", self.rust.speed(bytes));
+        println!("    {name:6} judging first  {}", self.judging.speed(bytes));
         println!(
-            "    {name:6} proved  {}, ratio {}",
+            "    {name:6} proved         {}, ratio {}, to judging first {}",
             self.proved.speed(bytes),
-            self.rust.ratio(&self.proved)
+            self.rust.ratio(&self.proved),
+            self.judging.ratio(&self.proved)
         );
     }
 }
@@ -55,14 +61,18 @@ fn measure(text: &[u8], rounds: usize) -> Measured {
     let bytes = agreed_bytes(&rows);
     let (mut rust_bytes, mut rust_rows) = (bytes.clone(), rows.clone());
     let (mut lent_bytes, mut lent_rows) = (bytes.clone(), rows.clone());
-    let (mut pack, mut unpack) = (Pair::new(), Pair::new());
+    let (mut pack, mut unpack) = (Way::new(), Way::new());
     for _ in 0..rounds {
         // The compiler sees into the Rust packer, and is not to see that nobody reads its output.
         let rust = || packer::pack_into(black_box(&rows), black_box(&mut rust_bytes));
         pack.rust.run(rust);
+        let rust = || packer::judge_and_pack_into(black_box(&rows), black_box(&mut rust_bytes));
+        pack.judging.run(rust);
         pack.proved.run(|| proved::pack(&rows, &mut lent_bytes));
         let rust = || packer::unpack_into(black_box(&bytes), black_box(&mut rust_rows));
         unpack.rust.run(rust);
+        let rust = || packer::judge_and_unpack_into(black_box(&bytes), black_box(&mut rust_rows));
+        unpack.judging.run(rust);
         unpack.proved.run(|| proved::unpack(&bytes, &mut lent_rows));
     }
     let bytes = bytes.len();

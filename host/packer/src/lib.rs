@@ -7,7 +7,9 @@
 mod check;
 mod rows;
 
-pub use rows::{pack_into, unpack_into, BadRows, LAST_PLACE};
+pub use rows::{
+    judge_and_pack_into, judge_and_unpack_into, pack_into, unpack_into, BadRows, LAST_PLACE,
+};
 
 /// Numbers of a row, and bytes of a packed one.
 pub const NUMBERS: usize = 4;

@@ -1,16 +1,31 @@
 //! 01's printed case, and what the document says of the sequence, details, places and lengths.
 
-use packer::{pack_into, unpack_into, BadRows, LAST_PLACE};
+use packer::{
+    judge_and_pack_into, judge_and_unpack_into, pack_into, unpack_into, BadRows, LAST_PLACE,
+};
 
+/// What both forms answer. Neither output is empty before, so that what is left from before would
+/// show; the one that judges first leaves it on a refusal.
 fn packed(rows: &[u32]) -> Result<Vec<u8>, BadRows> {
-    // Not empty, so that bytes left from before would show.
-    let mut bytes = vec![0xEE; 9];
-    pack_into(rows, &mut bytes).map(|()| bytes)
+    let (mut bytes, mut judged) = (vec![0xEE; 9], vec![0xEE; 9]);
+    let answer = pack_into(rows, &mut bytes).map(|()| bytes);
+    assert_eq!(
+        judge_and_pack_into(rows, &mut judged).is_ok(),
+        answer.is_ok()
+    );
+    assert_eq!(&judged, answer.as_ref().unwrap_or(&vec![0xEE; 9]));
+    answer
 }
 
 fn unpacked(bytes: &[u8]) -> Result<Vec<u32>, BadRows> {
-    let mut rows = vec![77; 9];
-    unpack_into(bytes, &mut rows).map(|()| rows)
+    let (mut rows, mut judged) = (vec![77; 9], vec![77; 9]);
+    let answer = unpack_into(bytes, &mut rows).map(|()| rows);
+    assert_eq!(
+        judge_and_unpack_into(bytes, &mut judged).is_ok(),
+        answer.is_ok()
+    );
+    assert_eq!(&judged, answer.as_ref().unwrap_or(&vec![77; 9]));
+    answer
 }
 
 /// Rows of these kinds, all at 3..5, causes with detail 7.
