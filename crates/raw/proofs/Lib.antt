@@ -12,6 +12,7 @@ pub mod Leads
 pub mod Quiet
 pub mod Rules
 pub mod Few
+pub mod Early
 pub mod Strict
 pub mod Joins
 pub mod Bare

@@ -34,6 +34,7 @@ use Rattle.raw.proofs.Loop.{many-turn}
 use Rattle.raw.proofs.Entries.{entry-good, file-turn-good, file-good}
 use Rattle.raw.proofs.Rules.{file-rules}
 use Rattle.raw.proofs.Few.{file-few}
+use Rattle.raw.proofs.Early.{file-early}
 
 -- ---- no fuel
 
@@ -157,7 +158,11 @@ file-accepts s q rs o e =
 file-refuses : (s : List ℕ) (f : Fault) → file s 0 ≡ bad f → Refusal s f
 file-refuses s f e =
     let r : Refused s 0 f = subst (Traced s 0) e (file-good .traced s 0) in
-    record { number = (omega (arith, r .least), r .most); place = reach-inside (r .place) (omega arith) }
+    record {
+      number = (omega (arith, r .least), r .most);
+      place = reach-inside (r .place) (omega arith);
+      early = file-early s 0 f e;
+    }
 
 -- by what strict reading is: a text too long, one that is not UTF-8, or the file
 module _ (s : List ℕ) (P : Out → Type 0) (long : P (bad TooLong)) (ill : (n : ℕ) → n < length s → P (bad (NotUtf8 n))) (read : Octets s → P (file s 0)) where
@@ -179,15 +184,15 @@ accepts s q rs =
     (λ e. let z : _≡_ {A = ℕ} 0 1 = cc in absurd (omega arith)) (λ n h e. let z : _≡_ {A = ℕ} 0 1 = cc in absurd (omega arith))
     (file-accepts s q rs)
 
--- the number and the place of a refusal that was made here
+-- a refusal that was made here
 made : (s : List ℕ) (g f : Fault) → bad g ≡ bad f → Refusal s g → Refusal s f
 made s g f e r = let q : g ≡ f = cc in subst (Refusal s) q r
 
 refuses : (s : List ℕ) (f : Fault) → strict s ≡ bad f → Refusal s f
 refuses s f =
     strict-by s (λ o. o ≡ bad f → Refusal s f)
-    (λ e. made s TooLong f e (record { number = (omega arith, omega arith); place = omega arith }))
-    (λ n h e. made s (NotUtf8 n) f e (record { number = (omega arith, omega arith); place = omega arith }))
+    (λ e. made s TooLong f e (record { number = (omega arith, omega arith); place = omega arith; early = λ x. absurd (omega arith) }))
+    (λ n h e. made s (NotUtf8 n) f e (record { number = (omega arith, omega arith); place = omega arith; early = λ x. absurd (omega arith) }))
     (λ o. file-refuses s f)
 
 decides : (s : List ℕ) (q a : ℕ) (rs : List Row) → strict s ≡ again q rs a → ⊥

@@ -3,17 +3,21 @@
 -- Assumes nothing.
 use Prim.Native.Nat.{ℕ, _+_, _≤_, _<_}
 use mathlib.Core.Path.{_≡_}
-use mathlib.Core.Bool.{true, false}
+use mathlib.Core.Bool.{Bool, true, false, _||_}
 use mathlib.Core.List.{List, [], _∷_, _++_}
 use lib.ListN.{length, getD, take}
 use Rattle.text.specs.Range.{within}
 use Rattle.text.specs.Utf8.{tail, isBoundary}
+use Rattle.text.specs.Class.{isIdStart, holdsOf}
 use Rattle.text.specs.Scan.{see}
+use Rattle.text.specs.declared.scanner.Seen.{Seen}
+use Rattle.text.specs.declared.scanner.Seen.the-variants.{End, Char}
+use Rattle.text.specs.declared.class.Test.the-variants as test
 use Rattle.raw.specs.declared.fault.Fault.{Fault}
 use Rattle.raw.specs.declared.fault.Fault.the-variants.{TooLong, NotUtf8, UnexpectedEof, ExpectedIdentifier, ExpectedOpeningBrace, ExpectedClosingBrace, ExpectedComma, ExpectedQuotationMark, ExpectedEquals, UnexpectedDecimalPoint, NoRoom}
 use Rattle.raw.specs.Row.{Row, moved}
 use Rattle.raw.specs.Reader.{Out, ok, again, bad, after}
-use Rattle.raw.specs.Grammar.{entry, fileTurn, file}
+use Rattle.raw.specs.Grammar.{is, entry, fileTurn, file}
 use Rattle.raw.specs.Read.{numberOf, startOf, strict}
 use Rattle.raw.specs.Rules.{isRows, clean}
 
@@ -45,6 +49,11 @@ shifted d (bad f) = bad (faultUp d f)
 -- t goes on no character of the text before it
 abbrev pub Fresh : List ℕ → Type 0
 Fresh t = within tail (getD t 0 256) ≡ false
+
+-- a value may begin with what is seen: a digit, a name's first character, a brace or a quote
+abbrev pub beginsValue : Seen → Bool
+beginsValue End = false
+beginsValue (Char c n) = holdsOf test.Digit c || isIdStart c || is 0x7B c || is 0x22 c
 
 -- the starts never fall, from n on
 unfoldable pub Rising : ℕ → List Row → Type 0
@@ -78,6 +87,8 @@ pub record Accepted (s : List ℕ) (q : ℕ) (rs : List Row) : Type 0 where
 pub record Refusal (s : List ℕ) (f : Fault) : Type 0 where
   pub number : (1 ≤ numberOf f) × (numberOf f ≤ 10)
   pub place : startOf f ≤ length s
+  -- 3 is at the end of the text, or before it where no value begins
+  pub early : numberOf f ≡ 3 → beginsValue (see s (startOf f)) ≡ false
 
 pub record Strict : Type 0 where
   -- the fuel of a loop never runs out: a file is its first item, and then the file
