@@ -149,8 +149,8 @@ impl Finding {
     }
 
     /// The Rust has one refusal for a text that ends too early and for a value that does not
-    /// begin: only the second can have a place before the end (`singleField` of
-    /// crates/raw/specs/Grammar.antt).
+    /// begin: only the second can have a place before the end (`early` of
+    /// crates/raw/specs/Strict.antt).
     fn what(&self, reason: Reason) -> &'static str {
         match reason {
             Reason::UnexpectedEof if self.is_at_end() => "the text ends too early",
