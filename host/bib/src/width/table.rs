@@ -1,4 +1,4 @@
-//! Made by host/bib/widths from Unicode 15.0.0.
+//! Made by host/bib/widths from Unicode 15.0.0, with changes that it names. NOTICE has the licence.
 
 /// Mn, Me and Cf but the soft hyphen, and medial and final Hangul letters.
 #[rustfmt::skip]
