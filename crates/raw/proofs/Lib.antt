@@ -19,6 +19,8 @@ pub mod Bare
 pub mod Bounds
 pub mod ByteTurns
 pub mod Bytes
+pub mod Blocks
+pub mod Quotes
 pub mod Eaten
 pub mod Enclosed
 pub mod EntryWays
@@ -31,6 +33,7 @@ pub mod Steps
 pub mod Turns
 pub mod FieldWays
 pub mod Fields
+pub mod Elements
 pub mod Numbers
 pub mod Halves
 pub mod Unique

@@ -7,3 +7,4 @@ pub mod Rules
 pub mod Strict
 pub mod Worked
 pub mod Numbers
+pub mod Inner

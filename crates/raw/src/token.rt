@@ -13,7 +13,7 @@ ghost use Rattle.raw.specs.Says.{stepOf, Onward};
 pub fn comma(s: &[u8], at: usize) -> Step
     ensures { λ r. ⌜ (r ≡ stepOf (comma (now (s .entry)) at)) × Onward (length (now (s .entry))) 1 at r ⌝ }
 {
-    let next = scanner::eat_if(s, at, Test::Comma);
+    let next = scanner::eat_byte(s, at, 0x2c);
     if next == at {
         return Step::Refused(Fault::ExpectedComma(at));
     }
@@ -62,7 +62,7 @@ pub fn closing(s: &[u8], at: usize) -> Step
 pub fn quote(s: &[u8], at: usize) -> Step
     ensures { λ r. ⌜ (r ≡ stepOf (quote (now (s .entry)) at)) × Onward (length (now (s .entry))) 1 at r ⌝ }
 {
-    let next = scanner::eat_if(s, at, Test::QuotationMark);
+    let next = scanner::eat_byte(s, at, 0x22);
     if next == at {
         return Step::Refused(Fault::ExpectedQuotationMark(at));
     }
@@ -73,7 +73,7 @@ pub fn quote(s: &[u8], at: usize) -> Step
 pub fn equals(s: &[u8], at: usize) -> Step
     ensures { λ r. ⌜ (r ≡ stepOf (equals (now (s .entry)) at)) × Onward (length (now (s .entry))) 1 at r ⌝ }
 {
-    let next = scanner::eat_if(s, at, Test::Equals);
+    let next = scanner::eat_byte(s, at, 0x3d);
     if next == at {
         return Step::Refused(Fault::ExpectedEquals(at));
     }
@@ -84,11 +84,11 @@ pub fn equals(s: &[u8], at: usize) -> Step
 pub fn comment(s: &[u8], at: usize) -> usize
     ensures { λ r. ⌜ (Step.At r ≡ stepOf (comment (now (s .entry)) at)) × (at ≤ r) × (r ≤ max at (length (now (s .entry)))) ⌝ }
 {
-    let next = scanner::eat_if(s, at, Test::Percent);
+    let next = scanner::eat_byte(s, at, 0x25);
     if next == at {
         return at;
     }
-    scanner::eat_until(s, next, Test::Newline)
+    scanner::eat_line(s, next)
 }
 
 // Eat an entry key.
@@ -102,9 +102,9 @@ pub fn key(s: &[u8], at: usize) -> usize
 pub fn ident(s: &[u8], at: usize) -> Step
     ensures { λ r. ⌜ (r ≡ stepOf (ident (now (s .entry)) at)) × Onward (length (now (s .entry))) 1 at r ⌝ }
 {
-    let next = scanner::eat_if(s, at, Test::IdStart);
+    let next = scanner::eat_start(s, at);
     if next == at {
         return Step::Refused(Fault::ExpectedIdentifier(at));
     }
-    Step::At(scanner::eat_while(s, next, Test::IdContinue))
+    Step::At(scanner::eat_id(s, next))
 }

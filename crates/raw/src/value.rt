@@ -9,13 +9,141 @@ use crate::token;
 use text::class::Test;
 use text::scanner;
 ghost use mathlib.Core.Path.{_≡_};
-ghost use Prim.Native.Nat.{_+_};
+ghost use mathlib.Core.Bool.{true};
+ghost use Prim.Native.Nat.{_+_, _-_, _≤_, _<_, min};
 ghost use lib.ListN.{length};
+ghost use Rattle.raw.specs.Inner.{Plain, PlainTo, PlainRun, Inside, InsideTo, InsideRun};
 ghost use Rattle.raw.specs.Grammar.{quoted, string, stringLiteral, number, inBraces, braced, singleField, abbrElement, abbrTurn, abbrField};
 ghost use Rattle.raw.specs.Says.{stepOf, Onward, refusedOf, Says, Within, SaysTurn, WithinTurn, Ready};
 
-// The place of the quote that closes a string, from inside it.
-fn quoted(s: &[u8], at: usize) -> Step
+// How far two bytes are apart.
+fn apart(a: u8, b: u8) -> u8
+    ensures { λ r. ⌜ r ≡ (a - b) + (b - a) ⌝ }
+{
+    if a < b { b - a } else { a - b }
+}
+
+// What is left of a byte when one is taken away.
+fn less_one(a: u8) -> u8
+    ensures { λ r. ⌜ r ≡ a - 1 ⌝ }
+{
+    if a < 1 { 0 } else { a - 1 }
+}
+
+fn lesser(a: u8, b: u8) -> u8
+    ensures { λ r. ⌜ r ≡ min a b ⌝ }
+{
+    if a < b { a } else { b }
+}
+
+fn least(a: u16, b: u16) -> u16
+    ensures { λ r. ⌜ r ≡ min a b ⌝ }
+{
+    if a < b { a } else { b }
+}
+
+// 0 where a byte may be a brace or a backslash. No comparison decides: so sixteen are made at once.
+fn distance(b: u8) -> u8
+    ensures { λ r. ⌜ (0 < r → Plain b) ⌝ }
+{
+    lesser(apart(b, 0x5c), less_one(apart(b, 0x7c)))
+}
+
+fn place(b: u8, k: u16) -> u16
+    requires { ⌜ k < 16 ⌝ }
+    ensures { λ r. ⌜ (k < r → Plain b) × (k ≤ r) ⌝ }
+{
+    let d = distance(b) as u16;
+    d * 16 + k
+}
+
+// How many of the sixteen bytes from a place on stand before the first that may be a brace or a backslash.
+fn plain_part(s: &[u8], at: usize) -> usize
+    requires { ⌜ at + 16 ≤ length (now s) ⌝ }
+    ensures { λ r. ⌜ PlainTo (now (s .entry)) at r × (r ≤ 16) ⌝ }
+{
+    let mut m: u16 = 16;
+    let mut k: u16 = 0;
+    while k < 16 {
+        let i = at + k as usize;
+        m = least(m, place(s[i], k));
+        k += 1;
+    }
+    m as usize
+}
+
+// Whether sixteen bytes stand from a place on.
+fn has_sixteen(s: &[u8], at: usize) -> bool
+    ensures { λ r. ⌜ (r ≡ true → at + 16 ≤ length (now (s .entry))) ⌝ }
+{
+    if s.len() < 16 {
+        return false;
+    }
+    at <= s.len() - 16
+}
+
+// A place from which on there may be a brace or a backslash, and before which there is none, by sixteen bytes at a time.
+fn past_plain(s: &[u8], at: usize) -> usize
+    ensures { λ r. ⌜ PlainRun (now (s .entry)) at r ⌝ }
+{
+    let mut i = at;
+    while has_sixteen(s, i) {
+        let k = plain_part(s, i);
+        if k < 16 {
+            return i + k;
+        }
+        i += 16;
+    }
+    i
+}
+
+// 0 where a byte may be a quote or a backslash.
+fn quote_distance(b: u8) -> u8
+    ensures { λ r. ⌜ (0 < r → Inside b) ⌝ }
+{
+    lesser(apart(b, 0x5c), apart(b, 0x22))
+}
+
+fn quote_place(b: u8, k: u16) -> u16
+    requires { ⌜ k < 16 ⌝ }
+    ensures { λ r. ⌜ (k < r → Inside b) × (k ≤ r) ⌝ }
+{
+    let d = quote_distance(b) as u16;
+    d * 16 + k
+}
+
+// How many of the sixteen bytes from a place on stand before the first that may be a quote or a backslash.
+fn quote_part(s: &[u8], at: usize) -> usize
+    requires { ⌜ at + 16 ≤ length (now s) ⌝ }
+    ensures { λ r. ⌜ InsideTo (now (s .entry)) at r × (r ≤ 16) ⌝ }
+{
+    let mut m: u16 = 16;
+    let mut k: u16 = 0;
+    while k < 16 {
+        let i = at + k as usize;
+        m = least(m, quote_place(s[i], k));
+        k += 1;
+    }
+    m as usize
+}
+
+// A place from which on there may be a quote or a backslash, and before which there is none, by sixteen bytes at a time.
+fn past_quoted(s: &[u8], at: usize) -> usize
+    ensures { λ r. ⌜ InsideRun (now (s .entry)) at r ⌝ }
+{
+    let mut i = at;
+    while has_sixteen(s, i) {
+        let k = quote_part(s, i);
+        if k < 16 {
+            return i + k;
+        }
+        i += 16;
+    }
+    i
+}
+
+// The same, byte by byte.
+fn quoted_end(s: &[u8], at: usize) -> Step
     ensures { λ r. ⌜ (r ≡ stepOf (quoted (now (s .entry)) at)) × Onward (length (now (s .entry))) 0 at r ⌝ }
 {
     let mut i = at;
@@ -36,6 +164,38 @@ fn quoted(s: &[u8], at: usize) -> Step
         }
     }
     Step::Refused(Fault::UnexpectedEof(i))
+}
+
+// The place of the quote that closes a string, from inside it. Two bytes to a turn, and then sixteen.
+fn quoted(s: &[u8], at: usize) -> Step
+    ensures { λ r. ⌜ (r ≡ stepOf (quoted (now (s .entry)) at)) × Onward (length (now (s .entry))) 0 at r ⌝ }
+{
+    let mut i = at;
+    while has_sixteen(s, i) {
+        match s[i] {
+            0x22 => {
+                return Step::At(i);
+            }
+            0x5c => {
+                i += 2;
+            }
+            _ => {
+                let j = i + 1;
+                match s[j] {
+                    0x22 => {
+                        return Step::At(j);
+                    }
+                    0x5c => {
+                        i = j + 2;
+                    }
+                    _ => {
+                        i = past_quoted(s, j + 1);
+                    }
+                }
+            }
+        }
+    }
+    quoted_end(s, i)
 }
 
 // Eat a string.
@@ -102,7 +262,7 @@ fn in_braces(s: &[u8], at: usize) -> Step
                 }
             }
             _ => {
-                i += 1;
+                i = past_plain(s, i + 1);
             }
         }
     }
@@ -180,8 +340,8 @@ fn single_field(s: &[u8], base: usize, at: usize, rows: &mut [u32], n: usize) ->
     Answer::Refused(Fault::UnexpectedEof(at))
 }
 
-// Eat an element of an abbreviation.
-fn abbr_element(s: &[u8], base: usize, at: usize, rows: &mut [u32], n: usize) -> Answer
+// Eat an element of an abbreviation, whatever it begins with.
+fn any_element(s: &[u8], base: usize, at: usize, rows: &mut [u32], n: usize) -> Answer
     requires { ⌜ Ready base (length (now s)) at n ⌝ }
     ensures says { λ r. ⌜ Says base (abbrElement (now (s .entry)) at) n (now (rows .entry)) r (now (rows .exit)) ⌝ }
     ensures within { λ r. ⌜ Within (length (now (s .entry))) 1 at n r ⌝ }
@@ -207,6 +367,25 @@ fn abbr_element(s: &[u8], base: usize, at: usize, rows: &mut [u32], n: usize) ->
     single_field(s, base, at, rows, n)
 }
 
+// Eat an element of an abbreviation: most are in braces or quotes.
+fn abbr_element(s: &[u8], base: usize, at: usize, rows: &mut [u32], n: usize) -> Answer
+    requires { ⌜ Ready base (length (now s)) at n ⌝ }
+    ensures says { λ r. ⌜ Says base (abbrElement (now (s .entry)) at) n (now (rows .entry)) r (now (rows .exit)) ⌝ }
+    ensures within { λ r. ⌜ Within (length (now (s .entry))) 1 at n r ⌝ }
+{
+    if s.len() <= at {
+        return any_element(s, base, at, rows, n);
+    }
+    let b = s[at];
+    if b == 0x7b {
+        return braced(s, base, at, rows, n);
+    }
+    if b == 0x22 {
+        return string_literal(s, base, at, rows, n);
+    }
+    any_element(s, base, at, rows, n)
+}
+
 // Eat an element, and a number sign after it if another follows.
 fn abbr_turn(s: &[u8], base: usize, at: usize, rows: &mut [u32], n: usize) -> Turn
     requires { ⌜ Ready base (length (now s)) at n ⌝ }
@@ -220,7 +399,7 @@ fn abbr_turn(s: &[u8], base: usize, at: usize, rows: &mut [u32], n: usize) -> Tu
         }
         Answer::Next { at: p1, n: n1 } => {
             let p2 = scanner::eat_whitespace(s, p1);
-            let p3 = scanner::eat_if(s, p2, Test::Hash);
+            let p3 = scanner::eat_byte(s, p2, 0x23);
             if p3 == p2 {
                 return Turn::Done { at: p2, n: n1 };
             }

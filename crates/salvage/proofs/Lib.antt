@@ -12,5 +12,6 @@ pub mod Undamaged
 pub mod Begins
 pub mod Demand3
 pub mod PieceWays
+pub mod PieceEnd
 pub mod FileWays
 pub mod Unique

@@ -5,26 +5,17 @@ use raw::fault::Fault;
 use raw::file;
 use raw::row;
 use raw::row::Kind;
+use text::scanner;
 use text::utf8;
 use text::utf8::Validity;
 ghost use mathlib.Core.Path.{_≡_};
 ghost use Prim.Native.Nat.{_≤_, _<_};
-ghost use lib.ListN.{length, drop};
+ghost use lib.ListN.{length};
 ghost use Rattle.raw.specs.Row.{moved, overlay};
 ghost use Rattle.raw.specs.Read.{strict};
 ghost use Rattle.raw.specs.Says.{answerOf, Within, Ready};
-ghost use Rattle.salvage.specs.Salvage.{head, damaged};
+ghost use Rattle.salvage.specs.Salvage.{damaged};
 ghost use Rattle.salvage.specs.Inner.{Ends, Puts, Accepted, Piece, Damage};
-
-// Whether an entry may begin at a place.
-fn head_at(s: &[u8], at: usize) -> bool
-    ensures { λ r. ⌜ r ≡ head (drop at (now (s .entry))) ⌝ }
-{
-    if at < s.len() {
-        return s[at] == 0x40;
-    }
-    false
-}
 
 // The end of the piece that begins at a place: after the first newline that a head follows, or at the end of the file.
 pub fn piece_end(s: &[u8], at: usize) -> usize
@@ -33,16 +24,14 @@ pub fn piece_end(s: &[u8], at: usize) -> usize
 {
     let mut i = at;
     loop {
-        let b = s[i];
-        i += 1;
-        if s.len() <= i {
-            return i;
+        let j = scanner::find(s, i + 1, 0x40);
+        if s.len() <= j {
+            return j;
         }
-        if b == 0x0a {
-            if head_at(s, i) {
-                return i;
-            }
+        if s[j - 1] == 0x0a {
+            return j;
         }
+        i = j;
     }
 }
 

@@ -14,5 +14,7 @@ pub mod Encoding
 pub mod Masks
 pub mod Seen
 pub mod Skip
+pub mod Quick
+pub mod Find
 pub mod Moved
 pub mod Unique

@@ -16,7 +16,7 @@ use Rattle.text.specs.declared.class.Masks.{Masks}
 use Rattle.text.specs.declared.class.Test.{Test}
 use Rattle.text.proofs.Bytes.{below, each}
 
-beq-eq : (a b : Bool) → T (Bool·beq a b) → a ≡ b
+pub beq-eq : (a b : Bool) → T (Bool·beq a b) → a ≡ b
 beq-eq true true t = refl
 beq-eq true false t = absurd t
 beq-eq false true t = absurd t

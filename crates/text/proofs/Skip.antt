@@ -19,7 +19,7 @@ use Rattle.text.specs.Walk.{Look, answer, pass, walkFrom, walk}
 use Rattle.text.specs.Range.{within}
 use Rattle.text.specs.Utf8.{tail, isChar, width, value, octets}
 use Rattle.text.specs.Class.{holdsOf}
-use Rattle.text.specs.Scan.{code, rest, see, pastOne, lookPast, skip, Ahead, Inside}
+use Rattle.text.specs.Scan.{code, rest, see, pastOne, single, lookPast, skip, Ahead, Inside}
 use Rattle.text.specs.Inner.{hasBit, AsciiOf, wants, AsciiRun}
 use Rattle.text.specs.declared.class.Masks.{Masks}
 use Rattle.text.specs.declared.class.Test.{Test}
@@ -30,7 +30,7 @@ use Rattle.text.proofs.Grammar.{width-char}
 use Rattle.text.proofs.Shape.{char-further, width-inside, width-tail}
 use Rattle.text.proofs.Values.{encodes}
 use Rattle.text.proofs.Places.{drop-next}
-use Rattle.text.proofs.Seen.{see-at, see-inside, see-ascii}
+use Rattle.text.proofs.Seen.{see-end, see-at, see-inside, see-ascii}
 
 -- ---- a character that is not ASCII
 
@@ -256,6 +256,35 @@ past-ahead p s i (Char c n) h = go (p c)
 
 pub passed : (p : ℕ → Bool) (s : List ℕ) (i : ℕ) {r : ℕ} → r ≡ pastOne p i (see s i) → (r ≡ pastOne p i (see s i)) × Ahead s i r
 passed p s i e = (e, subst (Ahead s i) (sym e) (past-ahead p s i (see s i) (see-inside s i)))
+
+-- one byte of ASCII, by its bit
+module _ (t : Test) (m : Masks) (masks : AsciiOf t m) (s : List ℕ) (i : ℕ) (h : i < length s) (a : getD s i 0 < 0x80) {x : Bool} (q : x ≡ hasBit (m .low) (m .high) (getD s i 0)) where
+  pub bit-on : x ≡ true → (i + 1 ≡ pastOne (holdsOf t) i (see s i)) × Ahead s i (i + 1)
+  bit-on e = passed (holdsOf t) s i (rw (see-ascii s i h a, sym (masks .bits (getD s i 0) a), sym q, e))
+
+  pub bit-off : x ≡ false → (i ≡ pastOne (holdsOf t) i (see s i)) × Ahead s i i
+  bit-off e = passed (holdsOf t) s i (rw (see-ascii s i h a, sym (masks .bits (getD s i 0) a), sym q, e))
+
+pub bit-end : (t : Test) (s : List ℕ) (i : ℕ) → length s ≤ i → (i ≡ pastOne (holdsOf t) i (see s i)) × Ahead s i i
+bit-end t s i h = passed (holdsOf t) s i (rw (see-end s i h))
+
+-- one character of ASCII, by the byte
+module _ (x : ℕ) (k : x < 0x80) (s : List ℕ) (i : ℕ) where
+  pub single-end : length s ≤ i → (i ≡ pastOne (single x) i (see s i)) × Ahead s i i
+  single-end h = passed (single x) s i (rw (see-end s i h))
+
+  module _ (h : i < length s) where
+    pub single-on : getD s i 0 ≡ x → (i + 1 ≡ pastOne (single x) i (see s i)) × Ahead s i (i + 1)
+    single-on e = passed (single x) s i (rw (see-ascii s i h (omega arith), eq-eqb (getD s i 0) x e))
+
+    pub single-off : (getD s i 0 ≡ x → ⊥) → (i ≡ pastOne (single x) i (see s i)) × Ahead s i i
+    single-off e = passed (single x) s i (go (ltb (getD s i 0) 0x80) refl)
+      where
+        go : (t : Bool) → ltb (getD s i 0) 0x80 ≡ t → i ≡ pastOne (single x) i (see s i)
+        go true a = rw (see-ascii s i h (ltb-true _ _ a), ne-eqb (getD s i 0) x e)
+        go false a =
+            let w : 0x80 ≤ code (drop i s) = rw (drop-next s i h) (code-wide (getD s i 0) (drop (i + 1) s) (ltb-false _ _ a)) in
+            rw (see-at s i h, ne-eqb (code (drop i s)) x (λ q. omega arith))
 
 pub ran : (p : ℕ → Bool) (s : List ℕ) (i : ℕ) {r : ℕ} → r ≡ skip p s i → (r ≡ skip p s i) × Ahead s i r
 ran p s i e = (e, subst (Ahead s i) (sym e) (skip-ahead p s i))

@@ -2,7 +2,7 @@
 -- Assumes nothing.
 use Prim.Native.Nat.{ℕ, zero, suc, _+_, _-_, _/_, _%_, _^_, _≤_, _<_, max}
 use mathlib.Core.Path.{_≡_}
-use mathlib.Core.Bool.{Bool, true, false, cond, not, _&&_, Bool·beq}
+use mathlib.Core.Bool.{Bool, true, false, cond, not, _&&_, _||_, Bool·beq}
 use mathlib.Core.List.{List}
 use lib.ListN.{length, getD}
 use lib.Dec.{eqb, ltb}
@@ -53,3 +53,21 @@ pub record AsciiRun (low high : ℕ) (w : Bool) (s : List ℕ) (i r : ℕ) : Typ
   pub to : r ≤ max i (length s)
   pub passed : (k : ℕ) → i ≤ k → k < r → (k < length s) × (getD s k 0 < 0x80) × (Bool·beq (hasBit low high (getD s k 0)) w ≡ true)
   pub stopped : r < length s → getD s r 0 < 0x80 → Bool·beq (hasBit low high (getD s r 0)) w ≡ false
+
+-- a letter of ASCII, and white space of ASCII
+abbrev pub letterOf : ℕ → Bool
+letterOf b = within (0x61 – 0x7A) b || within (0x41 – 0x5A) b
+
+abbrev pub blankOf : ℕ → Bool
+blankOf b = eqb b 0x20 || within (0x09 – 0x0D) b
+
+-- none of the n bytes from i on is x
+abbrev pub Lack : ℕ → List ℕ → ℕ → ℕ → Type 0
+Lack x s i n = (k : ℕ) → k < n → getD s (i + k) 0 ≡ x → ⊥
+
+-- r is the first place from i on where x stands, or the end
+pub record Found (x : ℕ) (s : List ℕ) (i r : ℕ) : Type 0 where
+  pub from : i ≤ r
+  pub to : r ≤ max i (length s)
+  pub before : Lack x s i (r - i)
+  pub at : r < length s → getD s r 0 ≡ x

@@ -42,6 +42,10 @@ abbrev pub pastOne : (ℕ → Bool) → ℕ → Seen → ℕ
 pastOne p i End = i
 pastOne p i (Char c n) = cond (p c) n i
 
+-- the character x
+abbrev pub single : ℕ → ℕ → Bool
+single x c = eqb c x
+
 -- ---- while the characters pass the test p
 
 unfoldable pub lookPast : (ℕ → Bool) → ℕ → List ℕ → Look ℕ

@@ -1,23 +1,26 @@
 -- `raw::token::comment` meets its contract. Assumes nothing.
 use borrow.Author.Needs.{needs}
+use Rattle.text.specs.Class.{holdsOf}
 use Rattle.raw.proofs.Steps.{comment-off, comment-line}
 use Rattle.raw.proofs.token.comment.Statement.{statement}
 use Rattle.raw.proofs.token.comment.Tie as tie
 
-eat-if-requires : tie.Need-eat-if-requires
-eat-if-requires c κs = search needs
+eat-byte-requires : tie.Need-eat-byte-requires
+eat-byte-requires c κs = search needs
 
 returns : tie.Need-returns
+unfolding holdsOf
 returns c =
-    let a = c .before .before .before .args in comment-off (a .s .now) (a .at) (c .before .eat-if .ensures .0) (c .if1 .taken)
+    let a = c .before .before .before .args in comment-off (a .s .now) (a .at) (c .before .eat-byte .ensures .0) (c .if1 .taken)
 
-eat-until-requires : tie.Need-eat-until-requires
-eat-until-requires c κs = search needs
+eat-line-requires : tie.Need-eat-line-requires
+eat-line-requires c κs = search needs
 
 returns-2 : tie.Need-returns-2
+unfolding holdsOf
 returns-2 c =
     let a = c .before .before .before .before .args in
-    comment-line (a .s .now) (a .at) (c .before .before .eat-if .ensures .0) (c .before .if1 .left) (c .before .before .eat-if .ensures .1) (c .eat-until .ensures .0) (c .eat-until .ensures .1)
+    comment-line (a .s .now) (a .at) (c .before .before .eat-byte .ensures .0) (c .before .if1 .left) (c .before .before .eat-byte .ensures .1) (c .eat-line .ensures .0) (c .eat-line .ensures .1)
 
 pub comment-spec : {M : Type 1} → statement M
-comment-spec = tie.close (tie.spec eat-if-requires returns eat-until-requires returns-2)
+comment-spec = tie.close (tie.spec eat-byte-requires returns eat-line-requires returns-2)

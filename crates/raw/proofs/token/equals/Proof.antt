@@ -8,20 +8,20 @@ use Rattle.raw.proofs.Eaten.{need-off, need-on}
 use Rattle.raw.proofs.token.equals.Statement.{statement}
 use Rattle.raw.proofs.token.equals.Tie as tie
 
-eat-if-requires : tie.Need-eat-if-requires
-eat-if-requires c κs = search needs
+eat-byte-requires : tie.Need-eat-byte-requires
+eat-byte-requires c κs = search needs
 
 returns : tie.Need-returns
-unfolding equals
+unfolding equals holdsOf
 returns c =
     let a = c .before .before .before .args in
-    need-off (holdsOf Equals) ExpectedEquals (a .s .now) (a .at) (c .before .eat-if .ensures .0) (c .if1 .taken)
+    need-off (holdsOf Equals) ExpectedEquals (a .s .now) (a .at) (c .before .eat-byte .ensures .0) (c .if1 .taken)
 
 returns-2 : tie.Need-returns-2
-unfolding equals
+unfolding equals holdsOf
 returns-2 c =
     let a = c .before .before .before .args in
-    need-on (holdsOf Equals) ExpectedEquals (a .s .now) (a .at) (c .before .eat-if .ensures .0) (c .before .eat-if .ensures .1) (c .if1 .left)
+    need-on (holdsOf Equals) ExpectedEquals (a .s .now) (a .at) (c .before .eat-byte .ensures .0) (c .before .eat-byte .ensures .1) (c .if1 .left)
 
 pub equals-spec : {M : Type 1} → statement M
-equals-spec = tie.close (tie.spec eat-if-requires returns returns-2)
+equals-spec = tie.close (tie.spec eat-byte-requires returns returns-2)

@@ -8,20 +8,20 @@ use Rattle.raw.proofs.Eaten.{need-off, need-on}
 use Rattle.raw.proofs.token.quote.Statement.{statement}
 use Rattle.raw.proofs.token.quote.Tie as tie
 
-eat-if-requires : tie.Need-eat-if-requires
-eat-if-requires c κs = search needs
+eat-byte-requires : tie.Need-eat-byte-requires
+eat-byte-requires c κs = search needs
 
 returns : tie.Need-returns
-unfolding quote
+unfolding quote holdsOf
 returns c =
     let a = c .before .before .before .args in
-    need-off (holdsOf QuotationMark) ExpectedQuotationMark (a .s .now) (a .at) (c .before .eat-if .ensures .0) (c .if1 .taken)
+    need-off (holdsOf QuotationMark) ExpectedQuotationMark (a .s .now) (a .at) (c .before .eat-byte .ensures .0) (c .if1 .taken)
 
 returns-2 : tie.Need-returns-2
-unfolding quote
+unfolding quote holdsOf
 returns-2 c =
     let a = c .before .before .before .args in
-    need-on (holdsOf QuotationMark) ExpectedQuotationMark (a .s .now) (a .at) (c .before .eat-if .ensures .0) (c .before .eat-if .ensures .1) (c .if1 .left)
+    need-on (holdsOf QuotationMark) ExpectedQuotationMark (a .s .now) (a .at) (c .before .eat-byte .ensures .0) (c .before .eat-byte .ensures .1) (c .if1 .left)
 
 pub quote-spec : {M : Type 1} → statement M
-quote-spec = tie.close (tie.spec eat-if-requires returns returns-2)
+quote-spec = tie.close (tie.spec eat-byte-requires returns returns-2)

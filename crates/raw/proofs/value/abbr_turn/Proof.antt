@@ -2,6 +2,7 @@
 use native.Mathlib.Omega.{arith}
 use lib.ListN.{length}
 use borrow.Author.Needs.{needs}
+use Rattle.text.specs.Class.{holdsOf}
 use Rattle.raw.proofs.Saying.{says-at, turn-off}
 use Rattle.raw.proofs.Bounds.{answer-place}
 use Rattle.raw.proofs.Fields.{element-off, turn-last, turn-hash}
@@ -26,18 +27,19 @@ enum-known-r1-2 c = search needs
 eat-whitespace-requires : tie.Need-eat-whitespace-requires
 eat-whitespace-requires c κs = search needs
 
-eat-if-requires : tie.Need-eat-if-requires
-eat-if-requires c κs = search needs
+eat-byte-requires : tie.Need-eat-byte-requires
+eat-byte-requires c κs = search needs
 
 same-length-2 : tie.Need-same-length-2
 same-length-2 c = search needs
 
 returns-2 : tie.Need-returns-2
+unfolding holdsOf
 returns-2 c =
     let a = c .before .before .before .before .before .before .before .before .before .before .before .before .args in
     let len = length (a .s .now) in
     let k = answer-place len 1 (a .at) (a .n) (c .before .before .before .before .r12 .given .1) (c .before .before .before .before .before .before .before .before .abbr-element .ensures .1) (c .before .before .before .before .before .before .before .before .before .before .before .before .pre .place) in
-    (turn-last (a .s .now) (a .at) (says-at (c .before .before .before .before .r12 .given .1) (c .before .before .before .before .before .before .before .before .abbr-element .ensures .0)) (c .before .before .eat-whitespace .ensures .0) (c .before .eat-if .ensures .0) (c .if1 .taken), (omega arith, omega arith, omega arith))
+    (turn-last (a .s .now) (a .at) (says-at (c .before .before .before .before .r12 .given .1) (c .before .before .before .before .before .before .before .before .abbr-element .ensures .0)) (c .before .before .eat-whitespace .ensures .0) (c .before .eat-byte .ensures .0) (c .if1 .taken), (omega arith, omega arith, omega arith))
 
 eat-whitespace-requires-2 : tie.Need-eat-whitespace-requires-2
 eat-whitespace-requires-2 c κs = search needs
@@ -46,11 +48,12 @@ same-length-3 : tie.Need-same-length-3
 same-length-3 c = search needs
 
 returns-3 : tie.Need-returns-3
+unfolding holdsOf
 returns-3 c =
     let a = c .before .before .before .before .before .before .before .before .before .before .before .before .before .args in
     let len = length (a .s .now) in
     let k = answer-place len 1 (a .at) (a .n) (c .before .before .before .before .before .r12 .given .1) (c .before .before .before .before .before .before .before .before .before .abbr-element .ensures .1) (c .before .before .before .before .before .before .before .before .before .before .before .before .before .pre .place) in
-    (turn-hash (a .s .now) (a .at) (says-at (c .before .before .before .before .before .r12 .given .1) (c .before .before .before .before .before .before .before .before .before .abbr-element .ensures .0)) (c .before .before .before .eat-whitespace .ensures .0) (c .before .before .eat-if .ensures .0) (c .before .if1 .left) (c .eat-whitespace2 .ensures .0), (omega arith, omega arith, omega arith))
+    (turn-hash (a .s .now) (a .at) (says-at (c .before .before .before .before .before .r12 .given .1) (c .before .before .before .before .before .before .before .before .before .abbr-element .ensures .0)) (c .before .before .before .eat-whitespace .ensures .0) (c .before .before .eat-byte .ensures .0) (c .before .if1 .left) (c .eat-whitespace2 .ensures .0), (omega arith, omega arith, omega arith))
 
 pub abbr-turn-spec : {M : Type 1} → statement M
 abbr-turn-spec =
@@ -62,7 +65,7 @@ abbr-turn-spec =
     returns
     enum-known-r1-2
     eat-whitespace-requires
-    eat-if-requires
+    eat-byte-requires
     same-length-2
     returns-2
     eat-whitespace-requires-2

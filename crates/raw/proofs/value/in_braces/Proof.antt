@@ -1,9 +1,11 @@
--- `raw::value::in_braces` meets its contract: each byte is a turn of `bracedTurn`, over a character, or a part of one. Assumes nothing.
+-- `raw::value::in_braces` meets its contract: each byte is a turn of `bracedTurn`, over a character, or a part of one, and a run of plain ones is as many turns. Assumes nothing.
 use Prim.Native.Nat.{_-_, _≤_}
 use native.Mathlib.Omega.{arith}
 use lib.ListN.{length}
+use borrow.Author.Needs.{needs}
 use Rattle.raw.specs.Grammar.{bracedTurn}
 use Rattle.raw.proofs.Bytes.{Reached, reached}
+use Rattle.raw.proofs.Blocks.{braces-run}
 use Rattle.raw.proofs.ByteTurns.{braces-end, braces-open, braces-close, braces-closed, braces-cut, braces-escape, braces-plain}
 use Rattle.raw.proofs.value.in_braces.Statement.{statement}
 use Rattle.raw.proofs.value.in_braces.Tie as tie
@@ -65,14 +67,17 @@ loop-less-4 c = omega arith
 loop-again-4 : tie.Need-loop-again-4 Inv-loop μ-loop
 loop-again-4 c = (omega arith, braces-cut (c .before .before .before .before .loop .inv .1) (c .before .before .before .loop-test .taken) (c .before .match .keys3) (c .if2 .left))
 
-add-i-5 : tie.Need-add-i-5 Inv-loop μ-loop
-add-i-5 c = omega arith
+add-past-plain : tie.Need-add-past-plain Inv-loop μ-loop
+add-past-plain c = omega arith
+
+past-plain-requires : tie.Need-past-plain-requires Inv-loop μ-loop
+past-plain-requires c κs = search needs
 
 loop-less-5 : tie.Need-loop-less-5 Inv-loop μ-loop
-loop-less-5 c = omega arith
+loop-less-5 c = omega (arith, c .past-plain .ensures .from)
 
 loop-again-5 : tie.Need-loop-again-5 Inv-loop μ-loop
-loop-again-5 c = (omega arith, braces-plain (c .before .before .before .loop .inv .1) (c .before .before .loop-test .taken) (c .match .rest .0 .0 .1) (c .match .rest .0 .1) (c .match .rest .1))
+loop-again-5 c = let x = c .past-plain .ensures in (omega (arith, x .from), braces-run (braces-plain (c .before .before .before .before .loop .inv .1) (c .before .before .before .loop-test .taken) (c .before .match .rest .0 .0 .1) (c .before .match .rest .0 .1) (c .before .match .rest .1)) (omega arith) x)
 
 returns-2 : tie.Need-returns-2 Inv-loop μ-loop
 returns-2 c = braces-end (c .before .loop .inv .1) (c .loop-test .left)
@@ -100,7 +105,8 @@ in-braces-spec =
     loop-again-3
     loop-less-4
     loop-again-4
-    add-i-5
+    add-past-plain
+    past-plain-requires
     loop-less-5
     loop-again-5
     returns-2)

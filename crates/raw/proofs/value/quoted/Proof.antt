@@ -1,10 +1,12 @@
--- `raw::value::quoted` meets its contract: each byte is a turn of `quotedTurn`, over a character, or a part of one. Assumes nothing.
+-- `raw::value::quoted` meets its contract: two bytes are two turns of `quotedTurn`, and a run is as many as it has bytes. Assumes nothing.
 use Prim.Native.Nat.{_-_}
 use native.Mathlib.Omega.{arith}
 use lib.ListN.{length}
+use borrow.Author.Needs.{needs}
 use Rattle.raw.specs.Grammar.{quotedTurn}
 use Rattle.raw.proofs.Bytes.{Reached, reached}
-use Rattle.raw.proofs.ByteTurns.{quoted-end, quoted-closed, quoted-cut, quoted-escape, quoted-plain}
+use Rattle.raw.proofs.ByteTurns.{quoted-closed, quoted-plain}
+use Rattle.raw.proofs.Quotes.{quoted-run, quoted-far, quoted-rest}
 use Rattle.raw.proofs.value.quoted.Statement.{statement}
 use Rattle.raw.proofs.value.quoted.Tie as tie
 
@@ -17,41 +19,59 @@ abbrev μ-loop : tie.MeasureT-loop
 loop-holds : tie.Need-loop-holds Inv-loop μ-loop
 loop-holds c = reached
 
+has-sixteen-requires : tie.Need-has-sixteen-requires Inv-loop μ-loop
+has-sixteen-requires c κs = search needs
+
 shared-slice-read-match : tie.Need-shared-slice-read-match Inv-loop μ-loop
-shared-slice-read-match c = omega arith
+shared-slice-read-match c = omega (arith, c .before .before .has-sixteen .ensures (c .before .if1 .taken))
 
 returns : tie.Need-returns Inv-loop μ-loop
-returns c = quoted-closed (c .before .before .before .loop .inv) (c .before .before .loop-test .taken) (c .match .keys1)
+returns c = quoted-closed (c .before .before .before .before .loop .inv) (omega (arith, c .before .before .before .has-sixteen .ensures (c .before .before .if1 .taken))) (c .match .keys1)
 
 add-i : tie.Need-add-i Inv-loop μ-loop
-add-i c = omega arith
-
-add-i-2 : tie.Need-add-i-2 Inv-loop μ-loop
-add-i-2 c = omega arith
+add-i c = omega (arith, c .before .before .before .has-sixteen .ensures (c .before .before .if1 .taken))
 
 loop-less : tie.Need-loop-less Inv-loop μ-loop
-loop-less c = omega arith
+loop-less c = omega (arith, c .before .before .before .has-sixteen .ensures (c .before .before .if1 .taken))
 
 loop-again : tie.Need-loop-again Inv-loop μ-loop
-loop-again c = quoted-escape (c .before .before .before .before .loop .inv) (c .before .before .before .loop-test .taken) (c .before .match .keys2) (c .if1 .taken)
+loop-again c = quoted-far (c .before .before .before .before .loop .inv) (omega (arith, c .before .before .before .has-sixteen .ensures (c .before .before .if1 .taken))) (c .match .keys2)
 
-loop-less-2 : tie.Need-loop-less-2 Inv-loop μ-loop
-loop-less-2 c = omega arith
+add-j : tie.Need-add-j Inv-loop μ-loop
+add-j c = omega (arith, c .before .before .before .has-sixteen .ensures (c .before .before .if1 .taken))
 
-loop-again-2 : tie.Need-loop-again-2 Inv-loop μ-loop
-loop-again-2 c = quoted-cut (c .before .before .before .before .loop .inv) (c .before .before .before .loop-test .taken) (c .before .match .keys2) (c .if1 .left)
-
-add-i-3 : tie.Need-add-i-3 Inv-loop μ-loop
-add-i-3 c = omega arith
-
-loop-less-3 : tie.Need-loop-less-3 Inv-loop μ-loop
-loop-less-3 c = omega arith
-
-loop-again-3 : tie.Need-loop-again-3 Inv-loop μ-loop
-loop-again-3 c = quoted-plain (c .before .before .before .loop .inv) (c .before .before .loop-test .taken) (c .match .rest .0 .1) (c .match .rest .1)
+shared-slice-read-match2 : tie.Need-shared-slice-read-match2 Inv-loop μ-loop
+shared-slice-read-match2 c = omega (arith, c .before .before .before .before .has-sixteen .ensures (c .before .before .before .if1 .taken))
 
 returns-2 : tie.Need-returns-2 Inv-loop μ-loop
-returns-2 c = quoted-end (c .before .loop .inv) (c .loop-test .left)
+returns-2 c = let h = c .before .before .before .before .before .has-sixteen .ensures (c .before .before .before .before .if1 .taken) in let m = c .before .before .match .rest in quoted-closed (quoted-plain (c .before .before .before .before .before .before .loop .inv) (omega (arith, h)) (m .0 .1) (m .1)) (omega (arith, h)) (c .match2 .keys1)
+
+add-i-2 : tie.Need-add-i-2 Inv-loop μ-loop
+add-i-2 c = omega (arith, c .before .before .before .before .before .has-sixteen .ensures (c .before .before .before .before .if1 .taken))
+
+loop-less-2 : tie.Need-loop-less-2 Inv-loop μ-loop
+loop-less-2 c = omega (arith, c .before .before .before .before .before .has-sixteen .ensures (c .before .before .before .before .if1 .taken))
+
+loop-again-2 : tie.Need-loop-again-2 Inv-loop μ-loop
+loop-again-2 c = let h = c .before .before .before .before .before .has-sixteen .ensures (c .before .before .before .before .if1 .taken) in let m = c .before .before .match .rest in quoted-far (quoted-plain (c .before .before .before .before .before .before .loop .inv) (omega (arith, h)) (m .0 .1) (m .1)) (omega (arith, h)) (c .match2 .keys2)
+
+add-past-quoted : tie.Need-add-past-quoted Inv-loop μ-loop
+add-past-quoted c = omega (arith, c .before .before .before .before .before .has-sixteen .ensures (c .before .before .before .before .if1 .taken))
+
+past-quoted-requires : tie.Need-past-quoted-requires Inv-loop μ-loop
+past-quoted-requires c κs = search needs
+
+loop-less-3 : tie.Need-loop-less-3 Inv-loop μ-loop
+loop-less-3 c = omega (arith, c .before .before .before .before .before .before .has-sixteen .ensures (c .before .before .before .before .before .if1 .taken), c .past-quoted .ensures .from)
+
+loop-again-3 : tie.Need-loop-again-3 Inv-loop μ-loop
+loop-again-3 c = let h = c .before .before .before .before .before .before .has-sixteen .ensures (c .before .before .before .before .before .if1 .taken) in let m = c .before .before .before .match .rest in let n = c .before .match2 .rest in quoted-run (quoted-plain (quoted-plain (c .before .before .before .before .before .before .before .loop .inv) (omega (arith, h)) (m .0 .1) (m .1)) (omega (arith, h)) (n .0 .1) (n .1)) (omega (arith, h)) (c .past-quoted .ensures)
+
+quoted-end-requires : tie.Need-quoted-end-requires Inv-loop μ-loop
+quoted-end-requires c κs = search needs
+
+returns-3 : tie.Need-returns-3 Inv-loop μ-loop
+returns-3 c = quoted-rest (c .before .before .before .loop .inv) (c .quoted-end .ensures)
 
 pub quoted-spec : {M : Type 1} → statement M
 quoted-spec =
@@ -60,15 +80,21 @@ quoted-spec =
     Inv-loop
     μ-loop
     loop-holds
+    has-sixteen-requires
     shared-slice-read-match
     returns
     add-i
-    add-i-2
     loop-less
     loop-again
+    add-j
+    shared-slice-read-match2
+    returns-2
+    add-i-2
     loop-less-2
     loop-again-2
-    add-i-3
+    add-past-quoted
+    past-quoted-requires
     loop-less-3
     loop-again-3
-    returns-2)
+    quoted-end-requires
+    returns-3)

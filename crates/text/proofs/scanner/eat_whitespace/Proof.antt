@@ -1,15 +1,67 @@
 -- `text::scanner::eat_whitespace` meets its contract. Assumes nothing.
+use Prim.Native.Nat.{_-_}
+use mathlib.Core.Path.{_≡_, refl, sym, _∙_}
+use native.Mathlib.Omega.{arith}
+use lib.ListN.{length}
 use borrow.Author.Needs.{needs}
-use Rattle.text.specs.Class.{holdsOf}
+use borrow.Author.Tests.{not-true, not-false}
+use Rattle.text.specs.Class.{isWhitespace, holdsOf}
+use Rattle.text.specs.Scan.{skip}
+use Rattle.text.proofs.Skip.{skip-end, ran}
+use Rattle.text.proofs.Quick.{blank-on, blank-stop}
 use Rattle.text.proofs.scanner.eat_whitespace.Statement.{statement}
 use Rattle.text.proofs.scanner.eat_whitespace.Tie as tie
 
-eat-run-requires : tie.Need-eat-run-requires
-eat-run-requires c κs = search needs
+abbrev Inv-loop : tie.InvT-loop
+Inv-loop s at i₀ i = skip isWhitespace s at ≡ skip isWhitespace s i
 
-returns : tie.Need-returns
+abbrev μ-loop : tie.MeasureT-loop
+μ-loop s at i₀ i = length s - i
+
+loop-holds : tie.Need-loop-holds Inv-loop μ-loop
+loop-holds c = refl
+
+shared-slice-read-b : tie.Need-shared-slice-read-b Inv-loop μ-loop
+shared-slice-read-b c = omega arith
+
+is-blank-requires : tie.Need-is-blank-requires Inv-loop μ-loop
+is-blank-requires c κs = search needs
+
+returns : tie.Need-returns Inv-loop μ-loop
+returns c = let a = c .before .before .before .before .before .before .before .args in ran isWhitespace (a .s .now) (a .at) (sym (c .before .before .before .before .before .loop .inv ∙ blank-stop (a .s .now) _ (c .before .before .before .before .loop-test .taken) (c .before .before .is-blank .ensures) (not-true _ (c .before .if1 .taken)) (c .if2 .taken)))
+
+eat-rest-requires : tie.Need-eat-rest-requires Inv-loop μ-loop
+eat-rest-requires c κs = search needs
+
+returns-2 : tie.Need-returns-2 Inv-loop μ-loop
 unfolding holdsOf
-returns c = c .eat-run .ensures
+returns-2 c = let a = c .before .before .before .before .before .before .before .before .args in ran isWhitespace (a .s .now) (a .at) (c .eat-rest .ensures .0 ∙ sym (c .before .before .before .before .before .before .loop .inv))
+
+add-i : tie.Need-add-i Inv-loop μ-loop
+add-i c = omega arith
+
+loop-less : tie.Need-loop-less Inv-loop μ-loop
+loop-less c = omega arith
+
+loop-again : tie.Need-loop-again Inv-loop μ-loop
+loop-again c = let a = c .before .before .before .before .before .before .args in c .before .before .before .before .loop .inv ∙ blank-on (a .s .now) _ (c .before .before .before .loop-test .taken) (c .before .is-blank .ensures) (not-false _ (c .if1 .left))
+
+returns-3 : tie.Need-returns-3 Inv-loop μ-loop
+returns-3 c = let a = c .before .before .before .args in ran isWhitespace (a .s .now) (a .at) (sym (c .before .loop .inv ∙ skip-end isWhitespace (a .s .now) _ (c .loop-test .left)))
 
 pub eat-whitespace-spec : {M : Type 1} → statement M
-eat-whitespace-spec = tie.close (tie.spec eat-run-requires returns)
+eat-whitespace-spec =
+    tie.close
+    (tie.spec
+    Inv-loop
+    μ-loop
+    loop-holds
+    shared-slice-read-b
+    is-blank-requires
+    returns
+    eat-rest-requires
+    returns-2
+    add-i
+    loop-less
+    loop-again
+    returns-3)

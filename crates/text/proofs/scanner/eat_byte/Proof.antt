@@ -1,0 +1,25 @@
+-- `text::scanner::eat_byte` meets its contract. Assumes nothing.
+use borrow.Author.Needs.{needs}
+use Rattle.text.proofs.Skip.{single-end, single-on, single-off}
+use Rattle.text.proofs.scanner.eat_byte.Statement.{statement}
+use Rattle.text.proofs.scanner.eat_byte.Tie as tie
+
+returns : tie.Need-returns
+returns c = let a = c .before .args in single-end (a .x) (c .before .pre) (a .s .now) (a .at) (c .if1 .taken)
+
+shared-slice-read-if2 : tie.Need-shared-slice-read-if2
+shared-slice-read-if2 c = search needs
+
+add-result : tie.Need-add-result
+add-result c = search needs
+
+returns-2 : tie.Need-returns-2
+returns-2 c = let a = c .before .before .before .args in single-on (a .x) (c .before .before .before .pre) (a .s .now) (a .at) (c .before .before .if1 .left) (c .if2 .taken)
+
+returns-3 : tie.Need-returns-3
+returns-3 c = let a = c .before .before .before .args in single-off (a .x) (c .before .before .before .pre) (a .s .now) (a .at) (c .before .before .if1 .left) (c .if2 .left)
+
+pub eat-byte-spec : {M : Type 1} → statement M
+eat-byte-spec =
+    tie.close
+    (tie.spec returns shared-slice-read-if2 add-result returns-2 returns-3)

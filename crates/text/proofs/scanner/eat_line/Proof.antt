@@ -1,0 +1,14 @@
+-- `text::scanner::eat_line` meets its contract. Assumes nothing.
+use borrow.Author.Needs.{needs}
+use Rattle.text.proofs.Find.{line}
+use Rattle.text.proofs.scanner.eat_line.Statement.{statement}
+use Rattle.text.proofs.scanner.eat_line.Tie as tie
+
+find-requires : tie.Need-find-requires
+find-requires c κs = search needs
+
+returns : tie.Need-returns
+returns c = let a = c .before .before .args in line (a .s .now) (a .at) (c .find .ensures)
+
+pub eat-line-spec : {M : Type 1} → statement M
+eat-line-spec = tie.close (tie.spec find-requires returns)

@@ -1,0 +1,43 @@
+-- `text::scanner::eat_start` meets its contract. Assumes nothing.
+use Rattle.text.specs.Class.{isIdStart, holdsOf}
+use Rattle.text.specs.declared.class.Test.the-variants.{IdStart}
+use Rattle.text.proofs.Skip.{passed, bit-end}
+use Rattle.text.proofs.Quick.{letter-start}
+use borrow.Author.Needs.{needs}
+use Rattle.text.proofs.scanner.eat_start.Statement.{statement}
+use Rattle.text.proofs.scanner.eat_start.Tie as tie
+
+returns : tie.Need-returns
+unfolding holdsOf
+returns c = let a = c .before .before .args in bit-end IdStart (a .s .now) (a .at) (c .if1 .taken)
+
+shared-slice-read-b : tie.Need-shared-slice-read-b
+shared-slice-read-b c = search needs
+
+is-letter-requires : tie.Need-is-letter-requires
+is-letter-requires c κs = search needs
+
+add-result : tie.Need-add-result
+add-result c = search needs
+
+returns-2 : tie.Need-returns-2
+returns-2 c = let a = c .before .before .before .before .before .args in letter-start (a .s .now) (a .at) (c .before .before .before .if1 .left) (c .before .is-letter .ensures) (c .if2 .taken)
+
+eat-wide-requires : tie.Need-eat-wide-requires
+eat-wide-requires c κs = search needs
+
+returns-3 : tie.Need-returns-3
+unfolding holdsOf
+returns-3 c = let a = c .before .before .before .before .before .before .args in passed isIdStart (a .s .now) (a .at) (c .eat-wide .ensures)
+
+pub eat-start-spec : {M : Type 1} → statement M
+eat-start-spec =
+    tie.close
+    (tie.spec
+    returns
+    shared-slice-read-b
+    is-letter-requires
+    add-result
+    returns-2
+    eat-wide-requires
+    returns-3)

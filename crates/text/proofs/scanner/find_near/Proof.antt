@@ -1,0 +1,39 @@
+-- `text::scanner::find_near` meets its contract. Assumes nothing.
+use Prim.Native.Nat.{_-_}
+use native.Mathlib.Omega.{arith}
+use lib.ListN.{length}
+use Rattle.text.proofs.Find.{Run, run, run-one, found-at}
+use Rattle.text.proofs.scanner.find_near.Statement.{statement}
+use Rattle.text.proofs.scanner.find_near.Tie as tie
+
+abbrev Inv-loop : tie.InvT-loop
+Inv-loop s at x i₀ i = Run x s at i
+
+abbrev μ-loop : tie.MeasureT-loop
+μ-loop s at x i₀ i = length s - i
+
+loop-holds : tie.Need-loop-holds Inv-loop μ-loop
+loop-holds c = run
+
+shared-slice-read-if1 : tie.Need-shared-slice-read-if1 Inv-loop μ-loop
+shared-slice-read-if1 c = omega arith
+
+returns : tie.Need-returns Inv-loop μ-loop
+returns c = found-at (c .before .before .before .loop .inv) (λ h. c .if1 .taken)
+
+add-i : tie.Need-add-i Inv-loop μ-loop
+add-i c = omega arith
+
+loop-less : tie.Need-loop-less Inv-loop μ-loop
+loop-less c = omega arith
+
+loop-again : tie.Need-loop-again Inv-loop μ-loop
+loop-again c = run-one (c .before .before .before .loop .inv) (c .before .before .loop-test .taken) (c .if1 .left)
+
+returns-2 : tie.Need-returns-2 Inv-loop μ-loop
+returns-2 c = found-at (c .before .loop .inv) (λ h. absurd (omega arith))
+
+pub find-near-spec : {M : Type 1} → statement M
+find-near-spec =
+    tie.close
+    (tie.spec Inv-loop μ-loop loop-holds shared-slice-read-if1 returns add-i loop-less loop-again returns-2)
