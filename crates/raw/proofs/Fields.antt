@@ -2,10 +2,12 @@
 -- Assumes nothing.
 use Prim.Native.Nat.{ℕ, zero, suc, _+_, _≤_, _<_}
 use mathlib.Core.Path.{_≡_, refl, sym, ap, _∙_, subst}
+use mathlib.Core.Bool.{Bool, true, false}
 use mathlib.Core.List.{List, []}
 use native.Mathlib.Omega.{arith}
 use lib.ListN.{length, getD}
-use borrow.Author.Tests.{eq-eqb, ne-eqb}
+use lib.Dec.{ltb}
+use borrow.Author.Tests.{eq-eqb, ne-eqb, ltb-true, ltb-false}
 use Rattle.text.specs.Class.{isWhitespace, isIdStart, holdsOf}
 use Rattle.text.specs.Scan.{see, skip, pastOne}
 use Rattle.text.specs.declared.class.Test.the-variants as test
@@ -16,6 +18,7 @@ use Rattle.raw.specs.declared.fault.Answer.the-variants as answer
 use Rattle.raw.specs.declared.fault.Turn.the-variants as turned
 use Rattle.raw.specs.Row.{row}
 use Rattle.raw.specs.Reader.{Out, ok, again, bad, andThen, under, eaten, after, many, sees, when, stop, turn, refuse, over, _then_}
+use Rattle.raw.specs.Inner.{Undelimited}
 use Rattle.raw.specs.Grammar.{is, any, white, number, numberTurn, ident, braced, stringLiteral, singleField, abbrElement, abbrTurn}
 use Rattle.raw.specs.Says.{Says, SaysTurn}
 use Rattle.raw.proofs.Good.{Sound}
@@ -32,7 +35,7 @@ module _ (s : List ℕ) (i : ℕ) where
   abbrev quotedOr : Out
   quotedOr = sees (is 0x22) stringLiteral (refuse UnexpectedEof) s i
 
-  pub single-end : length s ≤ i → singleField s i ≡ bad (UnexpectedEof i)
+  single-end : length s ≤ i → singleField s i ≡ bad (UnexpectedEof i)
   unfolding singleField
   single-end h =
       byte-end (is 0x7B) s i (λ n. braced s i) quotedOr h ∙ byte-end (is 0x22) s i (λ n. stringLiteral s i) (bad (UnexpectedEof i)) h
@@ -51,9 +54,16 @@ module _ (s : List ℕ) (i : ℕ) where
       single-quoted e =
           no-brace ∙ byte-on (is 0x22) s i (λ n. stringLiteral s i) (bad (UnexpectedEof i)) (narrow-is 0x22 (omega arith)) h (eq-eqb _ _ e)
 
-      pub single-off : (getD s i 0 ≡ 0x22 → ⊥) → singleField s i ≡ bad (UnexpectedEof i)
+      single-off : (getD s i 0 ≡ 0x22 → ⊥) → singleField s i ≡ bad (UnexpectedEof i)
       single-off e =
           no-brace ∙ byte-off (is 0x22) s i (λ n. stringLiteral s i) (bad (UnexpectedEof i)) (narrow-is 0x22 (omega arith)) h (ne-eqb _ _ e)
+
+  pub single-none : Undelimited s i → singleField s i ≡ bad (UnexpectedEof i)
+  single-none u = go (ltb i (length s)) refl
+    where
+      go : (t : Bool) → ltb i (length s) ≡ t → singleField s i ≡ bad (UnexpectedEof i)
+      go true e = let h = ltb-true _ _ e in single-off h (u .no-brace h) (u .no-quote h)
+      go false e = single-end (ltb-false _ _ e)
 
 -- ---- `abbr_element`, by what `eat_if` told
 

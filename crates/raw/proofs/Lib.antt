@@ -19,8 +19,7 @@ pub mod Bare
 pub mod Bounds
 pub mod ByteTurns
 pub mod Bytes
-pub mod Blocks
-pub mod Quotes
+pub mod ValueBlocks
 pub mod Eaten
 pub mod Enclosed
 pub mod EntryWays

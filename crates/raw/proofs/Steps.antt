@@ -1,17 +1,20 @@
 -- The readers without rows, as such; and by what the scanner told of them.
 --     x-bare                   each of them
 --     white-on, comment-on     white space and a comment, which are never refused
---     comment-off, comment-line, key-told, ident-off, ident-line     the ways through `comment`, `key` and `ident`
+--     comment-off, comment-line, key-told, ident-off, ident-line, ident-letters     the ways through `comment`, `key` and `ident`
 -- Assumes nothing.
 use Prim.Native.Nat.{ℕ, zero, suc, _+_, _≤_, _<_, max}
 use mathlib.Core.Path.{_≡_, refl, sym, ap, _∙_, subst}
-use mathlib.Core.Bool.{Bool}
+use mathlib.Core.Bool.{Bool, true, _||_}
 use mathlib.Core.List.{List, []}
 use native.Mathlib.Omega.{arith}
-use lib.ListN.{length}
+use lib.ListN.{length, getD}
+use lib.Dec.{eqb}
 use Rattle.text.specs.Class.{isWhitespace, isKey, isIdStart, isIdContinue, holdsOf}
 use Rattle.text.specs.Scan.{see, skip, pastOne, fails, Ahead}
+use Rattle.text.specs.Inner.{Letters}
 use Rattle.text.specs.declared.class.Test.the-variants as test
+use Rattle.text.proofs.AsciiTurns.{letters-id}
 use Rattle.raw.specs.declared.fault.Fault.the-variants.{UnexpectedEof, ExpectedIdentifier, ExpectedOpeningBrace, ExpectedClosingBrace, ExpectedComma, ExpectedQuotationMark, ExpectedEquals, UnexpectedDecimalPoint}
 use Rattle.raw.specs.declared.fault.Step.{Step}
 use Rattle.raw.specs.declared.fault.Step.the-variants as step
@@ -144,8 +147,8 @@ module _ (s : List ℕ) (i : ℕ) where
   pub key-on : {r : ℕ} → step.At r ≡ stepOf (key s i) → key s i ≡ ok r []
   key-on e = bare-at (key-bare s i) e refl
 
-  pub key-told : {r : ℕ} → r ≡ skip (holdsOf test.Key) s i → Ahead s i r → (step.At r ≡ stepOf (key s i)) × (i ≤ r) × (r ≤ max i (length s))
-  unfolding key holdsOf
+  pub key-told : {r : ℕ} → r ≡ skip isKey s i → Ahead s i r → (step.At r ≡ stepOf (key s i)) × (i ≤ r) × (r ≤ max i (length s))
+  unfolding key
   key-told e a = (sym (ap stepOf (scan-on isKey s i e)), a .from, a .to)
 
   module _ {r : ℕ} (e : r ≡ pastOne (holdsOf test.Percent) i (see s i)) where
@@ -158,13 +161,19 @@ module _ (s : List ℕ) (i : ℕ) where
     comment-line h a d b =
         (sym (ap stepOf (eaten-on (holdsOf test.Percent) s i (scan (fails test.Newline) s) (ok i []) e h ∙ scan-on (fails test.Newline) s r d)), omega arith, omega arith)
 
-  module _ {r : ℕ} (e : r ≡ pastOne (holdsOf test.IdStart) i (see s i)) where
+  module _ {r : ℕ} (e : r ≡ pastOne isIdStart i (see s i)) where
     pub ident-off : r ≡ i → (step.Refused (ExpectedIdentifier i) ≡ stepOf (ident s i)) × Unit {0}
-    unfolding ident holdsOf
+    unfolding ident
     ident-off h = (sym (ap stepOf (eaten-off isIdStart s i (scan isIdContinue s) (bad (ExpectedIdentifier i)) e h)), tt)
 
-    pub ident-line : {q : ℕ} → (r ≡ i → ⊥) → Ahead s i r → q ≡ skip (holdsOf test.IdContinue) s r → Ahead s r q → (step.At q ≡ stepOf (ident s i)) × Onward (length s) 1 i (step.At q)
-    unfolding ident holdsOf
+    pub ident-line : {q : ℕ} → (r ≡ i → ⊥) → Ahead s i r → q ≡ skip isIdContinue s r → Ahead s r q → (step.At q ≡ stepOf (ident s i)) × Onward (length s) 1 i (step.At q)
+    unfolding ident
     ident-line h a d b =
         let l : i + 1 ≤ r = not-at (a .from) h in
         (sym (ap stepOf (eaten-on isIdStart s i (scan isIdContinue s) (bad (ExpectedIdentifier i)) e h ∙ scan-on isIdContinue s r d)), (omega arith, omega arith))
+
+  -- by letters alone
+  pub ident-letters : {r : ℕ} → Letters s i r → i < r → r < length s → (eqb (getD s r 0) 0x20 || eqb (getD s r 0) 0x3D) ≡ true → (step.At r ≡ stepOf (ident s i)) × Onward (length s) 1 i (step.At r)
+  ident-letters {r} a p q t =
+      let x = letters-id a p q t in
+      ident-line (x .0) (λ z. omega arith) (record { from = omega arith; to = omega arith }) (x .1) (record { from = omega arith; to = omega arith })

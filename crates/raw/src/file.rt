@@ -19,7 +19,7 @@ fn file_turn(s: &[u8], base: usize, at: usize, rows: &mut [u32], n: usize) -> Tu
     ensures says { λ r. ⌜ SaysTurn base (fileTurn 0 (now (s .entry)) at) n (now (rows .entry)) r (now (rows .exit)) ⌝ }
     ensures within { λ r. ⌜ WithinTurn (length (now (s .entry))) 1 0 at n r ⌝ }
 {
-    let p1 = scanner::eat_whitespace(s, at);
+    let p1 = scanner::eat_gap(s, at);
     if s.len() <= p1 {
         return Turn::Done { at: p1, n };
     }

@@ -95,7 +95,7 @@ pub fn comment(s: &[u8], at: usize) -> usize
 pub fn key(s: &[u8], at: usize) -> usize
     ensures { λ r. ⌜ (Step.At r ≡ stepOf (key (now (s .entry)) at)) × (at ≤ r) × (r ≤ max at (length (now (s .entry)))) ⌝ }
 {
-    scanner::eat_while(s, at, Test::Key)
+    scanner::eat_key(s, at)
 }
 
 // Eat an identifier.

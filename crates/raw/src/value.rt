@@ -6,143 +6,17 @@ use crate::fault::Turn;
 use crate::row;
 use crate::row::Kind;
 use crate::token;
+use text::block;
 use text::class::Test;
 use text::scanner;
 ghost use mathlib.Core.Path.{_≡_};
-ghost use mathlib.Core.Bool.{true};
-ghost use Prim.Native.Nat.{_+_, _-_, _≤_, _<_, min};
+ghost use Prim.Native.Nat.{_+_};
 ghost use lib.ListN.{length};
-ghost use Rattle.raw.specs.Inner.{Plain, PlainTo, PlainRun, Inside, InsideTo, InsideRun};
-ghost use Rattle.raw.specs.Grammar.{quoted, string, stringLiteral, number, inBraces, braced, singleField, abbrElement, abbrTurn, abbrField};
+ghost use Rattle.raw.specs.Inner.{Undelimited};
+ghost use Rattle.raw.specs.Grammar.{quoted, string, stringLiteral, number, inBraces, braced, abbrElement, abbrTurn, abbrField};
 ghost use Rattle.raw.specs.Says.{stepOf, Onward, refusedOf, Says, Within, SaysTurn, WithinTurn, Ready};
 
-// How far two bytes are apart.
-fn apart(a: u8, b: u8) -> u8
-    ensures { λ r. ⌜ r ≡ (a - b) + (b - a) ⌝ }
-{
-    if a < b { b - a } else { a - b }
-}
-
-// What is left of a byte when one is taken away.
-fn less_one(a: u8) -> u8
-    ensures { λ r. ⌜ r ≡ a - 1 ⌝ }
-{
-    if a < 1 { 0 } else { a - 1 }
-}
-
-fn lesser(a: u8, b: u8) -> u8
-    ensures { λ r. ⌜ r ≡ min a b ⌝ }
-{
-    if a < b { a } else { b }
-}
-
-fn least(a: u16, b: u16) -> u16
-    ensures { λ r. ⌜ r ≡ min a b ⌝ }
-{
-    if a < b { a } else { b }
-}
-
-// 0 where a byte may be a brace or a backslash. No comparison decides: so sixteen are made at once.
-fn distance(b: u8) -> u8
-    ensures { λ r. ⌜ (0 < r → Plain b) ⌝ }
-{
-    lesser(apart(b, 0x5c), less_one(apart(b, 0x7c)))
-}
-
-fn place(b: u8, k: u16) -> u16
-    requires { ⌜ k < 16 ⌝ }
-    ensures { λ r. ⌜ (k < r → Plain b) × (k ≤ r) ⌝ }
-{
-    let d = distance(b) as u16;
-    d * 16 + k
-}
-
-// How many of the sixteen bytes from a place on stand before the first that may be a brace or a backslash.
-fn plain_part(s: &[u8], at: usize) -> usize
-    requires { ⌜ at + 16 ≤ length (now s) ⌝ }
-    ensures { λ r. ⌜ PlainTo (now (s .entry)) at r × (r ≤ 16) ⌝ }
-{
-    let mut m: u16 = 16;
-    let mut k: u16 = 0;
-    while k < 16 {
-        let i = at + k as usize;
-        m = least(m, place(s[i], k));
-        k += 1;
-    }
-    m as usize
-}
-
-// Whether sixteen bytes stand from a place on.
-fn has_sixteen(s: &[u8], at: usize) -> bool
-    ensures { λ r. ⌜ (r ≡ true → at + 16 ≤ length (now (s .entry))) ⌝ }
-{
-    if s.len() < 16 {
-        return false;
-    }
-    at <= s.len() - 16
-}
-
-// A place from which on there may be a brace or a backslash, and before which there is none, by sixteen bytes at a time.
-fn past_plain(s: &[u8], at: usize) -> usize
-    ensures { λ r. ⌜ PlainRun (now (s .entry)) at r ⌝ }
-{
-    let mut i = at;
-    while has_sixteen(s, i) {
-        let k = plain_part(s, i);
-        if k < 16 {
-            return i + k;
-        }
-        i += 16;
-    }
-    i
-}
-
-// 0 where a byte may be a quote or a backslash.
-fn quote_distance(b: u8) -> u8
-    ensures { λ r. ⌜ (0 < r → Inside b) ⌝ }
-{
-    lesser(apart(b, 0x5c), apart(b, 0x22))
-}
-
-fn quote_place(b: u8, k: u16) -> u16
-    requires { ⌜ k < 16 ⌝ }
-    ensures { λ r. ⌜ (k < r → Inside b) × (k ≤ r) ⌝ }
-{
-    let d = quote_distance(b) as u16;
-    d * 16 + k
-}
-
-// How many of the sixteen bytes from a place on stand before the first that may be a quote or a backslash.
-fn quote_part(s: &[u8], at: usize) -> usize
-    requires { ⌜ at + 16 ≤ length (now s) ⌝ }
-    ensures { λ r. ⌜ InsideTo (now (s .entry)) at r × (r ≤ 16) ⌝ }
-{
-    let mut m: u16 = 16;
-    let mut k: u16 = 0;
-    while k < 16 {
-        let i = at + k as usize;
-        m = least(m, quote_place(s[i], k));
-        k += 1;
-    }
-    m as usize
-}
-
-// A place from which on there may be a quote or a backslash, and before which there is none, by sixteen bytes at a time.
-fn past_quoted(s: &[u8], at: usize) -> usize
-    ensures { λ r. ⌜ InsideRun (now (s .entry)) at r ⌝ }
-{
-    let mut i = at;
-    while has_sixteen(s, i) {
-        let k = quote_part(s, i);
-        if k < 16 {
-            return i + k;
-        }
-        i += 16;
-    }
-    i
-}
-
-// The same, byte by byte.
+// The place of the quote that closes a string, from inside it, byte by byte.
 fn quoted_end(s: &[u8], at: usize) -> Step
     ensures { λ r. ⌜ (r ≡ stepOf (quoted (now (s .entry)) at)) × Onward (length (now (s .entry))) 0 at r ⌝ }
 {
@@ -166,12 +40,12 @@ fn quoted_end(s: &[u8], at: usize) -> Step
     Step::Refused(Fault::UnexpectedEof(i))
 }
 
-// The place of the quote that closes a string, from inside it. Two bytes to a turn, and then sixteen.
+// The same. A turn looks at two bytes, since escapes come close together where there are any, and then at blocks.
 fn quoted(s: &[u8], at: usize) -> Step
     ensures { λ r. ⌜ (r ≡ stepOf (quoted (now (s .entry)) at)) × Onward (length (now (s .entry))) 0 at r ⌝ }
 {
     let mut i = at;
-    while has_sixteen(s, i) {
+    while block::has(s, i, 16) {
         match s[i] {
             0x22 => {
                 return Step::At(i);
@@ -189,7 +63,7 @@ fn quoted(s: &[u8], at: usize) -> Step
                         i = j + 2;
                     }
                     _ => {
-                        i = past_quoted(s, j + 1);
+                        i = block::past_quotes(s, j + 1);
                     }
                 }
             }
@@ -256,13 +130,13 @@ fn in_braces(s: &[u8], at: usize) -> Step
                 i += 1;
             }
             0x5c => {
-                i += 1;
-                if i < s.len() {
-                    i += 1;
+                if s.len() - i < 2 {
+                    return Step::Refused(Fault::UnexpectedEof(i + 1));
                 }
+                i += 2;
             }
             _ => {
-                i = past_plain(s, i + 1);
+                i = block::past_braces(s, i + 1);
             }
         }
     }
@@ -323,26 +197,9 @@ fn braced(s: &[u8], base: usize, at: usize, rows: &mut [u32], n: usize) -> Answe
     Answer::Next { at: p3, n: n + 1 }
 }
 
-fn single_field(s: &[u8], base: usize, at: usize, rows: &mut [u32], n: usize) -> Answer
-    requires { ⌜ Ready base (length (now s)) at n ⌝ }
-    ensures says { λ r. ⌜ Says base (singleField (now (s .entry)) at) n (now (rows .entry)) r (now (rows .exit)) ⌝ }
-    ensures within { λ r. ⌜ Within (length (now (s .entry))) 2 at n r ⌝ }
-{
-    if at < s.len() {
-        let b = s[at];
-        if b == 0x7b {
-            return braced(s, base, at, rows, n);
-        }
-        if b == 0x22 {
-            return string_literal(s, base, at, rows, n);
-        }
-    }
-    Answer::Refused(Fault::UnexpectedEof(at))
-}
-
-// Eat an element of an abbreviation, whatever it begins with.
-fn any_element(s: &[u8], base: usize, at: usize, rows: &mut [u32], n: usize) -> Answer
-    requires { ⌜ Ready base (length (now s)) at n ⌝ }
+// Eat an element of an abbreviation that begins with neither a brace nor a quote.
+fn bare_element(s: &[u8], base: usize, at: usize, rows: &mut [u32], n: usize) -> Answer
+    requires { ⌜ Ready base (length (now s)) at n × Undelimited (now s) at ⌝ }
     ensures says { λ r. ⌜ Says base (abbrElement (now (s .entry)) at) n (now (rows .entry)) r (now (rows .exit)) ⌝ }
     ensures within { λ r. ⌜ Within (length (now (s .entry))) 1 at n r ⌝ }
 {
@@ -364,7 +221,7 @@ fn any_element(s: &[u8], base: usize, at: usize, rows: &mut [u32], n: usize) -> 
         row::put_row(rows, n, Kind::Name, base + at, base + p2);
         return Answer::Next { at: p2, n: n + 1 };
     }
-    single_field(s, base, at, rows, n)
+    Answer::Refused(Fault::UnexpectedEof(at))
 }
 
 // Eat an element of an abbreviation: most are in braces or quotes.
@@ -374,7 +231,7 @@ fn abbr_element(s: &[u8], base: usize, at: usize, rows: &mut [u32], n: usize) ->
     ensures within { λ r. ⌜ Within (length (now (s .entry))) 1 at n r ⌝ }
 {
     if s.len() <= at {
-        return any_element(s, base, at, rows, n);
+        return bare_element(s, base, at, rows, n);
     }
     let b = s[at];
     if b == 0x7b {
@@ -383,7 +240,7 @@ fn abbr_element(s: &[u8], base: usize, at: usize, rows: &mut [u32], n: usize) ->
     if b == 0x22 {
         return string_literal(s, base, at, rows, n);
     }
-    any_element(s, base, at, rows, n)
+    bare_element(s, base, at, rows, n)
 }
 
 // Eat an element, and a number sign after it if another follows.

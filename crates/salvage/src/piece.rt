@@ -5,7 +5,7 @@ use raw::fault::Fault;
 use raw::file;
 use raw::row;
 use raw::row::Kind;
-use text::scanner;
+use text::block;
 use text::utf8;
 use text::utf8::Validity;
 ghost use mathlib.Core.Path.{_≡_};
@@ -24,7 +24,7 @@ pub fn piece_end(s: &[u8], at: usize) -> usize
 {
     let mut i = at;
     loop {
-        let j = scanner::find(s, i + 1, 0x40);
+        let j = block::find(s, i + 1, 0x40);
         if s.len() <= j {
             return j;
         }

@@ -1,9 +1,10 @@
 -- What the first octet of a text decides.
 --     ones, none, some        `sequence_length`
 --     width-first             the width of a text, by its first octet alone and the octets behind it
+--     width-two, width-three  of most sequences that are not ASCII, by comparisons
 -- Assumes nothing.
 use mathlib.Core.Path.{_≡_, refl, sym, ap, _∙_, subst}
-use mathlib.Core.Bool.{Bool, true, false, cond, _&&_, _||_, and-true, and-assoc}
+use mathlib.Core.Bool.{Bool, true, false, cond, _&&_, _||_, and-true, and-false, and-assoc}
 use mathlib.Core.List.{List, [], _∷_}
 use Prim.Native.Nat.{ℕ, zero, suc, _+_, _-_, _<_, _≤_}
 use native.Mathlib.Omega.{arith}
@@ -12,12 +13,14 @@ use native.Mathlib.Numerals.{add-one}
 use lib.ListN.{length, getD, drop, replicate, length-replicate, length-drop, drop-of-length-le}
 use lib.Seq.{drop-cons}
 use lib.Dec.{T, eqb, eqb→eq, leb, leb→le, ltb}
-use borrow.Author.Tests.{lt-ltb, le-ltb}
+use borrow.Author.Tests.{lt-ltb, le-ltb, lt-leb}
 use lib.Count.{leadingZeros}
 use Rattle.text.specs.Range.{Range, _–_, within}
 use Rattle.text.specs.Utf8.{tail, alternatives, begins, widthBy, width, leadingOnes, orOne, sequenceLength}
 use Rattle.text.specs.Inner.{seconds, goesSecond}
 use Rattle.text.proofs.Bytes.{below, each}
+use Rattle.text.proofs.Grammar.{within-true}
+use Rattle.text.proofs.Places.{drop-next, drop-more}
 
 -- ---- leading ones
 
@@ -216,3 +219,23 @@ module _ (s : List ℕ) (i : ℕ) (inside : i < length s) (octet : getD s i 0 < 
 
       pub width-broken : t ≡ false → width (drop i s) ≡ 0
       width-broken h = width-long ∙ rw (sym e ∙ h)
+
+-- ---- sequences told by their first octet and tails alone
+
+above : (a e b : ℕ) → e < b → within (a – e) b ≡ false
+above a e b h = rw (lt-leb b e h) (and-false (leb a b))
+
+module _ (s : List ℕ) (i : ℕ) where
+  -- [RFC3629:4] UTF8-2
+  pub width-two : i + 2 ≤ length s → within (0xC2 – 0xDF) (getD s i 0) ≡ true → within tail (getD s (i + 1) 0) ≡ true → width (drop i s) ≡ 2
+  unfolding widthBy begins alternatives
+  width-two h t u =
+      let b = within-true (0xC2 – 0xDF) (getD s i 0) t in
+      rw (drop-next s i (omega arith), drop-more s i 1 2 (omega arith) refl, above 0x00 0x7F (getD s i 0) (omega arith), t, u)
+
+  -- [RFC3629:4] the second alternative of UTF8-3
+  pub width-three : i + 3 ≤ length s → within (0xE1 – 0xEC) (getD s i 0) ≡ true → within tail (getD s (i + 1) 0) ≡ true → within tail (getD s (i + 2) 0) ≡ true → width (drop i s) ≡ 3
+  unfolding widthBy begins alternatives
+  width-three h t u v =
+      let b = within-true (0xE1 – 0xEC) (getD s i 0) t in
+      rw (drop-next s i (omega arith), drop-more s i 1 2 (omega arith) refl, drop-more s i 2 3 (omega arith) refl, above 0x00 0x7F (getD s i 0) (omega arith), above 0xC2 0xDF (getD s i 0) (omega arith), above 0xE0 0xE0 (getD s i 0) (omega arith), t, u, v)

@@ -2,6 +2,7 @@
 --     code-wide                           an octet that is not ASCII begins a character that is not
 --     skip-end, skip-on, skip-stop        at the end, at a character that passes, at one that does not
 --     skip-ahead                          never back, and not past the end
+--     skip-over                           over bytes each of which may be passed by itself
 --     skip-ascii, skip-narrow, skip-one   the turns of `eat_run`
 -- Assumes nothing.
 use mathlib.Core.Path.{_≡_, refl, sym, ap, _∙_, subst}
@@ -106,6 +107,23 @@ module _ (p : ℕ → Bool) (s : List ℕ) where
               let k = subst (Inside s i) (see-at s i h) (see-inside s i) in
               (omega (arith, one true e), omega (arith, one true e, k .1), skip-on e ∙ ap (skip p s) (sym (one true e)))
           go false e = absurd (z (one false e))
+
+  -- over bytes each of which may be passed by itself
+  over : (i n : ℕ) → i + n ≤ length s → ((k : ℕ) → i ≤ k → k < i + n → k < length s → skip p s k ≡ skip p s (k + 1)) → skip p s i ≡ skip p s (i + n)
+  over i zero h f = ap (skip p s) (sym (add-zero i))
+  over i (suc n) h f =
+      over i n (omega arith) (λ k l m q. f k l (omega arith) q) ∙ f (i + n) (omega arith) (omega arith) (omega arith)
+      ∙ ap (skip p s) (add-one (i + n) ∙ sym (add-suc i n))
+
+  pub skip-over : {i r : ℕ} → i ≤ r → r ≤ max i (length s) → ((k : ℕ) → i ≤ k → k < r → k < length s → skip p s k ≡ skip p s (k + 1)) → skip p s i ≡ skip p s r
+  skip-over {i} {r} h m f = go (ltb r (length s + 1)) refl
+    where
+      e : i + (r - i) ≡ r
+      e = omega arith
+
+      go : (t : Bool) → ltb r (length s + 1) ≡ t → skip p s i ≡ skip p s r
+      go true l = over i (r - i) (omega (arith, ltb-true r (length s + 1) l)) (λ k a b q. f k a (omega arith) q) ∙ ap (skip p s) e
+      go false l = let q : r ≡ i = omega (arith, ltb-false r (length s + 1) l) in ap (skip p s) (sym q)
 
 -- ---- where no test is needed for what is not ASCII
 

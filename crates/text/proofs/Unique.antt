@@ -8,6 +8,7 @@ use contract.Lifetimes.{Lfts}
 use borrow.Fn.Kinds.{PK, RK, Out, Dens, resT, endedOf}
 use denote.Triple.Clauses.{AtExit}
 use denote.Ref.{now}
+use Rattle.text.proofs.Clear.{found-once}
 use Rattle.text.proofs.utf8.sequence_length.Kinds as sequence-length-kinds
 use Rattle.text.proofs.utf8.sequence_length.Reads as sequence-length
 use Rattle.text.proofs.utf8.validate.Kinds as validate-kinds
@@ -38,6 +39,20 @@ use Rattle.text.proofs.scanner.eat_until.Kinds as eat-until-kinds
 use Rattle.text.proofs.scanner.eat_until.Reads as eat-until
 use Rattle.text.proofs.scanner.eat_whitespace.Kinds as eat-whitespace-kinds
 use Rattle.text.proofs.scanner.eat_whitespace.Reads as eat-whitespace
+use Rattle.text.proofs.scanner.eat_byte.Kinds as eat-byte-kinds
+use Rattle.text.proofs.scanner.eat_byte.Reads as eat-byte
+use Rattle.text.proofs.scanner.eat_start.Kinds as eat-start-kinds
+use Rattle.text.proofs.scanner.eat_start.Reads as eat-start
+use Rattle.text.proofs.scanner.eat_id.Kinds as eat-id-kinds
+use Rattle.text.proofs.scanner.eat_id.Reads as eat-id
+use Rattle.text.proofs.scanner.eat_key.Kinds as eat-key-kinds
+use Rattle.text.proofs.scanner.eat_key.Reads as eat-key
+use Rattle.text.proofs.scanner.eat_gap.Kinds as eat-gap-kinds
+use Rattle.text.proofs.scanner.eat_gap.Reads as eat-gap
+use Rattle.text.proofs.scanner.eat_line.Kinds as eat-line-kinds
+use Rattle.text.proofs.scanner.eat_line.Reads as eat-line
+use Rattle.text.proofs.block.find.Kinds as find-kinds
+use Rattle.text.proofs.block.find.Reads as find
 use Rattle.text.proofs.scanner.from.Kinds as from-kinds
 use Rattle.text.proofs.scanner.from.Reads as from
 
@@ -94,6 +109,27 @@ one-eat-until κs a x y s t p q = p .0 ∙ sym (q .0)
 
 pub one-eat-whitespace : One 1 eat-whitespace-kinds.ps eat-whitespace-kinds.r eat-whitespace.Post
 one-eat-whitespace κs a x y s t p q = p .0 ∙ sym (q .0)
+
+pub one-eat-byte : One 1 eat-byte-kinds.ps eat-byte-kinds.r eat-byte.Post
+one-eat-byte κs a x y s t p q = p .0 ∙ sym (q .0)
+
+pub one-eat-start : One 1 eat-start-kinds.ps eat-start-kinds.r eat-start.Post
+one-eat-start κs a x y s t p q = p .0 ∙ sym (q .0)
+
+pub one-eat-id : One 1 eat-id-kinds.ps eat-id-kinds.r eat-id.Post
+one-eat-id κs a x y s t p q = p .0 ∙ sym (q .0)
+
+pub one-eat-key : One 1 eat-key-kinds.ps eat-key-kinds.r eat-key.Post
+one-eat-key κs a x y s t p q = p .0 ∙ sym (q .0)
+
+pub one-eat-gap : One 1 eat-gap-kinds.ps eat-gap-kinds.r eat-gap.Post
+one-eat-gap κs a x y s t p q = p .0 ∙ sym (q .0)
+
+pub one-eat-line : One 1 eat-line-kinds.ps eat-line-kinds.r eat-line.Post
+one-eat-line κs a x y s t p q = p .0 ∙ sym (q .0)
+
+pub one-find : One 1 find-kinds.ps find-kinds.r find.Post
+one-find κs a x y s t p q = found-once p q
 
 -- the same bytes, wherever they lie
 pub one-from : Both 1 from-kinds.ps from-kinds.r from.Post (λ κs x s y t. now x ≡ now y)

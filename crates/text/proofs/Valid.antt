@@ -1,5 +1,4 @@
 -- The loop of `validate`, look by look.
---     run-ascii, sixteen-ascii        what the tests of eight and sixteen bytes say of each
 --     valid-on, valid-ascii, valid-stop   past a sequence, past ASCII, at an octet that begins none
 -- Assumes nothing.
 use mathlib.Core.Path.{_≡_, refl, sym, ap, _∙_, subst}
@@ -15,31 +14,12 @@ use lib.Dec.{ltb, eqb}
 use borrow.Author.Tests.{ltb-true, ltb-false, eq-eqb, ne-eqb}
 use Rattle.text.specs.Walk.{Look, answer, pass, walk}
 use Rattle.text.specs.Utf8.{width, lookValid}
-use Rattle.text.specs.Inner.{asciiRun, Sixteen}
+use Rattle.text.specs.Block.{others, Clear}
 use Rattle.text.specs.declared.utf8.Validity.{Validity}
 use Rattle.text.specs.declared.utf8.Validity.the-variants.{Valid, IllFormed}
 use Rattle.text.proofs.Walk.{walk-pass, walk-answer}
-use Rattle.text.proofs.Grammar.{both-true}
+use Rattle.text.proofs.Clear.{none-ascii}
 use Rattle.text.proofs.Lead.{width-ascii}
-
-pub run-ascii : (s : List ℕ) (i n : ℕ) → asciiRun s i n ≡ true → (k : ℕ) → k ≤ n → getD s (i + k) 0 < 0x80
-unfolding asciiRun
-run-ascii s i zero t k h = subst (λ (m : ℕ). getD s m 0 < 0x80) (omega arith) (ltb-true _ _ t)
-run-ascii s i (suc n) t k h =
-    ⊎-elim (λ e. subst (λ (m : ℕ). getD s (i + m) 0 < 0x80) (sym e) (ltb-true _ _ (both-true (asciiRun s i n) _ t .1)))
-    (λ l. run-ascii s i n (both-true (asciiRun s i n) (ltb (getD s (i + suc n) 0) 0x80) t .0) k (omega arith))
-    (eq-or-lt-of-le h)
-
-pub sixteen-ascii : (s : List ℕ) (i : ℕ) → i + 16 ≤ length s → asciiRun s i 7 ≡ true → asciiRun s (i + 8) 7 ≡ true → Sixteen s i
-sixteen-ascii s i room low high =
-    record { room = room; ascii = λ k h. go k h (ltb k 8) refl }
-  where
-    go : (k : ℕ) → k < 16 → (t : Bool) → ltb k 8 ≡ t → getD s (i + k) 0 < 0x80
-    go k h true e = run-ascii s i 7 low k (omega (arith, ltb-true k 8 e))
-    go k h false e =
-        let l : 8 ≤ k = ltb-false k 8 e in
-        let q : i + 8 + (k - 8) ≡ i + k = omega arith in
-        subst (λ (m : ℕ). getD s m 0 < 0x80) q (run-ascii s (i + 8) 7 high (k - 8) (omega arith))
 
 module _ (e : ℕ → Validity) (s : List ℕ) where
   pub valid-on : (i w : ℕ) → w ≡ width (drop i s) → (w ≡ 0 → ⊥) → i + w ≤ length s → walk lookValid e s i ≡ walk lookValid e s (i + w)
@@ -58,8 +38,16 @@ module _ (e : ℕ → Validity) (s : List ℕ) where
   valid-one : (i : ℕ) → i < length s → getD s i 0 < 0x80 → walk lookValid e s i ≡ walk lookValid e s (i + 1)
   valid-one i h a = valid-on i 1 (sym (width-ascii s i h (omega arith) a)) (λ z. omega arith) (omega arith)
 
-  pub valid-ascii : (i n : ℕ) → i + n ≤ length s → ((k : ℕ) → k < n → getD s (i + k) 0 < 0x80) → walk lookValid e s i ≡ walk lookValid e s (i + n)
-  valid-ascii i zero h a = ap (λ (n : ℕ). walk lookValid e s n) (sym (add-zero i))
-  valid-ascii i (suc n) h a =
-      valid-ascii i n (omega arith) (λ k l. a k (omega arith)) ∙ valid-one (i + n) (omega arith) (a n (omega arith))
+  ascii-on : (i n : ℕ) → i + n ≤ length s → ((k : ℕ) → i ≤ k → k < i + n → getD s k 0 < 0x80) → walk lookValid e s i ≡ walk lookValid e s (i + n)
+  ascii-on i zero h a = ap (λ (n : ℕ). walk lookValid e s n) (sym (add-zero i))
+  ascii-on i (suc n) h a =
+      ascii-on i n (omega arith) (λ k p q. a k p (omega arith)) ∙ valid-one (i + n) (omega arith) (a (i + n) (omega arith) (omega arith))
       ∙ ap (λ (m : ℕ). walk lookValid e s m) (add-one (i + n) ∙ sym (add-suc i n))
+
+  -- an octet of ASCII, and those behind it
+  pub valid-ascii : (i : ℕ) {r : ℕ} → i < length s → getD s i 0 < 0x80 → Clear others s (i + 1) r → walk lookValid e s i ≡ walk lookValid e s r
+  valid-ascii i {r} h a x =
+      let q : i + 1 + (r - (i + 1)) ≡ r = omega (arith, x .from) in
+      valid-one i h a
+      ∙ ascii-on (i + 1) (r - (i + 1)) (omega (arith, x .from, x .to)) (λ k p l. let b = x .clear k p (omega arith) in none-ascii (getD s k 0) (b .0) (b .1))
+      ∙ ap (λ (m : ℕ). walk lookValid e s m) q

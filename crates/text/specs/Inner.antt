@@ -5,7 +5,7 @@ use mathlib.Core.Path.{_≡_}
 use mathlib.Core.Bool.{Bool, true, false, cond, not, _&&_, _||_, Bool·beq}
 use mathlib.Core.List.{List}
 use lib.ListN.{length, getD}
-use lib.Dec.{eqb, ltb}
+use lib.Dec.{eqb, ltb, leb}
 use Rattle.text.specs.Range.{Range, _–_, within}
 use Rattle.text.specs.Utf8.{tail}
 use Rattle.text.specs.Class.{holdsOf}
@@ -20,16 +20,6 @@ seconds a =
 
 unfoldable pub goesSecond : ℕ → ℕ → Bool
 goesSecond a b = within (seconds a) b
-
--- the octets from i to n places further are ASCII
-unfoldable pub asciiRun : List ℕ → ℕ → ℕ → Bool
-asciiRun s i zero = ltb (getD s i 0) 0x80
-asciiRun s i (suc n) = asciiRun s i n && ltb (getD s (i + suc n) 0) 0x80
-
--- sixteen octets stand from i on, all ASCII
-pub record Sixteen (s : List ℕ) (i : ℕ) : Type 0 where
-  pub room : i + 16 ≤ length s
-  pub ascii : (k : ℕ) → k < 16 → getD s (i + k) 0 < 0x80
 
 -- bit b of two words, the first 64 bits in the lower
 unfoldable pub hasBit : ℕ → ℕ → ℕ → Bool
@@ -54,20 +44,19 @@ pub record AsciiRun (low high : ℕ) (w : Bool) (s : List ℕ) (i r : ℕ) : Typ
   pub passed : (k : ℕ) → i ≤ k → k < r → (k < length s) × (getD s k 0 < 0x80) × (Bool·beq (hasBit low high (getD s k 0)) w ≡ true)
   pub stopped : r < length s → getD s r 0 < 0x80 → Bool·beq (hasBit low high (getD s r 0)) w ≡ false
 
--- a letter of ASCII, and white space of ASCII
+-- a letter of ASCII
 abbrev pub letterOf : ℕ → Bool
 letterOf b = within (0x61 – 0x7A) b || within (0x41 – 0x5A) b
 
+-- the bytes from i to r are letters of ASCII
+pub record Letters (s : List ℕ) (i r : ℕ) : Type 0 where
+  pub from : i ≤ r
+  pub to : r ≤ max i (length s)
+  pub letters : (k : ℕ) → i ≤ k → k < r → letterOf (getD s k 0) ≡ true
+
+-- white space of ASCII; and what ends a key or may not be one, as far as ASCII goes
 abbrev pub blankOf : ℕ → Bool
 blankOf b = eqb b 0x20 || within (0x09 – 0x0D) b
 
--- none of the n bytes from i on is x
-abbrev pub Lack : ℕ → List ℕ → ℕ → ℕ → Type 0
-Lack x s i n = (k : ℕ) → k < n → getD s (i + k) 0 ≡ x → ⊥
-
--- r is the first place from i on where x stands, or the end
-pub record Found (x : ℕ) (s : List ℕ) (i r : ℕ) : Type 0 where
-  pub from : i ≤ r
-  pub to : r ≤ max i (length s)
-  pub before : Lack x s i (r - i)
-  pub at : r < length s → getD s r 0 ≡ x
+abbrev pub rareOf : ℕ → Bool
+rareOf b = (leb b 0x20 || eqb b 0x2C) || leb 0x7D b

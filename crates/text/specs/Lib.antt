@@ -5,4 +5,5 @@ pub mod Class
 pub mod Scan
 pub mod Rfc3629
 pub mod Boundaries
+pub mod Block
 pub mod Inner

@@ -1,17 +1,17 @@
 // The scanner, after unscanny: functions on the slice and a place by value. Total on any bytes and any place: past the end there is the
 // end, and a byte that starts no well-formed sequence is a character by itself, U+FFFD.
+use crate::block;
 use crate::class;
 use crate::class::Test;
 use crate::utf8;
 use crate::utf8::Decoded;
 ghost use mathlib.Core.Path.{_≡_};
-ghost use mathlib.Core.Bool.{true};
 ghost use Prim.Native.Nat.{ℕ, _+_, _-_, _≤_, _<_, min};
 ghost use lib.ListN.{length};
 ghost use lib.Dec.{leb};
-ghost use Rattle.text.specs.Class.{isWhitespace, isIdStart, isIdContinue, holdsOf};
+ghost use Rattle.text.specs.Class.{isWhitespace, isKey, isIdStart, isIdContinue, holdsOf};
 ghost use Rattle.text.specs.Scan.{see, nextOf, pastOne, single, skip, fails, part, Ahead, Inside};
-ghost use Rattle.text.specs.Inner.{wants, AsciiRun, letterOf, blankOf, Lack, Found};
+ghost use Rattle.text.specs.Inner.{wants, AsciiRun, letterOf, Letters};
 
 // What stands at a place: a code point and the place after it, or the end.
 pub enum Seen {
@@ -196,31 +196,47 @@ pub fn eat_until(s: &[u8], at: usize, t: Test) -> usize
     eat_run(s, at, t, false)
 }
 
-// White space of ASCII.
-fn is_blank(b: u8) -> bool
-    ensures { λ r. ⌜ r ≡ blankOf b ⌝ }
-{
-    (b == 0x20) | ((0x09 <= b) & (b <= 0x0d))
-}
-
 fn is_letter(b: u8) -> bool
     ensures { λ r. ⌜ r ≡ letterOf b ⌝ }
 {
     ((0x61 <= b) & (b <= 0x7a)) | ((0x41 <= b) & (b <= 0x5a))
 }
 
-// By comparisons, with nothing called in the loop: small enough to stand in each caller.
+// By comparisons, with nothing called in the loop: small enough to stand in each caller. Most white space is U+0020, and most of what ends it is ASCII.
 pub fn eat_whitespace(s: &[u8], at: usize) -> usize
     ensures { λ r. ⌜ (r ≡ skip isWhitespace (now (s .entry)) at) × Ahead (now (s .entry)) at r ⌝ }
 {
     let mut i = at;
     while i < s.len() {
         let b = s[i];
-        if !is_blank(b) {
-            if b < 0x80 {
+        if b != 0x20 {
+            if (0x20 < b) & (b < 0x80) {
                 return i;
             }
-            return eat_rest(s, i, Test::Whitespace, true);
+            if !((0x09 <= b) & (b <= 0x0d)) {
+                return eat_rest(s, i, Test::Whitespace, true);
+            }
+        }
+        i += 1;
+    }
+    i
+}
+
+// `eat_whitespace`, where there may be much: between entries.
+pub fn eat_gap(s: &[u8], at: usize) -> usize
+    ensures { λ r. ⌜ (r ≡ skip isWhitespace (now (s .entry)) at) × Ahead (now (s .entry)) at r ⌝ }
+{
+    eat_whitespace(s, block::past_white(s, at))
+}
+
+// The place after the letters of ASCII from a place on.
+pub fn eat_letters(s: &[u8], at: usize) -> usize
+    ensures { λ r. ⌜ Letters (now (s .entry)) at r ⌝ }
+{
+    let mut i = at;
+    while i < s.len() {
+        if !is_letter(s[i]) {
+            return i;
         }
         i += 1;
     }
@@ -248,10 +264,7 @@ pub fn eat_id(s: &[u8], at: usize) -> usize
     while i < s.len() {
         let b = s[i];
         if !is_letter(b) {
-            if b == 0x20 {
-                return i;
-            }
-            if b == 0x3d {
+            if (b == 0x20) | (b == 0x3d) {
                 return i;
             }
             return eat_rest(s, i, Test::IdContinue, true);
@@ -261,65 +274,18 @@ pub fn eat_id(s: &[u8], at: usize) -> usize
     i
 }
 
-// How far two bytes are apart.
-fn apart(a: u8, b: u8) -> u8
-    ensures { λ r. ⌜ r ≡ (a - b) + (b - a) ⌝ }
-{
-    if a < b { b - a } else { a - b }
-}
-
-fn lesser(a: u8, b: u8) -> u8
-    ensures { λ r. ⌜ r ≡ min a b ⌝ }
-{
-    if a < b { a } else { b }
-}
-
-// Whether none of the sixteen bytes from a place on is x. No comparison decides in the loop: so all are made at once.
-fn lack(s: &[u8], at: usize, x: u8) -> bool
-    requires { ⌜ at + 16 ≤ length (now s) ⌝ }
-    ensures { λ r. ⌜ (r ≡ true → Lack x (now (s .entry)) at 16) ⌝ }
-{
-    let mut m: u8 = 255;
-    let mut k = 0;
-    while k < 16 {
-        let i = at + k;
-        m = lesser(m, apart(s[i], x));
-        k += 1;
-    }
-    0 < m
-}
-
-// Whether sixteen bytes stand from a place on.
-fn has_sixteen(s: &[u8], at: usize) -> bool
-    ensures { λ r. ⌜ (r ≡ true → at + 16 ≤ length (now (s .entry))) ⌝ }
-{
-    if s.len() < 16 {
-        return false;
-    }
-    at <= s.len() - 16
-}
-
-// The first place from a place on where x stands, or the end.
-pub fn find(s: &[u8], at: usize, x: u8) -> usize
-    ensures { λ r. ⌜ Found x (now (s .entry)) at r ⌝ }
-{
-    let mut i = at;
-    while has_sixteen(s, i) {
-        if !lack(s, i, x) {
-            return find_near(s, i, x);
-        }
-        i += 16;
-    }
-    find_near(s, i, x)
-}
-
-fn find_near(s: &[u8], at: usize, x: u8) -> usize
-    ensures { λ r. ⌜ Found x (now (s .entry)) at r ⌝ }
+// `eat_while` of `Key`: a key ends at a comma mostly.
+pub fn eat_key(s: &[u8], at: usize) -> usize
+    ensures { λ r. ⌜ (r ≡ skip isKey (now (s .entry)) at) × Ahead (now (s .entry)) at r ⌝ }
 {
     let mut i = at;
     while i < s.len() {
-        if s[i] == x {
-            return i;
+        let b = s[i];
+        if (b <= 0x20) | (b == 0x2c) | (0x7d <= b) {
+            if (b == 0x2c) | (b == 0x7d) {
+                return i;
+            }
+            return eat_rest(s, i, Test::Key, true);
         }
         i += 1;
     }
@@ -330,7 +296,7 @@ fn find_near(s: &[u8], at: usize, x: u8) -> usize
 pub fn eat_line(s: &[u8], at: usize) -> usize
     ensures { λ r. ⌜ (r ≡ skip (fails Test.Newline) (now (s .entry)) at) × Ahead (now (s .entry)) at r ⌝ }
 {
-    find(s, at, 0x0a)
+    block::find(s, at, 0x0a)
 }
 
 fn least(a: usize, b: usize) -> usize

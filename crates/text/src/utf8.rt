@@ -1,4 +1,5 @@
-// UTF-8 by RFC 3629. `specs/Utf8.antt` has the RFC's grammar and table; `proofs/Utf8.antt` what they settle.
+// UTF-8 by RFC 3629. `specs/Utf8.antt` has the RFC's grammar and table, `specs/Rfc3629.antt` what they settle.
+use crate::block;
 ghost use mathlib.Core.Path.{_≡_};
 ghost use mathlib.Core.Bool.{true};
 ghost use mathlib.Core.List.{_∷_};
@@ -6,7 +7,7 @@ ghost use Prim.Native.Nat.{ℕ, _+_, _-_, _%_, _≤_, _<_, max};
 ghost use lib.ListN.{length, take, drop, replicate};
 ghost use Rattle.text.specs.Range.{within};
 ghost use Rattle.text.specs.Utf8.{tail, begins, width, sequenceLength, value, isScalar, octets, further, validityOf, decodeAt, Encode, isBoundary};
-ghost use Rattle.text.specs.Inner.{seconds, goesSecond, asciiRun, Sixteen};
+ghost use Rattle.text.specs.Inner.{seconds, goesSecond};
 
 // Whether a text is valid, or where its first ill-formed sequence starts.
 pub enum Validity {
@@ -101,32 +102,26 @@ fn sequence(s: &[u8], at: usize) -> usize
     0
 }
 
-// Whether the eight bytes from a place on are ASCII.
-fn eight(s: &[u8], at: usize) -> bool
-    requires { ⌜ at + 8 ≤ length (now s) ⌝ }
-    ensures { λ r. ⌜ r ≡ asciiRun (now (s .entry)) at 7 ⌝ }
+// Whether a sequence of two octets stands at a place; and of three, with the first octets that any two tails may follow. These are most of what is
+// not ASCII, and a test of its own for each lets the machine go on before it knows the answer.
+fn is_two(s: &[u8], at: usize) -> bool
+    requires { ⌜ at < length (now s) ⌝ }
+    ensures { λ r. ⌜ (r ≡ true → (width (drop at (now (s .entry))) ≡ 2) × (at + 2 ≤ length (now (s .entry)))) ⌝ }
 {
-    (s[at] < 0x80)
-        & (s[at + 1] < 0x80)
-        & (s[at + 2] < 0x80)
-        & (s[at + 3] < 0x80)
-        & (s[at + 4] < 0x80)
-        & (s[at + 5] < 0x80)
-        & (s[at + 6] < 0x80)
-        & (s[at + 7] < 0x80)
+    if s.len() - at < 2 {
+        return false;
+    }
+    (0xc2 <= s[at]) & (s[at] <= 0xdf) & is_tail(s[at + 1])
 }
 
-// Whether sixteen bytes stand from a place on, all ASCII: most of a file is, and is checked so.
-fn sixteen(s: &[u8], at: usize) -> bool
-    ensures { λ r. ⌜ (r ≡ true → Sixteen (now (s .entry)) at) ⌝ }
+fn is_three(s: &[u8], at: usize) -> bool
+    requires { ⌜ at < length (now s) ⌝ }
+    ensures { λ r. ⌜ (r ≡ true → (width (drop at (now (s .entry))) ≡ 3) × (at + 3 ≤ length (now (s .entry)))) ⌝ }
 {
-    if s.len() < 16 {
+    if s.len() - at < 3 {
         return false;
     }
-    if s.len() - 16 < at {
-        return false;
-    }
-    eight(s, at) & eight(s, at + 8)
+    (0xe1 <= s[at]) & (s[at] <= 0xec) & is_tail(s[at + 1]) & is_tail(s[at + 2])
 }
 
 // Whether all of s is UTF-8, or the first byte of its first ill-formed sequence.
@@ -135,8 +130,12 @@ pub fn validate(s: &[u8]) -> Validity
 {
     let mut at = 0;
     while at < s.len() {
-        if sixteen(s, at) {
-            at += 16;
+        if s[at] < 0x80 {
+            at = block::past_ascii(s, at + 1);
+        } else if is_two(s, at) {
+            at += 2;
+        } else if is_three(s, at) {
+            at += 3;
         } else {
             let n = sequence(s, at);
             if n == 0 {

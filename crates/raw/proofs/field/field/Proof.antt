@@ -9,8 +9,8 @@ use Rattle.raw.proofs.FieldWays.{name-off, equals-off, value-off, value
 use Rattle.raw.proofs.field.field.Statement.{statement}
 use Rattle.raw.proofs.field.field.Tie as tie
 
-ident-requires : tie.Need-ident-requires
-ident-requires c κs = search needs
+name-requires : tie.Need-name-requires
+name-requires c κs = search needs
 
 enum-known-r1 : tie.Need-enum-known-r1
 enum-known-r1 c = search needs
@@ -24,7 +24,7 @@ refused-requires c κs = search needs
 returns : tie.Need-returns
 returns c =
     let a = c .before .before .before .before .before .before .args in
-    off-step (length (a .s .now)) 3 (a .at) (name-off (a .kind) (a .s .now) (a .at) (c .before .before .before .ident .ensures .0) (c .before .enum-told .given .1)) (c .before .enum-told .given .1) (c .refused .ensures)
+    off-step (length (a .s .now)) 3 (a .at) (name-off (a .kind) (a .s .now) (a .at) (c .before .before .before .name .ensures .0) (c .before .enum-told .given .1)) (c .before .enum-told .given .1) (c .refused .ensures)
 
 eat-whitespace-requires : tie.Need-eat-whitespace-requires
 eat-whitespace-requires c κs = search needs
@@ -44,7 +44,7 @@ refused-requires-2 c κs = search needs
 returns-2 : tie.Need-returns-2
 returns-2 c =
     let a = c .before .before .before .before .before .before .before .before .before .before .before .args in
-    off-step (length (a .s .now)) 3 (a .at) (equals-off (a .kind) (a .s .now) (a .at) (c .before .before .before .before .before .before .before .before .ident .ensures .0) (c .before .before .before .before .before .before .r1 .given .1) (c .before .before .before .before .eat-whitespace .ensures .0) (c .before .before .before .equals .ensures .0) (c .before .enum-told2 .given .1)) (c .before .enum-told2 .given .1) (c .refused2 .ensures)
+    off-step (length (a .s .now)) 3 (a .at) (equals-off (a .kind) (a .s .now) (a .at) (c .before .before .before .before .before .before .before .before .name .ensures .0) (c .before .before .before .before .before .before .r1 .given .1) (c .before .before .before .before .eat-whitespace .ensures .0) (c .before .before .before .equals .ensures .0) (c .before .enum-told2 .given .1)) (c .before .enum-told2 .given .1) (c .refused2 .ensures)
 
 eat-whitespace-requires-2 : tie.Need-eat-whitespace-requires-2
 eat-whitespace-requires-2 c κs = search needs
@@ -56,7 +56,7 @@ add-put-row-2 : tie.Need-add-put-row-2
 add-put-row-2 c =
     let a = c .before .before .before .before .before .before .before .before .before .before .before .before .before .args in
     let len = length (a .s .now) in
-    let k = step-place len 1 (a .at) (c .before .before .before .before .before .before .before .before .r1 .given .1) (c .before .before .before .before .before .before .before .before .before .before .ident .ensures .1) (c .before .before .before .before .before .before .before .before .before .before .before .before .before .pre .place) in
+    let k = step-place len 1 (a .at) (c .before .before .before .before .before .before .before .before .r1 .given .1) (c .before .before .before .before .before .before .before .before .before .before .name .ensures .1) (c .before .before .before .before .before .before .before .before .before .before .before .before .before .pre .place) in
     let l = step-place len 1 _ (c .before .before .before .r3 .given .1) (c .before .before .before .before .before .equals .ensures .1) (omega (arith, k .1, c .before .before .before .before .before .before .eat-whitespace .ensures .1 .to)) in
     omega (arith, c .before .before .before .before .before .before .before .before .before .before .before .before .before .pre .file)
 
@@ -64,7 +64,7 @@ put-row-requires : tie.Need-put-row-requires
 put-row-requires c κs =
     let a = c .before .before .before .before .before .before .before .before .before .before .before .before .before .args in
     let len = length (a .s .now) in
-    let k = step-place len 1 (a .at) (c .before .before .before .before .before .before .before .before .r1 .given .1) (c .before .before .before .before .before .before .before .before .before .before .ident .ensures .1) (c .before .before .before .before .before .before .before .before .before .before .before .before .before .pre .place) in
+    let k = step-place len 1 (a .at) (c .before .before .before .before .before .before .before .before .r1 .given .1) (c .before .before .before .before .before .before .before .before .before .before .name .ensures .1) (c .before .before .before .before .before .before .before .before .before .before .before .before .before .pre .place) in
     let l = step-place len 1 _ (c .before .before .before .r3 .given .1) (c .before .before .before .before .before .equals .ensures .1) (omega (arith, k .1, c .before .before .before .before .before .before .eat-whitespace .ensures .1 .to)) in
     (omega (arith, c .before .before .before .before .before .before .before .before .before .before .before .before .before .pre .file, c .before .before .before .before .before .before .before .before .before .before .before .before .before .pre .place), omega (arith, c .before .before .before .before .before .before .before .before .before .before .before .before .before .pre .file))
 
@@ -75,7 +75,7 @@ abbr-field-requires : tie.Need-abbr-field-requires
 abbr-field-requires c κs =
     let a = c .before .before .before .before .before .before .before .before .before .before .before .before .before .before .before .before .before .args in
     let len = length (a .s .now) in
-    let k = step-place len 1 (a .at) (c .before .before .before .before .before .before .before .before .before .before .before .before .r1 .given .1) (c .before .before .before .before .before .before .before .before .before .before .before .before .before .before .ident .ensures .1) (c .before .before .before .before .before .before .before .before .before .before .before .before .before .before .before .before .before .pre .place) in
+    let k = step-place len 1 (a .at) (c .before .before .before .before .before .before .before .before .before .before .before .before .r1 .given .1) (c .before .before .before .before .before .before .before .before .before .before .before .before .before .before .name .ensures .1) (c .before .before .before .before .before .before .before .before .before .before .before .before .before .before .before .before .before .pre .place) in
     let l = step-place len 1 _ (c .before .before .before .before .before .before .before .r3 .given .1) (c .before .before .before .before .before .before .before .before .before .equals .ensures .1) (omega (arith, k .1, c .before .before .before .before .before .before .before .before .before .before .eat-whitespace .ensures .1 .to)) in
     ready-later _ (a .n + 1 + 1) (c .before .before .before .before .before .before .before .before .before .before .before .before .before .before .before .before .before .pre) (omega arith) (omega (arith, c .before .before .before .before .before .eat-whitespace2 .ensures .1 .to)) (omega arith)
 
@@ -91,7 +91,7 @@ same-length c = search needs
 returns-3 : tie.Need-returns-3
 returns-3 c =
     let a = c .before .before .before .before .before .before .before .before .before .before .before .before .before .before .before .before .before .before .before .before .before .before .args in
-    (value-off (a .kind) (a .s .now) (a .at) (c .before .before .before .before .before .before .before .before .before .before .before .before .before .before .before .before .before .before .before .ident .ensures .0) (c .before .before .before .before .before .before .before .before .before .before .before .before .before .before .before .before .before .r1 .given .1) (c .before .before .before .before .before .before .before .before .before .before .before .before .before .before .before .eat-whitespace .ensures .0) (c .before .before .before .before .before .before .before .before .before .before .before .before .before .before .equals .ensures .0) (c .before .before .before .before .before .before .before .before .before .before .before .before .r3 .given .1) (c .before .before .before .before .before .before .before .before .before .before .eat-whitespace2 .ensures .0) (c .before .before .before .before .before .before .before .before .put-row .ensures) (c .before .before .before .before .abbr-field .ensures .0) (c .enum-told3 .given .1), off-within (length (a .s .now)) 3 (a .at) (a .n) (c .enum-told3 .given .1))
+    (value-off (a .kind) (a .s .now) (a .at) (c .before .before .before .before .before .before .before .before .before .before .before .before .before .before .before .before .before .before .before .name .ensures .0) (c .before .before .before .before .before .before .before .before .before .before .before .before .before .before .before .before .before .r1 .given .1) (c .before .before .before .before .before .before .before .before .before .before .before .before .before .before .before .eat-whitespace .ensures .0) (c .before .before .before .before .before .before .before .before .before .before .before .before .before .before .equals .ensures .0) (c .before .before .before .before .before .before .before .before .before .before .before .before .r3 .given .1) (c .before .before .before .before .before .before .before .before .before .before .eat-whitespace2 .ensures .0) (c .before .before .before .before .before .before .before .before .put-row .ensures) (c .before .before .before .before .abbr-field .ensures .0) (c .enum-told3 .given .1), off-within (length (a .s .now)) 3 (a .at) (a .n) (c .enum-told3 .given .1))
 
 eat-whitespace-requires-3 : tie.Need-eat-whitespace-requires-3
 eat-whitespace-requires-3 c κs = search needs
@@ -106,16 +106,16 @@ returns-4 : tie.Need-returns-4
 returns-4 c =
     let a = c .before .before .before .before .before .before .before .before .before .before .before .before .before .before .before .before .before .before .before .before .before .before .before .before .before .args in
     let len = length (a .s .now) in
-    let k = step-place len 1 (a .at) (c .before .before .before .before .before .before .before .before .before .before .before .before .before .before .before .before .before .before .before .before .r1 .given .1) (c .before .before .before .before .before .before .before .before .before .before .before .before .before .before .before .before .before .before .before .before .before .before .ident .ensures .1) (c .before .before .before .before .before .before .before .before .before .before .before .before .before .before .before .before .before .before .before .before .before .before .before .before .before .pre .place) in
+    let k = step-place len 1 (a .at) (c .before .before .before .before .before .before .before .before .before .before .before .before .before .before .before .before .before .before .before .before .r1 .given .1) (c .before .before .before .before .before .before .before .before .before .before .before .before .before .before .before .before .before .before .before .before .before .before .name .ensures .1) (c .before .before .before .before .before .before .before .before .before .before .before .before .before .before .before .before .before .before .before .before .before .before .before .before .before .pre .place) in
     let l = step-place len 1 _ (c .before .before .before .before .before .before .before .before .before .before .before .before .before .before .before .r3 .given .1) (c .before .before .before .before .before .before .before .before .before .before .before .before .before .before .before .before .before .equals .ensures .1) (omega (arith, k .1, c .before .before .before .before .before .before .before .before .before .before .before .before .before .before .before .before .before .before .eat-whitespace .ensures .1 .to)) in
     let m = answer-place len 1 _ (a .n + 1 + 1) (c .before .before .before .r5 .given .1) (c .before .before .before .before .before .before .before .abbr-field .ensures .1) (omega (arith, l .1, c .before .before .before .before .before .before .before .before .before .before .before .before .before .eat-whitespace2 .ensures .1 .to)) in
-    (value-on (a .kind) (a .s .now) (a .at) (c .before .before .before .before .before .before .before .before .before .before .before .before .before .before .before .before .before .before .before .before .before .before .ident .ensures .0) (c .before .before .before .before .before .before .before .before .before .before .before .before .before .before .before .before .before .before .before .before .r1 .given .1) (c .before .before .before .before .before .before .before .before .before .before .before .before .before .before .before .before .before .before .eat-whitespace .ensures .0) (c .before .before .before .before .before .before .before .before .before .before .before .before .before .before .before .before .before .equals .ensures .0) (c .before .before .before .before .before .before .before .before .before .before .before .before .before .before .before .r3 .given .1) (c .before .before .before .before .before .before .before .before .before .before .before .before .before .eat-whitespace2 .ensures .0) (c .before .before .before .before .before .before .before .before .before .before .before .put-row .ensures) (c .before .before .before .before .before .before .before .abbr-field .ensures .0) (c .before .before .before .r5 .given .1) (c .before .eat-whitespace3 .ensures .0) (c .comment .ensures .0), (omega arith, omega arith, omega arith))
+    (value-on (a .kind) (a .s .now) (a .at) (c .before .before .before .before .before .before .before .before .before .before .before .before .before .before .before .before .before .before .before .before .before .before .name .ensures .0) (c .before .before .before .before .before .before .before .before .before .before .before .before .before .before .before .before .before .before .before .before .r1 .given .1) (c .before .before .before .before .before .before .before .before .before .before .before .before .before .before .before .before .before .before .eat-whitespace .ensures .0) (c .before .before .before .before .before .before .before .before .before .before .before .before .before .before .before .before .before .equals .ensures .0) (c .before .before .before .before .before .before .before .before .before .before .before .before .before .before .before .r3 .given .1) (c .before .before .before .before .before .before .before .before .before .before .before .before .before .eat-whitespace2 .ensures .0) (c .before .before .before .before .before .before .before .before .before .before .before .put-row .ensures) (c .before .before .before .before .before .before .before .abbr-field .ensures .0) (c .before .before .before .r5 .given .1) (c .before .eat-whitespace3 .ensures .0) (c .comment .ensures .0), (omega arith, omega arith, omega arith))
 
 pub field-spec : {M : Type 1} → statement M
 field-spec =
     tie.close
     (tie.spec
-    ident-requires
+    name-requires
     enum-known-r1
     enum-told
     refused-requires

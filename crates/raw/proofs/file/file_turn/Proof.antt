@@ -10,13 +10,13 @@ use Rattle.raw.proofs.FileWays.{file-end, file-entry, file-comment, fil
 use Rattle.raw.proofs.file.file_turn.Statement.{statement}
 use Rattle.raw.proofs.file.file_turn.Tie as tie
 
-eat-whitespace-requires : tie.Need-eat-whitespace-requires
-eat-whitespace-requires c κs = search needs
+eat-gap-requires : tie.Need-eat-gap-requires
+eat-gap-requires c κs = search needs
 
 returns : tie.Need-returns
 returns c =
     let a = c .before .before .before .before .args in
-    (turn-done (file-end (a .s .now) (a .at) (c .before .eat-whitespace .ensures .0) (c .if1 .taken)), (omega arith, omega arith, omega arith))
+    (turn-done (file-end (a .s .now) (a .at) (c .before .eat-gap .ensures .0) (c .if1 .taken)), (omega arith, omega arith, omega arith))
 
 shared-slice-read-b : tie.Need-shared-slice-read-b
 shared-slice-read-b c = search needs
@@ -33,8 +33,8 @@ same-length c = search needs
 returns-2 : tie.Need-returns-2
 returns-2 c =
     let a = c .before .before .before .before .before .before .before .before .before .before .before .before .before .args in
-    let k = answer-place (length (a .s .now)) 1 (c .before .before .before .before .before .before .before .before .before .before .eat-whitespace .result) (a .n) (c .before .p2 .given .1) (c .before .before .before .before .before .entry .ensures .1) (omega arith) in
-    let e = file-entry (a .s .now) (a .at) (c .before .before .before .before .before .before .before .before .before .before .eat-whitespace .ensures .0) (c .before .before .before .before .before .before .before .before .before .if1 .left) (c .before .before .before .before .before .before .before .if2 .taken) in
+    let k = answer-place (length (a .s .now)) 1 (c .before .before .before .before .before .before .before .before .before .before .eat-gap .result) (a .n) (c .before .p2 .given .1) (c .before .before .before .before .before .entry .ensures .1) (omega arith) in
+    let e = file-entry (a .s .now) (a .at) (c .before .before .before .before .before .before .before .before .before .before .eat-gap .ensures .0) (c .before .before .before .before .before .before .before .before .before .if1 .left) (c .before .before .before .before .before .before .before .if2 .taken) in
     (turn-of e (turn-then _ (says-at (c .before .p2 .given .1) (c .before .before .before .before .before .entry .ensures .0)) (turn-again refl)), (omega arith, omega arith, omega arith))
 
 enum-known-f : tie.Need-enum-known-f
@@ -46,7 +46,7 @@ same-length-2 c = search needs
 returns-3 : tie.Need-returns-3
 returns-3 c =
     let a = c .before .before .before .before .before .before .before .before .before .before .before .before .before .args in
-    let e = file-entry (a .s .now) (a .at) (c .before .before .before .before .before .before .before .before .before .before .eat-whitespace .ensures .0) (c .before .before .before .before .before .before .before .before .before .if1 .left) (c .before .before .before .before .before .before .before .if2 .taken) in
+    let e = file-entry (a .s .now) (a .at) (c .before .before .before .before .before .before .before .before .before .before .eat-gap .ensures .0) (c .before .before .before .before .before .before .before .before .before .if1 .left) (c .before .before .before .before .before .before .before .if2 .taken) in
     (turn-off (e ∙ then-off _ (said-off (says-at (c .before .f .given .1) (c .before .before .before .before .before .entry .ensures .0)))), tt)
 
 comment-requires : tie.Need-comment-requires
@@ -55,8 +55,8 @@ comment-requires c κs = search needs
 returns-4 : tie.Need-returns-4
 returns-4 c =
     let a = c .before .before .before .before .before .before .before .before .args in
-    let k = comment-further (a .s .now) (c .before .before .before .before .before .eat-whitespace .result) (c .before .before .before .before .if1 .left) (c .before .if3 .taken) (c .comment .ensures .0) in
-    (turn-again (file-comment (a .s .now) (a .at) (c .before .before .before .before .before .eat-whitespace .ensures .0) (c .before .before .before .before .if1 .left) (c .before .if3 .taken) (c .comment .ensures .0)), (omega arith, omega arith, omega arith))
+    let k = comment-further (a .s .now) (c .before .before .before .before .before .eat-gap .result) (c .before .before .before .before .if1 .left) (c .before .if3 .taken) (c .comment .ensures .0) in
+    (turn-again (file-comment (a .s .now) (a .at) (c .before .before .before .before .before .eat-gap .ensures .0) (c .before .before .before .before .if1 .left) (c .before .if3 .taken) (c .comment .ensures .0)), (omega arith, omega arith, omega arith))
 
 eat-requires : tie.Need-eat-requires
 eat-requires c κs = search needs
@@ -64,14 +64,14 @@ eat-requires c κs = search needs
 returns-5 : tie.Need-returns-5
 returns-5 c =
     let a = c .before .before .before .before .before .before .before .before .args in
-    let k = file-other (a .s .now) (a .at) (c .before .before .before .before .before .eat-whitespace .ensures .0) (c .before .before .before .before .if1 .left) (c .before .before .if2 .left) (c .before .if3 .left) (c .eat .ensures .0) in
+    let k = file-other (a .s .now) (a .at) (c .before .before .before .before .before .eat-gap .ensures .0) (c .before .before .before .before .if1 .left) (c .before .before .if2 .left) (c .before .if3 .left) (c .eat .ensures .0) in
     (turn-again (k .0), (omega arith, omega arith, omega arith))
 
 pub file-turn-spec : {M : Type 1} → statement M
 file-turn-spec =
     tie.close
     (tie.spec
-    eat-whitespace-requires
+    eat-gap-requires
     returns
     shared-slice-read-b
     entry-requires

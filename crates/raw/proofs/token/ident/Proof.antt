@@ -1,6 +1,5 @@
 -- `raw::token::ident` meets its contract. Assumes nothing.
 use borrow.Author.Needs.{needs}
-use Rattle.text.specs.Class.{holdsOf}
 use Rattle.raw.proofs.Steps.{ident-off, ident-line}
 use Rattle.raw.proofs.token.ident.Statement.{statement}
 use Rattle.raw.proofs.token.ident.Tie as tie
@@ -9,7 +8,6 @@ eat-start-requires : tie.Need-eat-start-requires
 eat-start-requires c κs = search needs
 
 returns : tie.Need-returns
-unfolding holdsOf
 returns c =
     let a = c .before .before .before .args in ident-off (a .s .now) (a .at) (c .before .eat-start .ensures .0) (c .if1 .taken)
 
@@ -17,7 +15,6 @@ eat-id-requires : tie.Need-eat-id-requires
 eat-id-requires c κs = search needs
 
 returns-2 : tie.Need-returns-2
-unfolding holdsOf
 returns-2 c =
     let a = c .before .before .before .before .args in
     ident-line (a .s .now) (a .at) (c .before .before .eat-start .ensures .0) (c .before .if1 .left) (c .before .before .eat-start .ensures .1) (c .eat-id .ensures .0) (c .eat-id .ensures .1)

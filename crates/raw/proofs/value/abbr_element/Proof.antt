@@ -8,8 +8,8 @@ use borrow.Author.Needs.{needs}
 use Rattle.raw.proofs.value.abbr_element.Statement.{statement}
 use Rattle.raw.proofs.value.abbr_element.Tie as tie
 
-any-element-requires : tie.Need-any-element-requires
-any-element-requires c κs = search needs
+bare-element-requires : tie.Need-bare-element-requires
+bare-element-requires c κs = (c .before .before .before .before .pre, record { no-brace = λ h. absurd (omega arith); no-quote = λ h. absurd (omega arith) })
 
 same-length : tie.Need-same-length
 same-length c = search needs
@@ -42,8 +42,8 @@ returns-3 c =
     let a = c .before .before .before .before .before .before .before .before .before .before .args in
     (says-of (element-quoted (a .s .now) (a .at) (c .before .before .before .before .before .before .before .if1 .left) (c .before .before .before .before .before .if2 .left) (c .before .before .before .before .if3 .taken)) (c .before .before .string-literal .ensures .0), within-later (length (a .s .now)) 2 (a .at) (a .n) 1 (a .at) (a .n) (c .before .before .string-literal .result) (omega arith) (omega arith) (omega arith) (c .before .before .string-literal .ensures .1))
 
-any-element-requires-2 : tie.Need-any-element-requires-2
-any-element-requires-2 c κs = search needs
+bare-element-requires-2 : tie.Need-bare-element-requires-2
+bare-element-requires-2 c κs = (c .before .before .before .before .before .before .before .pre, record { no-brace = λ h. c .before .before .if2 .left; no-quote = λ h. c .before .if3 .left })
 
 same-length-4 : tie.Need-same-length-4
 same-length-4 c = search needs
@@ -55,7 +55,7 @@ pub abbr-element-spec : {M : Type 1} → statement M
 abbr-element-spec =
     tie.close
     (tie.spec
-    any-element-requires
+    bare-element-requires
     same-length
     returns
     shared-slice-read-b
@@ -65,6 +65,6 @@ abbr-element-spec =
     string-literal-requires
     same-length-3
     returns-3
-    any-element-requires-2
+    bare-element-requires-2
     same-length-4
     returns-4)

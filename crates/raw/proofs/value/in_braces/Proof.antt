@@ -5,8 +5,8 @@ use lib.ListN.{length}
 use borrow.Author.Needs.{needs}
 use Rattle.raw.specs.Grammar.{bracedTurn}
 use Rattle.raw.proofs.Bytes.{Reached, reached}
-use Rattle.raw.proofs.Blocks.{braces-run}
-use Rattle.raw.proofs.ByteTurns.{braces-end, braces-open, braces-close, braces-closed, braces-cut, braces-escape, braces-plain}
+use Rattle.raw.proofs.ByteTurns.{braces-end, braces-open, braces-close, braces-closed, braces-plain}
+use Rattle.raw.proofs.ValueBlocks.{braces-clear, braces-far, braces-eof}
 use Rattle.raw.proofs.value.in_braces.Statement.{statement}
 use Rattle.raw.proofs.value.in_braces.Tie as tie
 
@@ -49,38 +49,42 @@ loop-less-2 c = omega arith
 loop-again-2 : tie.Need-loop-again-2 Inv-loop μ-loop
 loop-again-2 c = (omega arith, braces-close (c .before .before .before .before .loop .inv .1) (c .before .before .before .loop-test .taken) (c .before .match .keys2) (c .if1 .left))
 
+sub-if2 : tie.Need-sub-if2 Inv-loop μ-loop
+sub-if2 c = omega arith
+
+add-t14 : tie.Need-add-t14 Inv-loop μ-loop
+add-t14 c = omega arith
+
+returns-2 : tie.Need-returns-2 Inv-loop μ-loop
+returns-2 c = braces-eof (c .before .before .before .before .loop .inv .1) (c .before .before .before .loop-test .taken) (c .before .match .keys3) (omega arith)
+
 add-i-3 : tie.Need-add-i-3 Inv-loop μ-loop
 add-i-3 c = omega arith
-
-add-i-4 : tie.Need-add-i-4 Inv-loop μ-loop
-add-i-4 c = omega arith
 
 loop-less-3 : tie.Need-loop-less-3 Inv-loop μ-loop
 loop-less-3 c = omega arith
 
 loop-again-3 : tie.Need-loop-again-3 Inv-loop μ-loop
-loop-again-3 c = (omega arith, braces-escape (c .before .before .before .before .loop .inv .1) (c .before .before .before .loop-test .taken) (c .before .match .keys3) (c .if2 .taken))
+loop-again-3 c = (omega arith, braces-far (c .before .before .before .before .loop .inv .1) (c .before .before .before .loop-test .taken) (c .before .match .keys3) (omega arith))
+
+add-past-braces : tie.Need-add-past-braces Inv-loop μ-loop
+add-past-braces c = omega arith
+
+past-braces-requires : tie.Need-past-braces-requires Inv-loop μ-loop
+past-braces-requires c κs = search needs
 
 loop-less-4 : tie.Need-loop-less-4 Inv-loop μ-loop
-loop-less-4 c = omega arith
+loop-less-4 c = omega (arith, c .past-braces .ensures .from)
 
 loop-again-4 : tie.Need-loop-again-4 Inv-loop μ-loop
-loop-again-4 c = (omega arith, braces-cut (c .before .before .before .before .loop .inv .1) (c .before .before .before .loop-test .taken) (c .before .match .keys3) (c .if2 .left))
+loop-again-4 c =
+    let x = c .past-braces .ensures in
+    let other = c .before .match .rest in
+    let plain = braces-plain (c .before .before .before .before .loop .inv .1) (c .before .before .before .loop-test .taken) (other .0 .0 .1) (other .0 .1) (other .1) in
+    (omega (arith, x .from), braces-clear plain (omega arith) x)
 
-add-past-plain : tie.Need-add-past-plain Inv-loop μ-loop
-add-past-plain c = omega arith
-
-past-plain-requires : tie.Need-past-plain-requires Inv-loop μ-loop
-past-plain-requires c κs = search needs
-
-loop-less-5 : tie.Need-loop-less-5 Inv-loop μ-loop
-loop-less-5 c = omega (arith, c .past-plain .ensures .from)
-
-loop-again-5 : tie.Need-loop-again-5 Inv-loop μ-loop
-loop-again-5 c = let x = c .past-plain .ensures in (omega (arith, x .from), braces-run (braces-plain (c .before .before .before .before .loop .inv .1) (c .before .before .before .loop-test .taken) (c .before .match .rest .0 .0 .1) (c .before .match .rest .0 .1) (c .before .match .rest .1)) (omega arith) x)
-
-returns-2 : tie.Need-returns-2 Inv-loop μ-loop
-returns-2 c = braces-end (c .before .loop .inv .1) (c .loop-test .left)
+returns-3 : tie.Need-returns-3 Inv-loop μ-loop
+returns-3 c = braces-end (c .before .loop .inv .1) (c .loop-test .left)
 
 pub in-braces-spec : {M : Type 1} → statement M
 in-braces-spec =
@@ -99,14 +103,14 @@ in-braces-spec =
     add-i-2
     loop-less-2
     loop-again-2
+    sub-if2
+    add-t14
+    returns-2
     add-i-3
-    add-i-4
     loop-less-3
     loop-again-3
+    add-past-braces
+    past-braces-requires
     loop-less-4
     loop-again-4
-    add-past-plain
-    past-plain-requires
-    loop-less-5
-    loop-again-5
-    returns-2)
+    returns-3)

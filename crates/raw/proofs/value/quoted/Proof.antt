@@ -6,7 +6,7 @@ use borrow.Author.Needs.{needs}
 use Rattle.raw.specs.Grammar.{quotedTurn}
 use Rattle.raw.proofs.Bytes.{Reached, reached}
 use Rattle.raw.proofs.ByteTurns.{quoted-closed, quoted-plain}
-use Rattle.raw.proofs.Quotes.{quoted-run, quoted-far, quoted-rest}
+use Rattle.raw.proofs.ValueBlocks.{quoted-clear, quoted-far, quoted-rest}
 use Rattle.raw.proofs.value.quoted.Statement.{statement}
 use Rattle.raw.proofs.value.quoted.Tie as tie
 
@@ -19,53 +19,53 @@ abbrev μ-loop : tie.MeasureT-loop
 loop-holds : tie.Need-loop-holds Inv-loop μ-loop
 loop-holds c = reached
 
-has-sixteen-requires : tie.Need-has-sixteen-requires Inv-loop μ-loop
-has-sixteen-requires c κs = search needs
+has-requires : tie.Need-has-requires Inv-loop μ-loop
+has-requires c κs = search needs
 
 shared-slice-read-match : tie.Need-shared-slice-read-match Inv-loop μ-loop
-shared-slice-read-match c = omega (arith, c .before .before .has-sixteen .ensures (c .before .if1 .taken))
+shared-slice-read-match c = omega (arith, c .before .before .has .ensures (c .before .if1 .taken))
 
 returns : tie.Need-returns Inv-loop μ-loop
-returns c = quoted-closed (c .before .before .before .before .loop .inv) (omega (arith, c .before .before .before .has-sixteen .ensures (c .before .before .if1 .taken))) (c .match .keys1)
+returns c = quoted-closed (c .before .before .before .before .loop .inv) (omega (arith, c .before .before .before .has .ensures (c .before .before .if1 .taken))) (c .match .keys1)
 
 add-i : tie.Need-add-i Inv-loop μ-loop
-add-i c = omega (arith, c .before .before .before .has-sixteen .ensures (c .before .before .if1 .taken))
+add-i c = omega (arith, c .before .before .before .has .ensures (c .before .before .if1 .taken))
 
 loop-less : tie.Need-loop-less Inv-loop μ-loop
-loop-less c = omega (arith, c .before .before .before .has-sixteen .ensures (c .before .before .if1 .taken))
+loop-less c = omega (arith, c .before .before .before .has .ensures (c .before .before .if1 .taken))
 
 loop-again : tie.Need-loop-again Inv-loop μ-loop
-loop-again c = quoted-far (c .before .before .before .before .loop .inv) (omega (arith, c .before .before .before .has-sixteen .ensures (c .before .before .if1 .taken))) (c .match .keys2)
+loop-again c = quoted-far (c .before .before .before .before .loop .inv) (omega (arith, c .before .before .before .has .ensures (c .before .before .if1 .taken))) (c .match .keys2)
 
 add-j : tie.Need-add-j Inv-loop μ-loop
-add-j c = omega (arith, c .before .before .before .has-sixteen .ensures (c .before .before .if1 .taken))
+add-j c = omega (arith, c .before .before .before .has .ensures (c .before .before .if1 .taken))
 
 shared-slice-read-match2 : tie.Need-shared-slice-read-match2 Inv-loop μ-loop
-shared-slice-read-match2 c = omega (arith, c .before .before .before .before .has-sixteen .ensures (c .before .before .before .if1 .taken))
+shared-slice-read-match2 c = omega (arith, c .before .before .before .before .has .ensures (c .before .before .before .if1 .taken))
 
 returns-2 : tie.Need-returns-2 Inv-loop μ-loop
-returns-2 c = let h = c .before .before .before .before .before .has-sixteen .ensures (c .before .before .before .before .if1 .taken) in let m = c .before .before .match .rest in quoted-closed (quoted-plain (c .before .before .before .before .before .before .loop .inv) (omega (arith, h)) (m .0 .1) (m .1)) (omega (arith, h)) (c .match2 .keys1)
+returns-2 c = let h = c .before .before .before .before .before .has .ensures (c .before .before .before .before .if1 .taken) in let m = c .before .before .match .rest in quoted-closed (quoted-plain (c .before .before .before .before .before .before .loop .inv) (omega (arith, h)) (m .0 .1) (m .1)) (omega (arith, h)) (c .match2 .keys1)
 
 add-i-2 : tie.Need-add-i-2 Inv-loop μ-loop
-add-i-2 c = omega (arith, c .before .before .before .before .before .has-sixteen .ensures (c .before .before .before .before .if1 .taken))
+add-i-2 c = omega (arith, c .before .before .before .before .before .has .ensures (c .before .before .before .before .if1 .taken))
 
 loop-less-2 : tie.Need-loop-less-2 Inv-loop μ-loop
-loop-less-2 c = omega (arith, c .before .before .before .before .before .has-sixteen .ensures (c .before .before .before .before .if1 .taken))
+loop-less-2 c = omega (arith, c .before .before .before .before .before .has .ensures (c .before .before .before .before .if1 .taken))
 
 loop-again-2 : tie.Need-loop-again-2 Inv-loop μ-loop
-loop-again-2 c = let h = c .before .before .before .before .before .has-sixteen .ensures (c .before .before .before .before .if1 .taken) in let m = c .before .before .match .rest in quoted-far (quoted-plain (c .before .before .before .before .before .before .loop .inv) (omega (arith, h)) (m .0 .1) (m .1)) (omega (arith, h)) (c .match2 .keys2)
+loop-again-2 c = let h = c .before .before .before .before .before .has .ensures (c .before .before .before .before .if1 .taken) in let m = c .before .before .match .rest in quoted-far (quoted-plain (c .before .before .before .before .before .before .loop .inv) (omega (arith, h)) (m .0 .1) (m .1)) (omega (arith, h)) (c .match2 .keys2)
 
-add-past-quoted : tie.Need-add-past-quoted Inv-loop μ-loop
-add-past-quoted c = omega (arith, c .before .before .before .before .before .has-sixteen .ensures (c .before .before .before .before .if1 .taken))
+add-past-quotes : tie.Need-add-past-quotes Inv-loop μ-loop
+add-past-quotes c = omega (arith, c .before .before .before .before .before .has .ensures (c .before .before .before .before .if1 .taken))
 
-past-quoted-requires : tie.Need-past-quoted-requires Inv-loop μ-loop
-past-quoted-requires c κs = search needs
+past-quotes-requires : tie.Need-past-quotes-requires Inv-loop μ-loop
+past-quotes-requires c κs = search needs
 
 loop-less-3 : tie.Need-loop-less-3 Inv-loop μ-loop
-loop-less-3 c = omega (arith, c .before .before .before .before .before .before .has-sixteen .ensures (c .before .before .before .before .before .if1 .taken), c .past-quoted .ensures .from)
+loop-less-3 c = omega (arith, c .before .before .before .before .before .before .has .ensures (c .before .before .before .before .before .if1 .taken), c .past-quotes .ensures .from)
 
 loop-again-3 : tie.Need-loop-again-3 Inv-loop μ-loop
-loop-again-3 c = let h = c .before .before .before .before .before .before .has-sixteen .ensures (c .before .before .before .before .before .if1 .taken) in let m = c .before .before .before .match .rest in let n = c .before .match2 .rest in quoted-run (quoted-plain (quoted-plain (c .before .before .before .before .before .before .before .loop .inv) (omega (arith, h)) (m .0 .1) (m .1)) (omega (arith, h)) (n .0 .1) (n .1)) (omega (arith, h)) (c .past-quoted .ensures)
+loop-again-3 c = let h = c .before .before .before .before .before .before .has .ensures (c .before .before .before .before .before .if1 .taken) in let m = c .before .before .before .match .rest in let n = c .before .match2 .rest in quoted-clear (quoted-plain (quoted-plain (c .before .before .before .before .before .before .before .loop .inv) (omega (arith, h)) (m .0 .1) (m .1)) (omega (arith, h)) (n .0 .1) (n .1)) (omega (arith, h)) (c .past-quotes .ensures)
 
 quoted-end-requires : tie.Need-quoted-end-requires Inv-loop μ-loop
 quoted-end-requires c κs = search needs
@@ -80,7 +80,7 @@ quoted-spec =
     Inv-loop
     μ-loop
     loop-holds
-    has-sixteen-requires
+    has-requires
     shared-slice-read-match
     returns
     add-i
@@ -92,8 +92,8 @@ quoted-spec =
     add-i-2
     loop-less-2
     loop-again-2
-    add-past-quoted
-    past-quoted-requires
+    add-past-quotes
+    past-quotes-requires
     loop-less-3
     loop-again-3
     quoted-end-requires

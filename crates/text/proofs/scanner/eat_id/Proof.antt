@@ -8,7 +8,7 @@ use borrow.Author.Tests.{not-false}
 use Rattle.text.specs.Class.{isIdContinue, holdsOf}
 use Rattle.text.specs.Scan.{skip}
 use Rattle.text.proofs.Skip.{skip-end, ran}
-use Rattle.text.proofs.Quick.{letter-on, id-stop, space-off, equals-off}
+use Rattle.text.proofs.AsciiTurns.{letter-on, id-stop}
 use Rattle.text.proofs.scanner.eat_id.Statement.{statement}
 use Rattle.text.proofs.scanner.eat_id.Tie as tie
 
@@ -28,17 +28,14 @@ is-letter-requires : tie.Need-is-letter-requires Inv-loop μ-loop
 is-letter-requires c κs = search needs
 
 returns : tie.Need-returns Inv-loop μ-loop
-returns c = let a = c .before .before .before .before .before .before .before .args in ran isIdContinue (a .s .now) (a .at) (sym (c .before .before .before .before .before .loop .inv ∙ id-stop (a .s .now) _ (c .before .before .before .before .loop-test .taken) 0x20 (c .if2 .taken) (omega arith) space-off))
-
-returns-2 : tie.Need-returns-2 Inv-loop μ-loop
-returns-2 c = let a = c .before .before .before .before .before .before .before .before .args in ran isIdContinue (a .s .now) (a .at) (sym (c .before .before .before .before .before .before .loop .inv ∙ id-stop (a .s .now) _ (c .before .before .before .before .before .loop-test .taken) 0x3D (c .if3 .taken) (omega arith) equals-off))
+returns c = let a = c .before .before .before .before .before .before .before .args in ran isIdContinue (a .s .now) (a .at) (sym (c .before .before .before .before .before .loop .inv ∙ id-stop (a .s .now) _ (c .before .before .before .before .loop-test .taken) (c .if2 .taken)))
 
 eat-rest-requires : tie.Need-eat-rest-requires Inv-loop μ-loop
 eat-rest-requires c κs = search needs
 
-returns-3 : tie.Need-returns-3 Inv-loop μ-loop
+returns-2 : tie.Need-returns-2 Inv-loop μ-loop
 unfolding holdsOf
-returns-3 c = let a = c .before .before .before .before .before .before .before .before .before .args in ran isIdContinue (a .s .now) (a .at) (c .eat-rest .ensures .0 ∙ sym (c .before .before .before .before .before .before .before .loop .inv))
+returns-2 c = let a = c .before .before .before .before .before .before .before .before .args in ran isIdContinue (a .s .now) (a .at) (c .eat-rest .ensures .0 ∙ sym (c .before .before .before .before .before .before .loop .inv))
 
 add-i : tie.Need-add-i Inv-loop μ-loop
 add-i c = omega arith
@@ -47,10 +44,10 @@ loop-less : tie.Need-loop-less Inv-loop μ-loop
 loop-less c = omega arith
 
 loop-again : tie.Need-loop-again Inv-loop μ-loop
-loop-again c = let a = c .before .before .before .before .before .before .args in c .before .before .before .before .loop .inv ∙ letter-on (a .s .now) _ (c .before .before .before .loop-test .taken) (c .before .is-letter .ensures) (not-false _ (c .if1 .left))
+loop-again c = let a = c .before .before .before .before .before .before .args in c .before .before .before .before .loop .inv ∙ letter-on (a .s .now) _ (c .before .before .before .loop-test .taken) (sym (c .before .is-letter .ensures) ∙ not-false _ (c .if1 .left))
 
-returns-4 : tie.Need-returns-4 Inv-loop μ-loop
-returns-4 c = let a = c .before .before .before .args in ran isIdContinue (a .s .now) (a .at) (sym (c .before .loop .inv ∙ skip-end isIdContinue (a .s .now) _ (c .loop-test .left)))
+returns-3 : tie.Need-returns-3 Inv-loop μ-loop
+returns-3 c = let a = c .before .before .before .args in ran isIdContinue (a .s .now) (a .at) (sym (c .before .loop .inv ∙ skip-end isIdContinue (a .s .now) _ (c .loop-test .left)))
 
 pub eat-id-spec : {M : Type 1} → statement M
 eat-id-spec =
@@ -62,10 +59,9 @@ eat-id-spec =
     shared-slice-read-b
     is-letter-requires
     returns
-    returns-2
     eat-rest-requires
-    returns-3
+    returns-2
     add-i
     loop-less
     loop-again
-    returns-4)
+    returns-3)

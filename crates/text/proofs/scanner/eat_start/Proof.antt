@@ -1,8 +1,9 @@
 -- `text::scanner::eat_start` meets its contract. Assumes nothing.
+use mathlib.Core.Path.{sym, _∙_}
 use Rattle.text.specs.Class.{isIdStart, holdsOf}
 use Rattle.text.specs.declared.class.Test.the-variants.{IdStart}
 use Rattle.text.proofs.Skip.{passed, bit-end}
-use Rattle.text.proofs.Quick.{letter-start}
+use Rattle.text.proofs.AsciiTurns.{letter-start}
 use borrow.Author.Needs.{needs}
 use Rattle.text.proofs.scanner.eat_start.Statement.{statement}
 use Rattle.text.proofs.scanner.eat_start.Tie as tie
@@ -21,7 +22,7 @@ add-result : tie.Need-add-result
 add-result c = search needs
 
 returns-2 : tie.Need-returns-2
-returns-2 c = let a = c .before .before .before .before .before .args in letter-start (a .s .now) (a .at) (c .before .before .before .if1 .left) (c .before .is-letter .ensures) (c .if2 .taken)
+returns-2 c = let a = c .before .before .before .before .before .args in letter-start (a .s .now) (a .at) (c .before .before .before .if1 .left) (sym (c .before .is-letter .ensures) ∙ c .if2 .taken)
 
 eat-wide-requires : tie.Need-eat-wide-requires
 eat-wide-requires c κs = search needs

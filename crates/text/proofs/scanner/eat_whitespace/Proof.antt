@@ -1,14 +1,15 @@
 -- `text::scanner::eat_whitespace` meets its contract. Assumes nothing.
 use Prim.Native.Nat.{_-_}
+use mathlib.Core.Logic.{⊎-elim}
 use mathlib.Core.Path.{_≡_, refl, sym, _∙_}
 use native.Mathlib.Omega.{arith}
 use lib.ListN.{length}
+use borrow.Author.Tests.{not-false}
 use borrow.Author.Needs.{needs}
-use borrow.Author.Tests.{not-true, not-false}
-use Rattle.text.specs.Class.{isWhitespace, holdsOf}
-use Rattle.text.specs.Scan.{skip}
+use Rattle.text.proofs.AsciiTurns.{space-on, tab-on, solid-stop}
 use Rattle.text.proofs.Skip.{skip-end, ran}
-use Rattle.text.proofs.Quick.{blank-on, blank-stop}
+use Rattle.text.specs.Scan.{skip}
+use Rattle.text.specs.Class.{isWhitespace, holdsOf}
 use Rattle.text.proofs.scanner.eat_whitespace.Statement.{statement}
 use Rattle.text.proofs.scanner.eat_whitespace.Tie as tie
 
@@ -24,11 +25,8 @@ loop-holds c = refl
 shared-slice-read-b : tie.Need-shared-slice-read-b Inv-loop μ-loop
 shared-slice-read-b c = omega arith
 
-is-blank-requires : tie.Need-is-blank-requires Inv-loop μ-loop
-is-blank-requires c κs = search needs
-
 returns : tie.Need-returns Inv-loop μ-loop
-returns c = let a = c .before .before .before .before .before .before .before .args in ran isWhitespace (a .s .now) (a .at) (sym (c .before .before .before .before .before .loop .inv ∙ blank-stop (a .s .now) _ (c .before .before .before .before .loop-test .taken) (c .before .before .is-blank .ensures) (not-true _ (c .before .if1 .taken)) (c .if2 .taken)))
+returns c = let a = c .before .before .before .before .before .before .args in ran isWhitespace (a .s .now) (a .at) (sym (c .before .before .before .before .loop .inv ∙ solid-stop (a .s .now) _ (c .before .before .before .loop-test .taken) (c .if2 .taken)))
 
 eat-rest-requires : tie.Need-eat-rest-requires Inv-loop μ-loop
 eat-rest-requires c κs = search needs
@@ -44,7 +42,11 @@ loop-less : tie.Need-loop-less Inv-loop μ-loop
 loop-less c = omega arith
 
 loop-again : tie.Need-loop-again Inv-loop μ-loop
-loop-again c = let a = c .before .before .before .before .before .before .args in c .before .before .before .before .loop .inv ∙ blank-on (a .s .now) _ (c .before .before .before .loop-test .taken) (c .before .is-blank .ensures) (not-false _ (c .if1 .left))
+loop-again c =
+    let a = c .before .before .before .before .before .args in
+    let v = c .before .before .before .loop in
+    let h = c .before .before .loop-test .taken in
+    v .inv ∙ ⊎-elim (λ w. tab-on (a .s .now) (v .i) h (not-false _ (w .2 .left))) (λ w. space-on (a .s .now) (v .i) h (w .left)) (c .if1 .came)
 
 returns-3 : tie.Need-returns-3 Inv-loop μ-loop
 returns-3 c = let a = c .before .before .before .args in ran isWhitespace (a .s .now) (a .at) (sym (c .before .loop .inv ∙ skip-end isWhitespace (a .s .now) _ (c .loop-test .left)))
@@ -57,7 +59,6 @@ eat-whitespace-spec =
     μ-loop
     loop-holds
     shared-slice-read-b
-    is-blank-requires
     returns
     eat-rest-requires
     returns-2

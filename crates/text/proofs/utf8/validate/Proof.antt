@@ -1,14 +1,14 @@
--- `text::utf8::validate` meets its contract: each turn of the loop is one look of the walk, or sixteen. Assumes nothing.
+-- `text::utf8::validate` meets its contract: each turn of the loop is a look of the walk, or as many as there are octets of ASCII. Assumes nothing.
 use Prim.Native.Nat.{_+_, _-_, _≤_}
 use mathlib.Core.Path.{_≡_, refl, sym, _∙_}
 use native.Mathlib.Omega.{arith}
 use lib.ListN.{length}
 use borrow.Author.Needs.{needs}
-use Rattle.text.specs.Walk.{walk}
-use Rattle.text.specs.Utf8.{lookValid, validityOf}
-use Rattle.text.specs.declared.utf8.Validity.the-variants.{Valid}
-use Rattle.text.proofs.Walk.{walk-end}
 use Rattle.text.proofs.Valid.{valid-on, valid-ascii, valid-stop}
+use Rattle.text.proofs.Walk.{walk-end}
+use Rattle.text.specs.declared.utf8.Validity.the-variants.{Valid}
+use Rattle.text.specs.Utf8.{lookValid, validityOf}
+use Rattle.text.specs.Walk.{walk}
 use Rattle.text.proofs.utf8.validate.Statement.{statement}
 use Rattle.text.proofs.utf8.validate.Tie as tie
 
@@ -22,32 +22,73 @@ loop-holds : tie.Need-loop-holds Inv-loop μ-loop
 unfolding validityOf
 loop-holds c = (omega arith, refl)
 
-sixteen-requires : tie.Need-sixteen-requires Inv-loop μ-loop
-sixteen-requires c κs = search needs
+shared-slice-read-if1 : tie.Need-shared-slice-read-if1 Inv-loop μ-loop
+shared-slice-read-if1 c = omega arith
 
-add-at : tie.Need-add-at Inv-loop μ-loop
-add-at c = omega (arith, c .before .sixteen .ensures (c .if1 .taken) .room)
+add-past-ascii : tie.Need-add-past-ascii Inv-loop μ-loop
+add-past-ascii c = omega arith
+
+past-ascii-requires : tie.Need-past-ascii-requires Inv-loop μ-loop
+past-ascii-requires c κs = search needs
 
 loop-less : tie.Need-loop-less Inv-loop μ-loop
-loop-less c = omega (arith, c .before .sixteen .ensures (c .if1 .taken) .room)
+loop-less c = omega (arith, c .past-ascii .ensures .from)
 
 loop-again : tie.Need-loop-again Inv-loop μ-loop
-loop-again c = let x = c .before .sixteen .ensures (c .if1 .taken) in (x .room, c .before .before .before .loop .inv .1 ∙ valid-ascii (λ n. Valid) _ _ 16 (x .room) (x .ascii))
+loop-again c =
+    let v = c .before .before .before .before .loop in
+    let h = c .before .before .before .loop-test .taken in
+    let x = c .past-ascii .ensures in
+    (omega (arith, x .from, x .to), v .inv .1 ∙ valid-ascii (λ n. Valid) _ (v .at) h (c .before .if1 .taken) x)
+
+is-two-requires : tie.Need-is-two-requires Inv-loop μ-loop
+is-two-requires c κs = search needs
+
+add-at : tie.Need-add-at Inv-loop μ-loop
+add-at c = omega (arith, c .before .is-two .ensures (c .if2 .taken) .1)
+
+loop-less-2 : tie.Need-loop-less-2 Inv-loop μ-loop
+loop-less-2 c = omega (arith, c .before .is-two .ensures (c .if2 .taken) .1)
+
+loop-again-2 : tie.Need-loop-again-2 Inv-loop μ-loop
+loop-again-2 c =
+    let v = c .before .before .before .before .before .loop in
+    let x = c .before .is-two .ensures (c .if2 .taken) in
+    (x .1, v .inv .1 ∙ valid-on (λ n. Valid) _ (v .at) 2 (sym (x .0)) (λ z. omega arith) (x .1))
+
+is-three-requires : tie.Need-is-three-requires Inv-loop μ-loop
+is-three-requires c κs = search needs
+
+add-at-2 : tie.Need-add-at-2 Inv-loop μ-loop
+add-at-2 c = omega (arith, c .before .is-three .ensures (c .if3 .taken) .1)
+
+loop-less-3 : tie.Need-loop-less-3 Inv-loop μ-loop
+loop-less-3 c = omega (arith, c .before .is-three .ensures (c .if3 .taken) .1)
+
+loop-again-3 : tie.Need-loop-again-3 Inv-loop μ-loop
+loop-again-3 c =
+    let v = c .before .before .before .before .before .before .before .loop in
+    let x = c .before .is-three .ensures (c .if3 .taken) in
+    (x .1, v .inv .1 ∙ valid-on (λ n. Valid) _ (v .at) 3 (sym (x .0)) (λ z. omega arith) (x .1))
 
 sequence-requires : tie.Need-sequence-requires Inv-loop μ-loop
 sequence-requires c κs = search needs
 
 returns : tie.Need-returns Inv-loop μ-loop
-returns c = sym (c .before .before .before .before .before .loop .inv .1 ∙ valid-stop (λ n. Valid) _ _ _ (c .before .sequence .ensures .0) (c .if2 .taken) (c .before .before .before .before .loop-test .taken))
+returns c = sym (c .before .before .before .before .before .before .before .before .before .loop .inv .1 ∙ valid-stop (λ n. Valid) _ _ _ (c .before .sequence .ensures .0) (c .if4 .taken) (c .before .before .before .before .before .before .before .before .loop-test .taken))
 
-add-at-2 : tie.Need-add-at-2 Inv-loop μ-loop
-add-at-2 c = omega arith
+add-at-3 : tie.Need-add-at-3 Inv-loop μ-loop
+add-at-3 c = omega arith
 
-loop-less-2 : tie.Need-loop-less-2 Inv-loop μ-loop
-loop-less-2 c = omega arith
+loop-less-4 : tie.Need-loop-less-4 Inv-loop μ-loop
+loop-less-4 c = omega arith
 
-loop-again-2 : tie.Need-loop-again-2 Inv-loop μ-loop
-loop-again-2 c = let h : c .before .before .before .before .before .loop .at + c .before .sequence .result ≤ length (c .before .before .before .before .before .before .before .args .s .now) = omega arith in (h, c .before .before .before .before .before .loop .inv .1 ∙ valid-on (λ n. Valid) _ _ _ (c .before .sequence .ensures .0) (c .if2 .left) h)
+loop-again-4 : tie.Need-loop-again-4 Inv-loop μ-loop
+loop-again-4 c =
+    let v = c .before .before .before .before .before .before .before .before .before .loop in
+    let x = c .before .sequence .ensures in
+    let h : v .at + c .before .sequence .result ≤ length (c .before .before .before .before .before .before .before .before .before .before .before .args .s .now) = omega arith in
+    (h, v .inv .1 ∙ valid-on (λ n. Valid) _ (v .at) _ (x .0) (c .if4 .left) h)
 
 returns-2 : tie.Need-returns-2 Inv-loop μ-loop
 returns-2 c = sym (c .before .loop .inv .1 ∙ walk-end lookValid (λ n. Valid) _ _ (c .loop-test .left))
@@ -59,13 +100,22 @@ validate-spec =
     Inv-loop
     μ-loop
     loop-holds
-    sixteen-requires
-    add-at
+    shared-slice-read-if1
+    add-past-ascii
+    past-ascii-requires
     loop-less
     loop-again
-    sequence-requires
-    returns
-    add-at-2
+    is-two-requires
+    add-at
     loop-less-2
     loop-again-2
+    is-three-requires
+    add-at-2
+    loop-less-3
+    loop-again-3
+    sequence-requires
+    returns
+    add-at-3
+    loop-less-4
+    loop-again-4
     returns-2)

@@ -1,0 +1,24 @@
+-- `raw::field::name` meets its contract. Assumes nothing.
+use borrow.Author.Needs.{needs}
+use Rattle.raw.proofs.Steps.{ident-letters}
+use Rattle.raw.proofs.field.name.Statement.{statement}
+use Rattle.raw.proofs.field.name.Tie as tie
+
+eat-letters-requires : tie.Need-eat-letters-requires
+eat-letters-requires c κs = search needs
+
+shared-slice-read-b : tie.Need-shared-slice-read-b
+shared-slice-read-b c = search needs
+
+returns : tie.Need-returns
+returns c = let a = c .before .before .before .before .before .before .args in ident-letters (a .s .now) (a .at) (c .before .before .before .before .eat-letters .ensures) (c .before .before .before .if1 .taken) (c .before .before .if2 .taken) (c .if3 .taken)
+
+ident-requires : tie.Need-ident-requires
+ident-requires c κs = search needs
+
+returns-2 : tie.Need-returns-2
+returns-2 c = c .ident .ensures
+
+pub name-spec : {M : Type 1} → statement M
+name-spec =
+    tie.close (tie.spec eat-letters-requires shared-slice-read-b returns ident-requires returns-2)

@@ -1,0 +1,157 @@
+-- `raw::value::bare_element` meets its contract. Assumes nothing.
+use mathlib.Core.Path.{refl, ap, _∙_}
+use native.Mathlib.Omega.{arith}
+use lib.ListN.{length}
+use borrow.Author.Needs.{needs}
+use Rattle.raw.specs.declared.row.Kind.the-variants as kind
+use Rattle.raw.specs.Row.{row}
+use Rattle.raw.specs.Reader.{under}
+use Rattle.raw.specs.Grammar.{number, ident}
+use Rattle.raw.proofs.Bare.{bare-at, bare-off}
+use Rattle.raw.proofs.Saying.{says-of, says-on, says-under}
+use Rattle.raw.proofs.Eaten.{not-at}
+use Rattle.raw.proofs.Steps.{number-bare, ident-bare}
+use Rattle.raw.proofs.Bounds.{step-place, off-step, off-answer}
+use Rattle.raw.proofs.Fields.{single-none, element-number, number-past, element-name, element-field}
+use Rattle.raw.proofs.value.bare_element.Statement.{statement}
+use Rattle.raw.proofs.value.bare_element.Tie as tie
+
+eat-if-requires : tie.Need-eat-if-requires
+eat-if-requires c κs = search needs
+
+number-requires : tie.Need-number-requires
+number-requires c κs = search needs
+
+enum-known-r1 : tie.Need-enum-known-r1
+enum-known-r1 c = search needs
+
+enum-told : tie.Need-enum-told
+enum-told c = search needs
+
+refused-requires : tie.Need-refused-requires
+refused-requires c κs = search needs
+
+returns : tie.Need-returns
+returns c =
+    let a = c .before .before .before .before .before .before .before .before .args in
+    off-step (length (a .s .now)) 1 (a .at) (element-number (a .s .now) (a .at) (c .before .before .before .before .before .eat-if .ensures .0) (c .before .before .before .before .if1 .taken) ∙ ap (under (row kind.Literal (a .at))) (bare-off (number (a .s .now) (a .at)) (c .before .before .before .number .ensures .0) (c .before .enum-told .given .1))) (c .before .enum-told .given .1) (c .refused .ensures)
+
+add-put-row : tie.Need-add-put-row
+add-put-row c = search needs
+
+add-put-row-2 : tie.Need-add-put-row-2
+add-put-row-2 c =
+    let a = c .before .before .before .before .before .before .before .before .before .args in
+    let len = length (a .s .now) in
+    let k = step-place len 0 (a .at) (c .before .before .r1 .given .1) (c .before .before .before .before .number .ensures .1) (c .before .before .before .before .before .before .before .before .before .pre .0 .place) in
+    omega (arith, c .before .before .before .before .before .before .before .before .before .pre .0 .file)
+
+put-row-requires : tie.Need-put-row-requires
+put-row-requires c κs =
+    let a = c .before .before .before .before .before .before .before .before .before .args in
+    let len = length (a .s .now) in
+    let k = step-place len 0 (a .at) (c .before .before .r1 .given .1) (c .before .before .before .before .number .ensures .1) (c .before .before .before .before .before .before .before .before .before .pre .0 .place) in
+    (omega (arith, c .before .before .before .before .before .before .before .before .before .pre .0 .file), omega (arith, c .before .before .before .before .before .before .before .before .before .pre .0 .file))
+
+add-t18 : tie.Need-add-t18
+add-t18 c = search needs
+
+same-length : tie.Need-same-length
+same-length c = search needs
+
+returns-2 : tie.Need-returns-2
+returns-2 c =
+    let a = c .before .before .before .before .before .before .before .before .before .before .before .before .args in
+    let len = length (a .s .now) in
+    let k = step-place len 0 (a .at) (c .before .before .before .before .before .r1 .given .1) (c .before .before .before .before .before .before .before .number .ensures .1) (c .before .before .before .before .before .before .before .before .before .before .before .before .pre .0 .place) in
+    let e = bare-at (number-bare (a .s .now) (a .at)) (c .before .before .before .before .before .before .before .number .ensures .0) (c .before .before .before .before .before .r1 .given .1) in
+    let l = number-past (a .s .now) (a .at) (c .before .before .before .before .before .before .before .before .before .eat-if .ensures .0) (c .before .before .before .before .before .before .before .before .if1 .taken) e in
+    let m = not-at (c .before .before .before .before .before .before .before .before .before .eat-if .ensures .1 .from) (c .before .before .before .before .before .before .before .before .if1 .taken) in
+    (rw (c .before .before .put-row .ensures) (says-of (element-number (a .s .now) (a .at) (c .before .before .before .before .before .before .before .before .before .eat-if .ensures .0) (c .before .before .before .before .before .before .before .before .if1 .taken)) (says-under kind.Literal (a .at) (says-on e))), (omega arith, omega arith, omega arith))
+
+eat-if-requires-2 : tie.Need-eat-if-requires-2
+eat-if-requires-2 c κs = search needs
+
+ident-requires : tie.Need-ident-requires
+ident-requires c κs = search needs
+
+enum-known-r2 : tie.Need-enum-known-r2
+enum-known-r2 c = search needs
+
+enum-told-2 : tie.Need-enum-told-2
+enum-told-2 c = search needs
+
+refused-requires-2 : tie.Need-refused-requires-2
+refused-requires-2 c κs = search needs
+
+returns-3 : tie.Need-returns-3
+returns-3 c =
+    let a = c .before .before .before .before .before .before .before .before .before .before .args in
+    off-step (length (a .s .now)) 1 (a .at) (element-name (a .s .now) (a .at) (c .before .before .before .before .before .before .before .eat-if .ensures .0) (c .before .before .before .before .before .before .if1 .left) (c .before .before .before .before .before .eat-if2 .ensures .0) (c .before .before .before .before .if2 .taken) ∙ ap (under (row kind.Name (a .at))) (bare-off (ident (a .s .now) (a .at)) (c .before .before .before .ident .ensures .0) (c .before .enum-told2 .given .1))) (c .before .enum-told2 .given .1) (c .refused2 .ensures)
+
+add-put-row-3 : tie.Need-add-put-row-3
+add-put-row-3 c = search needs
+
+add-put-row-4 : tie.Need-add-put-row-4
+add-put-row-4 c =
+    let a = c .before .before .before .before .before .before .before .before .before .before .before .args in
+    let len = length (a .s .now) in
+    let k = step-place len 1 (a .at) (c .before .before .r2 .given .1) (c .before .before .before .before .ident .ensures .1) (c .before .before .before .before .before .before .before .before .before .before .before .pre .0 .place) in
+    omega (arith, c .before .before .before .before .before .before .before .before .before .before .before .pre .0 .file)
+
+put-row-requires-2 : tie.Need-put-row-requires-2
+put-row-requires-2 c κs =
+    let a = c .before .before .before .before .before .before .before .before .before .before .before .args in
+    let len = length (a .s .now) in
+    let k = step-place len 1 (a .at) (c .before .before .r2 .given .1) (c .before .before .before .before .ident .ensures .1) (c .before .before .before .before .before .before .before .before .before .before .before .pre .0 .place) in
+    (omega (arith, c .before .before .before .before .before .before .before .before .before .before .before .pre .0 .file), omega (arith, c .before .before .before .before .before .before .before .before .before .before .before .pre .0 .file))
+
+add-t24 : tie.Need-add-t24
+add-t24 c = search needs
+
+same-length-2 : tie.Need-same-length-2
+same-length-2 c = search needs
+
+returns-4 : tie.Need-returns-4
+returns-4 c =
+    let a = c .before .before .before .before .before .before .before .before .before .before .before .before .before .before .args in
+    let len = length (a .s .now) in
+    let k = step-place len 1 (a .at) (c .before .before .before .before .before .r2 .given .1) (c .before .before .before .before .before .before .before .ident .ensures .1) (c .before .before .before .before .before .before .before .before .before .before .before .before .before .before .pre .0 .place) in
+    let e = bare-at (ident-bare (a .s .now) (a .at)) (c .before .before .before .before .before .before .before .ident .ensures .0) (c .before .before .before .before .before .r2 .given .1) in
+    (rw (c .before .before .put-row2 .ensures) (says-of (element-name (a .s .now) (a .at) (c .before .before .before .before .before .before .before .before .before .before .before .eat-if .ensures .0) (c .before .before .before .before .before .before .before .before .before .before .if1 .left) (c .before .before .before .before .before .before .before .before .before .eat-if2 .ensures .0) (c .before .before .before .before .before .before .before .before .if2 .taken)) (says-under kind.Name (a .at) (says-on e))), (omega arith, omega arith, omega arith))
+
+returns-5 : tie.Need-returns-5
+returns-5 c =
+    let a = c .before .before .before .before .before .before .args in
+    off-answer (length (a .s .now)) 1 (a .at)
+    (element-field (a .s .now) (a .at) (c .before .before .before .eat-if .ensures .0) (c .before .before .if1 .left) (c .before .eat-if2 .ensures .0) (c .if2 .left) ∙ single-none (a .s .now) (a .at) (c .before .before .before .before .before .before .pre .1)) refl
+
+pub bare-element-spec : {M : Type 1} → statement M
+bare-element-spec =
+    tie.close
+    (tie.spec
+    eat-if-requires
+    number-requires
+    enum-known-r1
+    enum-told
+    refused-requires
+    returns
+    add-put-row
+    add-put-row-2
+    put-row-requires
+    add-t18
+    same-length
+    returns-2
+    eat-if-requires-2
+    ident-requires
+    enum-known-r2
+    enum-told-2
+    refused-requires-2
+    returns-3
+    add-put-row-3
+    add-put-row-4
+    put-row-requires-2
+    add-t24
+    same-length-2
+    returns-4
+    returns-5)

@@ -1,0 +1,68 @@
+-- `text::block::part` meets its contract. Assumes nothing.
+use Prim.Native.Nat.{_+_, _-_, _≤_}
+use native.Mathlib.Omega.{arith}
+use borrow.Author.Needs.{needs}
+use Rattle.text.proofs.Clear.{Before, part-more, part-done}
+use Rattle.text.proofs.block.part.Statement.{statement}
+use Rattle.text.proofs.block.part.Tie as tie
+
+abbrev Inv-loop : tie.InvT-loop
+Inv-loop s at x m₀ k₀ m k = (k ≤ 16) × (m ≤ 16) × Before x s at k m
+
+abbrev μ-loop : tie.MeasureT-loop
+μ-loop s at x m₀ k₀ m k = 16 - k
+
+loop-holds : tie.Need-loop-holds Inv-loop μ-loop
+loop-holds c = (omega arith, omega arith, λ j l n. absurd (omega arith))
+
+cast-i : tie.Need-cast-i Inv-loop μ-loop
+cast-i c = search needs
+
+add-i : tie.Need-add-i Inv-loop μ-loop
+add-i c = search needs
+
+shared-slice-read-place : tie.Need-shared-slice-read-place Inv-loop μ-loop
+shared-slice-read-place c = omega arith
+
+place-requires : tie.Need-place-requires Inv-loop μ-loop
+place-requires c κs = omega arith
+
+lesser-requires : tie.Need-lesser-requires Inv-loop μ-loop
+lesser-requires c κs = search needs
+
+add-k : tie.Need-add-k Inv-loop μ-loop
+add-k c = omega arith
+
+loop-less : tie.Need-loop-less Inv-loop μ-loop
+loop-less c = omega arith
+
+loop-again : tie.Need-loop-again Inv-loop μ-loop
+loop-again c =
+    let a = c .before .before .before .before .before .before .args in
+    let v = c .before .before .before .before .loop in
+    let b = c .before .before .shared-slice-known2 .given (a .at + v .k) in
+    (omega arith, omega arith, part-more (a .x) (a .s .now) (a .at) (v .k) (v .m) _ (c .lesser .ensures) (v .inv .2) (omega arith) (c .before .place .ensures))
+
+cast-result : tie.Need-cast-result Inv-loop μ-loop
+cast-result c = search needs
+
+returns : tie.Need-returns Inv-loop μ-loop
+returns c = let a = c .before .before .before .args in let v = c .before .loop in (part-done (a .x) (a .s .now) (a .at) (v .m) (omega arith) (omega arith) (v .inv .2), v .inv .1)
+
+pub part-spec : {M : Type 1} → statement M
+part-spec =
+    tie.close
+    (tie.spec
+    Inv-loop
+    μ-loop
+    loop-holds
+    cast-i
+    add-i
+    shared-slice-read-place
+    place-requires
+    lesser-requires
+    add-k
+    loop-less
+    loop-again
+    cast-result
+    returns)

@@ -1,0 +1,43 @@
+-- `text::block::past_white` meets its contract. Assumes nothing.
+use native.Mathlib.Omega.{arith}
+use borrow.Author.Needs.{needs}
+use Rattle.text.proofs.Clear.{clear-none, clear-as}
+use Rattle.text.proofs.block.past_white.Statement.{statement}
+use Rattle.text.proofs.block.past_white.Tie as tie
+
+has-requires : tie.Need-has-requires
+has-requires c κs = search needs
+
+add-if2 : tie.Need-add-if2
+add-if2 c = omega (arith, c .before .has .ensures (c .if1 .taken))
+
+shared-slice-read-if2 : tie.Need-shared-slice-read-if2
+shared-slice-read-if2 c = omega (arith, c .before .before .has .ensures (c .before .if1 .taken))
+
+intervals-requires : tie.Need-intervals-requires
+intervals-requires c κs = search needs
+
+past-requires : tie.Need-past-requires
+past-requires c κs = search needs
+
+returns : tie.Need-returns
+returns c = clear-as (c .before .intervals .ensures) (c .past .ensures)
+
+returns-2 : tie.Need-returns-2
+returns-2 c = clear-none
+
+returns-3 : tie.Need-returns-3
+returns-3 c = clear-none
+
+pub past-white-spec : {M : Type 1} → statement M
+past-white-spec =
+    tie.close
+    (tie.spec
+    has-requires
+    add-if2
+    shared-slice-read-if2
+    intervals-requires
+    past-requires
+    returns
+    returns-2
+    returns-3)

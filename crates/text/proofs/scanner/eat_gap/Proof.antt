@@ -1,0 +1,20 @@
+-- `text::scanner::eat_gap` meets its contract. Assumes nothing.
+use mathlib.Core.Path.{sym, _∙_}
+use borrow.Author.Needs.{needs}
+use Rattle.text.proofs.AsciiTurns.{gap-over}
+use Rattle.text.proofs.Skip.{ran}
+use Rattle.text.specs.Class.{isWhitespace}
+use Rattle.text.proofs.scanner.eat_gap.Statement.{statement}
+use Rattle.text.proofs.scanner.eat_gap.Tie as tie
+
+past-white-requires : tie.Need-past-white-requires
+past-white-requires c κs = search needs
+
+eat-whitespace-requires : tie.Need-eat-whitespace-requires
+eat-whitespace-requires c κs = search needs
+
+returns : tie.Need-returns
+returns c = let a = c .before .before .before .args in ran isWhitespace (a .s .now) (a .at) (c .eat-whitespace .ensures .0 ∙ sym (gap-over (a .s .now) (c .before .past-white .ensures)))
+
+pub eat-gap-spec : {M : Type 1} → statement M
+eat-gap-spec = tie.close (tie.spec past-white-requires eat-whitespace-requires returns)

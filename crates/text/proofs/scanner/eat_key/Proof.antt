@@ -1,0 +1,62 @@
+-- `text::scanner::eat_key` meets its contract. Assumes nothing.
+use Prim.Native.Nat.{_-_}
+use mathlib.Core.Path.{_≡_, refl, sym, _∙_}
+use native.Mathlib.Omega.{arith}
+use lib.ListN.{length}
+use borrow.Author.Needs.{needs}
+use Rattle.text.proofs.AsciiTurns.{key-on, key-stop}
+use Rattle.text.proofs.Skip.{skip-end, ran}
+use Rattle.text.specs.Scan.{skip}
+use Rattle.text.specs.Class.{isKey, holdsOf}
+use Rattle.text.proofs.scanner.eat_key.Statement.{statement}
+use Rattle.text.proofs.scanner.eat_key.Tie as tie
+
+abbrev Inv-loop : tie.InvT-loop
+Inv-loop s at i₀ i = skip isKey s at ≡ skip isKey s i
+
+abbrev μ-loop : tie.MeasureT-loop
+μ-loop s at i₀ i = length s - i
+
+loop-holds : tie.Need-loop-holds Inv-loop μ-loop
+loop-holds c = refl
+
+shared-slice-read-b : tie.Need-shared-slice-read-b Inv-loop μ-loop
+shared-slice-read-b c = omega arith
+
+returns : tie.Need-returns Inv-loop μ-loop
+returns c = let a = c .before .before .before .before .before .before .args in ran isKey (a .s .now) (a .at) (sym (c .before .before .before .before .loop .inv ∙ key-stop (a .s .now) _ (c .before .before .before .loop-test .taken) (c .if2 .taken)))
+
+eat-rest-requires : tie.Need-eat-rest-requires Inv-loop μ-loop
+eat-rest-requires c κs = search needs
+
+returns-2 : tie.Need-returns-2 Inv-loop μ-loop
+unfolding holdsOf
+returns-2 c = let a = c .before .before .before .before .before .before .before .args in ran isKey (a .s .now) (a .at) (c .eat-rest .ensures .0 ∙ sym (c .before .before .before .before .before .loop .inv))
+
+add-i : tie.Need-add-i Inv-loop μ-loop
+add-i c = omega arith
+
+loop-less : tie.Need-loop-less Inv-loop μ-loop
+loop-less c = omega arith
+
+loop-again : tie.Need-loop-again Inv-loop μ-loop
+loop-again c = let a = c .before .before .before .before .before .args in c .before .before .before .loop .inv ∙ key-on (a .s .now) _ (c .before .before .loop-test .taken) (c .if1 .left)
+
+returns-3 : tie.Need-returns-3 Inv-loop μ-loop
+returns-3 c = let a = c .before .before .before .args in ran isKey (a .s .now) (a .at) (sym (c .before .loop .inv ∙ skip-end isKey (a .s .now) _ (c .loop-test .left)))
+
+pub eat-key-spec : {M : Type 1} → statement M
+eat-key-spec =
+    tie.close
+    (tie.spec
+    Inv-loop
+    μ-loop
+    loop-holds
+    shared-slice-read-b
+    returns
+    eat-rest-requires
+    returns-2
+    add-i
+    loop-less
+    loop-again
+    returns-3)

@@ -1,0 +1,65 @@
+-- `text::utf8::is_three` meets its contract. Assumes nothing.
+use Prim.Native.Nat.{ℕ}
+use mathlib.Core.Bool.{_&&_}
+use mathlib.Core.Path.{_≡_, sym, _∙_}
+use native.Mathlib.Omega.{arith}
+use lib.Dec.{leb}
+use lib.ListN.{getD}
+use borrow.Author.Needs.{needs}
+use Rattle.text.proofs.Lead.{width-three}
+use Rattle.text.proofs.Grammar.{both-true}
+use Rattle.text.proofs.utf8.is_three.Statement.{statement}
+use Rattle.text.proofs.utf8.is_three.Tie as tie
+
+sub-if1 : tie.Need-sub-if1
+sub-if1 c = search needs
+
+returns : tie.Need-returns
+returns c = λ e. let z : _≡_ {A = ℕ} 0 1 = cc in absurd (omega arith)
+
+shared-slice-read-result : tie.Need-shared-slice-read-result
+shared-slice-read-result c = search needs
+
+shared-slice-read-result-2 : tie.Need-shared-slice-read-result-2
+shared-slice-read-result-2 c = search needs
+
+add-is-tail : tie.Need-add-is-tail
+add-is-tail c = search needs
+
+shared-slice-read-is-tail : tie.Need-shared-slice-read-is-tail
+shared-slice-read-is-tail c = search needs
+
+is-tail-requires : tie.Need-is-tail-requires
+is-tail-requires c κs = search needs
+
+add-is-tail-2 : tie.Need-add-is-tail-2
+add-is-tail-2 c = search needs
+
+shared-slice-read-is-tail-2 : tie.Need-shared-slice-read-is-tail-2
+shared-slice-read-is-tail-2 c = search needs
+
+is-tail-requires-2 : tie.Need-is-tail-requires-2
+is-tail-requires-2 c κs = search needs
+
+returns-2 : tie.Need-returns-2
+returns-2 c = λ e.
+    let a = c .before .before .before .before .before .before .before .before .args in
+    let b = both-true _ (c .is-tail2 .result) e in
+    let d = both-true _ (c .before .before .is-tail .result) (b .0) in
+    (width-three (a .s .now) (a .at) (omega arith) (d .0) (sym (c .before .before .is-tail .ensures) ∙ d .1) (sym (c .is-tail2 .ensures) ∙ b .1), omega arith)
+
+pub is-three-spec : {M : Type 1} → statement M
+is-three-spec =
+    tie.close
+    (tie.spec
+    sub-if1
+    returns
+    shared-slice-read-result
+    shared-slice-read-result-2
+    add-is-tail
+    shared-slice-read-is-tail
+    is-tail-requires
+    add-is-tail-2
+    shared-slice-read-is-tail-2
+    is-tail-requires-2
+    returns-2)

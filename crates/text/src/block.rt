@@ -1,0 +1,188 @@
+// Blocks of bytes: how far a text goes without a byte of a set, sixteen or sixty-four bytes at a time.
+//
+// The loop over a block takes differences, minima and maxima only. No comparison decides in it, so the compiler works on the whole block at once.
+ghost use mathlib.Core.Path.{_≡_};
+ghost use mathlib.Core.Bool.{true, false};
+ghost use Prim.Native.Nat.{ℕ, _+_, _-_, _≤_, _<_, min, max};
+ghost use lib.ListN.{length, getD};
+ghost use Rattle.text.specs.Class.{isWhitespace};
+ghost use Rattle.text.specs.Scan.{skip, Ahead};
+ghost use Rattle.text.specs.Block.{setOf, inSet, apart, braces, quotes, others, solids, only, Clear, Found};
+
+// The bytes from the first to the last, both included.
+pub struct Interval {
+    pub first: u8,
+    pub last: u8,
+}
+
+// The bytes of three intervals, which may be the same.
+pub struct Set {
+    pub one: Interval,
+    pub two: Interval,
+    pub three: Interval,
+}
+
+fn intervals(a: u8, b: u8, c: u8, d: u8, e: u8, f: u8) -> Set
+    ensures { λ r. ⌜ r ≡ setOf a b c d e f ⌝ }
+{
+    let one = Interval { first: a, last: b };
+    let two = Interval { first: c, last: d };
+    let three = Interval { first: e, last: f };
+    Set { one, two, three }
+}
+
+fn lesser(a: u8, b: u8) -> u8
+    ensures { λ r. ⌜ r ≡ min a b ⌝ }
+{
+    if a < b { a } else { b }
+}
+
+fn greater(a: u8, b: u8) -> u8
+    ensures { λ r. ⌜ r ≡ max a b ⌝ }
+{
+    if a < b { b } else { a }
+}
+
+// What is left of a when b is taken away, or 0.
+fn minus(a: u8, b: u8) -> u8
+    ensures { λ r. ⌜ r ≡ a - b ⌝ }
+{
+    if a < b { 0 } else { a - b }
+}
+
+// How far a byte is from an interval.
+fn apart(x: Interval, b: u8) -> u8
+    ensures { λ r. ⌜ r ≡ apart x b ⌝ }
+{
+    minus(x.first, b) + minus(b, x.last)
+}
+
+// How far a byte is from a set: 0 where it is one of it.
+fn distance(x: Set, b: u8) -> u8
+    ensures { λ r. ⌜ (0 < r → inSet x b ≡ false) ⌝ }
+{
+    let one = x.one;
+    let two = x.two;
+    let three = x.three;
+    lesser(apart(one, b), lesser(apart(two, b), apart(three, b)))
+}
+
+// The place of the byte in its block where it is one of the set, and a greater number otherwise.
+fn place(x: Set, b: u8, k: u8) -> u8
+    requires { ⌜ k < 16 ⌝ }
+    ensures { λ r. ⌜ (k < r → inSet x b ≡ false) ⌝ }
+{
+    lesser(distance(x, b), 15) * 16 + k
+}
+
+// How many of the sixteen bytes from a place on stand before the first of the set.
+fn part(s: &[u8], at: usize, x: Set) -> usize
+    requires { ⌜ at + 16 ≤ length (now s) ⌝ }
+    ensures { λ r. ⌜ Clear x (now (s .entry)) at (at + r) × (r ≤ 16) ⌝ }
+{
+    let mut m: u8 = 16;
+    let mut k: u8 = 0;
+    while k < 16 {
+        let i = at + k as usize;
+        m = lesser(m, place(x, s[i], k));
+        k += 1;
+    }
+    m as usize
+}
+
+// Whether n bytes stand from a place on.
+pub fn has(s: &[u8], at: usize, n: usize) -> bool
+    ensures { λ r. ⌜ (r ≡ true → at + n ≤ length (now (s .entry))) ⌝ }
+{
+    if s.len() < n {
+        return false;
+    }
+    at <= s.len() - n
+}
+
+// A place before which there is no byte of the set. Less than sixteen bytes at the end of the text are left to the caller.
+fn past(s: &[u8], at: usize, x: Set) -> usize
+    ensures { λ r. ⌜ Clear x (now (s .entry)) at r ⌝ }
+{
+    let mut i = at;
+    while has(s, i, 16) {
+        let k = part(s, i, x);
+        if k < 16 {
+            return i + k;
+        }
+        i += 16;
+    }
+    i
+}
+
+pub fn past_braces(s: &[u8], at: usize) -> usize
+    ensures { λ r. ⌜ Clear braces (now (s .entry)) at r ⌝ }
+{
+    past(s, at, intervals(0x5c, 0x5c, 0x7b, 0x7d, 0x7b, 0x7d))
+}
+
+pub fn past_quotes(s: &[u8], at: usize) -> usize
+    ensures { λ r. ⌜ Clear quotes (now (s .entry)) at r ⌝ }
+{
+    past(s, at, intervals(0x5c, 0x5c, 0x22, 0x22, 0x22, 0x22))
+}
+
+// Over white space of ASCII. A text where the fourth byte from here is none is not worth a look at a block.
+pub fn past_white(s: &[u8], at: usize) -> usize
+    ensures { λ r. ⌜ Clear solids (now (s .entry)) at r ⌝ }
+{
+    if has(s, at, 16) {
+        if s[at + 3] <= 0x20 {
+            return past(s, at, intervals(0x00, 0x08, 0x0e, 0x1f, 0x21, 0xff));
+        }
+    }
+    at
+}
+
+// Whether the sixty-four bytes from a place on are ASCII.
+fn is_ascii(s: &[u8], at: usize) -> bool
+    requires { ⌜ at + 64 ≤ length (now s) ⌝ }
+    ensures { λ r. ⌜ (r ≡ true → Clear others (now (s .entry)) at (at + 64)) ⌝ }
+{
+    let mut m: u8 = 0;
+    let mut k = 0;
+    while k < 64 {
+        let i = at + k;
+        m = greater(m, s[i]);
+        k += 1;
+    }
+    m < 0x80
+}
+
+// Over ASCII. Where the next byte is none, no block is looked at.
+pub fn past_ascii(s: &[u8], at: usize) -> usize
+    ensures { λ r. ⌜ Clear others (now (s .entry)) at r ⌝ }
+{
+    if at < s.len() {
+        if 0x80 <= s[at] {
+            return at;
+        }
+    }
+    let mut i = at;
+    while has(s, i, 64) {
+        if !is_ascii(s, i) {
+            return past(s, i, intervals(0x80, 0xff, 0x80, 0xff, 0x80, 0xff));
+        }
+        i += 64;
+    }
+    i
+}
+
+// The first place from a place on where x stands, or the end.
+pub fn find(s: &[u8], at: usize, x: u8) -> usize
+    ensures { λ r. ⌜ Found x (now (s .entry)) at r ⌝ }
+{
+    let mut i = past(s, at, intervals(x, x, x, x, x, x));
+    while i < s.len() {
+        if s[i] == x {
+            return i;
+        }
+        i += 1;
+    }
+    i
+}
