@@ -14,14 +14,16 @@
 //! Each shape is read at two sizes. `growth` is how much a byte of the larger costs, measured in
 //! bytes of the smaller, by the best times: about 1 where the cost grows in proportion.
 //!
-//! Then packing and unpacking the rows beside the Rust packer, with ratios of the same sense; and
-//! salvage: on sound files beside strict reading, where the figure is salvage's time divided by
-//! strict reading's, and on files of many pieces.
+//! Then the UTF-8 check alone beside `std::str::from_utf8`; packing and unpacking the rows beside the
+//! Rust packer, with ratios of the same sense; and salvage: on files sound and damaged beside strict
+//! reading, where the figure is salvage's time divided by strict reading's, and on files of many
+//! pieces.
 
 mod packing;
 mod salvage;
 mod shapes;
 mod timing;
+mod utf8;
 
 use std::path::PathBuf;
 use std::process::ExitCode;
@@ -57,6 +59,7 @@ fn main() -> ExitCode {
         growth(small.bytes, full.bytes, &times);
     }
     let real = shapes::real(&folders);
+    utf8::run(real.as_ref(), rounds);
     for shape in real.into_iter().chain([shapes::million()]) {
         packing::run(&shape, rounds);
     }

@@ -1,4 +1,5 @@
-//! Salvage: on a sound file beside strict reading, and on files of many pieces at two sizes.
+//! Salvage: on a sound file beside strict reading, on the same file with every tenth piece damaged
+//! beside strict reading of the sound one, and on files of many pieces at two sizes.
 //!
 //! All rows are written into memory that is there and was written before.
 
@@ -16,10 +17,14 @@ struct Measured {
 
 pub fn run(folders: &[PathBuf], rounds: usize) {
     match shapes::sound(folders) {
-        Some(shape) => beside_reading(&shape, rounds),
+        Some(shape) => {
+            beside_reading(&shape, &shape, rounds);
+            beside_reading(&shapes::every_tenth_damaged(&shape), &shape, rounds);
+        }
         None => println!("no sound real file: name a folder that has .bib files"),
     }
-    beside_reading(&shapes::million(), rounds);
+    let tiny = shapes::million();
+    beside_reading(&tiny, &tiny, rounds);
     for shape in shapes::pieces() {
         println!("salvage of {}", shape.name);
         let (small, full) = (alone(&shape.small, rounds), alone(&shape.full, rounds));
@@ -28,9 +33,11 @@ pub fn run(folders: &[PathBuf], rounds: usize) {
     }
 }
 
-fn beside_reading(shape: &Shape, rounds: usize) {
+/// Salvage of a shape beside strict reading of a sound one with as many bytes.
+fn beside_reading(shape: &Shape, sound: &Shape, rounds: usize) {
     println!("salvage of {}", shape.name);
-    let (small, full) = (both(&shape.small, rounds), both(&shape.full, rounds));
+    let small = both(&shape.small, &sound.small, rounds);
+    let full = both(&shape.full, &sound.full, rounds);
     let times = [
         ("strict", &small.strict, &full.strict),
         ("salvage", &small.salvage, &full.salvage),
@@ -38,12 +45,13 @@ fn beside_reading(shape: &Shape, rounds: usize) {
     growth(small.bytes, full.bytes, &times);
 }
 
-/// Strict reading and salvage of a sound text, by turns.
-fn both(text: &[u8], rounds: usize) -> Measured {
-    let mut rows = agreed_rows(text);
+/// Strict reading of a sound text and salvage of one with as many bytes, by turns.
+fn both(text: &[u8], sound: &[u8], rounds: usize) -> Measured {
+    assert_eq!(text.len(), sound.len());
+    let (mut rows, mut sound_rows) = (agreed_rows(text), agreed_rows(sound));
     let mut measured = Measured::new(text);
     for _ in 0..rounds {
-        measured.strict.run(|| proved::read(text, &mut rows));
+        measured.strict.run(|| proved::read(sound, &mut sound_rows));
         measured.salvage.run(|| proved::salvage(text, &mut rows));
     }
     let Measured {

@@ -111,6 +111,29 @@ pub fn sound(folders: &[PathBuf]) -> Option<Shape> {
     })
 }
 
+/// The same files with every tenth entry damaged: it has no comma behind its key. As many bytes as
+/// before, and as many pieces.
+pub fn every_tenth_damaged(sound: &Shape) -> Shape {
+    Shape {
+        name: format!("{}, every tenth piece damaged", sound.name),
+        small: damaged(&sound.small),
+        full: damaged(&sound.full),
+    }
+}
+
+fn damaged(text: &[u8]) -> Vec<u8> {
+    let mut text = text.to_vec();
+    let heads: Vec<usize> = (1..text.len())
+        .filter(|&at| text[at] == b'@' && text[at - 1] == b'\n')
+        .collect();
+    for head in heads.into_iter().skip(9).step_by(10) {
+        if let Some(comma) = text[head..].iter().position(|byte| *byte == b',') {
+            text[head + comma] = b' ';
+        }
+    }
+    text
+}
+
 /// The files that are wanted, one after the other, from the start again until the text is long
 /// enough. An accepted file ends between two items or in a comment, which a newline ends.
 fn joined(wanted: &str, folders: &[PathBuf], want: impl Fn(&[u8]) -> bool) -> Option<Shape> {
