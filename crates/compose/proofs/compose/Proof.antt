@@ -1,0 +1,27 @@
+-- `compose::compose` meets its contract: its table is the list's numbers, and halving in these is the lookup in the list.
+-- Assumes nothing.
+use mathlib.Core.Path.{ap, _∙_}
+use mathlib.Core.List.{List}
+use Prim.Native.Nat.{ℕ}
+use borrow.Author.Needs.{needs}
+use Rattle.compose.specs.Halving.{halved}
+use Rattle.compose.proofs.Composition.{composition}
+use Rattle.compose.proofs.compose.Statement.{statement}
+use Rattle.compose.proofs.compose.Tie as tie
+
+table-requires : tie.Need-table-requires
+table-requires c κs = search needs
+
+slice-aggregate-find : tie.Need-slice-aggregate-find
+slice-aggregate-find c = search needs
+
+find-requires : tie.Need-find-requires
+find-requires c κs = search needs
+
+returns : tie.Need-returns
+returns c =
+    let a = c .before .before .before .args in
+    c .find .ensures ∙ ap (λ (t : List ℕ). halved t (a .letter) (a .mark)) (c .before .before .table .ensures) ∙ composition .halves (a .letter) (a .mark)
+
+pub compose-spec : {M : Type 1} → statement M
+compose-spec = tie.close (tie.spec table-requires slice-aggregate-find find-requires returns)

@@ -1,0 +1,4 @@
+pub mod Lookup
+pub mod Composites
+pub mod Halving
+pub mod Composition
