@@ -26,6 +26,7 @@ pub mod EntryWays
 pub mod FileWays
 pub mod Later
 pub mod Rows
+pub mod Flat
 pub mod Saying
 pub mod Spelling
 pub mod Steps

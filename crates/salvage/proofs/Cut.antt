@@ -1,4 +1,5 @@
 -- Cutting, and what pieces give that stand behind others.
+--     head-append         a head of a text that goes on
 --     cut-append          a text that is put together where it is cut
 --     joined-cut          the pieces make up the text
 --     pieces-move, pieces-append      the rows of pieces further on, and of pieces behind others
@@ -44,7 +45,7 @@ fresh-head [] h l = absurd (omega arith)
 fresh-head (b ∷ s) h l = h
 
 -- a head is told before the end of its line
-head-append : (b : ℕ) (a s : List ℕ) → head (b ∷ a ++ s) ≡ head (b ∷ a)
+pub head-append : (b : ℕ) (a s : List ℕ) → head (b ∷ a ++ s) ≡ head (b ∷ a)
 unfolding head
 head-append b a s = refl
 
@@ -98,13 +99,15 @@ moved-moved d e (r ∷ rs) =
     let y : r .end + (d + e) ≡ r .end + d + e = omega arith in
     rw (x, y) (ap (λ (l : List Row). rowUp e (rowUp d r) ∷ l) (moved-moved d e rs))
 
+moved-front : (p d : ℕ) (rs ss : List Row) → moved (p + d) rs ++ moved d ss ≡ moved d (moved p rs ++ ss)
+moved-front p d rs ss = ap (λ (l : List Row). l ++ moved d ss) (moved-moved p d rs) ∙ sym (moved-append d (moved p rs) ss)
+
 pub pieces-move : (p d : ℕ) (ws : Texts) → pieces (p + d) ws ≡ moved d (pieces p ws)
 unfolding pieces moved
 pieces-move p d [] = refl
 pieces-move p d (w ∷ ws) =
     let x : p + d + length w ≡ p + length w + d = omega arith in
-    rw (x, pieces-move (p + length w) d ws, moved-moved p d (told w (strict w)))
-    (sym (moved-append d (moved p (told w (strict w))) (pieces (p + length w) ws)))
+    rw (x, pieces-move (p + length w) d ws) (moved-front p d (told w (strict w)) (pieces (p + length w) ws))
 
 pub pieces-append : (p : ℕ) (ws vs : Texts) → pieces p (ws ++ vs) ≡ pieces p ws ++ pieces (p + length (joined ws)) vs
 unfolding pieces joined

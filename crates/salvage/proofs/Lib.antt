@@ -13,5 +13,6 @@ pub mod Begins
 pub mod Demand3
 pub mod PieceWays
 pub mod PieceEnd
+pub mod PieceLoop
 pub mod FileWays
 pub mod Unique

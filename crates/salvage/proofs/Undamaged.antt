@@ -1,7 +1,7 @@
 -- No damage shows exactly if strict reading accepts the whole file and every boundary opens one of its entries.
 --     accepts, opened     no damage: strict reading accepts, with the same rows, and every boundary opens an entry
 --     same-rows           strict reading accepts, and every boundary opens an entry: the rows are the same
---     clean-both, clean-moved, told-ok        rows without damage; a piece without damage is accepted
+--     clean-moved         rows without damage, moved
 -- Assumes nothing.
 use Prim.Native.Nat.{ℕ, zero, suc, _+_, _≤_}
 use native.Mathlib.Omega.{arith}
@@ -34,7 +34,7 @@ use Rattle.salvage.proofs.Seam.{Seam, Front, front, meet, head-fresh, p
 
 -- ---- rows
 
-pub clean-both : (rs ss : List Row) → clean (rs ++ ss) ≡ true → (clean rs ≡ true) × (clean ss ≡ true)
+clean-both : (rs ss : List Row) → clean (rs ++ ss) ≡ true → (clean rs ≡ true) × (clean ss ≡ true)
 unfolding clean
 clean-both [] ss h = (refl, h)
 clean-both (r ∷ rs) ss h = by (eqb (r .kind) 9) h (clean-both rs ss)
@@ -50,7 +50,7 @@ clean-moved d (r ∷ rs) = ap (cond (eqb (r .kind) 9) false) (clean-moved d rs)
 
 -- ---- a piece, and the rest
 
-pub told-ok : (w : List ℕ) → clean (told w (strict w)) ≡ true → (q : ℕ) × (strict w ≡ ok q (told w (strict w)))
+told-ok : (w : List ℕ) → clean (told w (strict w)) ≡ true → (q : ℕ) × (strict w ≡ ok q (told w (strict w)))
 unfolding clean
 told-ok w = by (strict w) refl
   where

@@ -1,39 +1,55 @@
 // The pieces of a file one after the other: counted first, then written.
 use crate::piece;
-use raw::fault::Answer;
+use crate::piece::Tally;
 use raw::fault::Fault;
 use raw::fault::Reading;
+use raw::file;
+use text::utf8;
+use text::utf8::Validity;
 ghost use mathlib.Core.Path.{_≡_};
-ghost use Prim.Native.Nat.{_≤_};
+ghost use mathlib.Core.Bool.{true};
+ghost use Prim.Native.Nat.{_≤_, min};
 ghost use lib.ListN.{length};
-ghost use Rattle.raw.specs.Row.{overlay};
+ghost use Rattle.raw.specs.Rules.{clean};
 ghost use Rattle.salvage.specs.Salvage.{salvageOf, Salvage};
-ghost use Rattle.salvage.specs.Inner.{Known, Counted, tallyOf};
+ghost use Rattle.salvage.specs.Inner.{ValidTo, Checked, Fills, Counted};
 
-// The number of rows of a file, and whether damage is among them.
-pub enum Tally {
-    Sound(usize),
-    Damaged(usize),
+// The end of the longest front of a file that is valid UTF-8. The pieces in it need no check of their own.
+fn valid_to(s: &[u8]) -> usize
+    ensures { λ r. ⌜ ValidTo (now (s .entry)) r ⌝ }
+{
+    match utf8::validate(s) {
+        Validity::Valid => s.len(),
+        Validity::IllFormed(i) => i,
+    }
 }
 
-// No rows are written.
-fn count(s: &[u8]) -> Tally
-    requires { ⌜ length (now s) ≤ 16777215 ⌝ }
-    ensures { λ r. ⌜ r ≡ tallyOf (salvageOf (now (s .entry))) ⌝ }
+fn least(a: usize, b: usize) -> usize
+    ensures { λ r. ⌜ r ≡ min a b ⌝ }
+{
+    if a < b { a } else { b }
+}
+
+// Reads all pieces and counts their rows, which fill the lent numbers where these are just as many. Over no numbers the rows are only
+// counted.
+fn read_pieces(s: &[u8], rows: &mut [u32], valid: usize) -> Tally
+    requires { ⌜ Checked (now s) valid ⌝ }
+    ensures { λ r. ⌜ Fills (now (s .entry)) (now (rows .entry)) r (now (rows .exit)) ⌝ }
 {
     let mut at = 0;
     let mut n = 0;
     let mut sound = true;
     while at < s.len() {
+        let base = at;
         let end = piece::piece_end(s, at);
-        let w = &s[at..end];
+        let i = least(n * 4, rows.len());
         at = end;
-        match piece::judge(w) {
-            Answer::Next { at: _, n: k } => {
+        match piece::read_piece(&s[base..end], base, &mut rows[i..], end <= valid) {
+            Tally::Sound(k) => {
                 n += k;
             }
-            Answer::Refused(_) => {
-                n += 2;
+            Tally::Damaged(k) => {
+                n += k;
                 sound = false;
             }
         }
@@ -44,29 +60,28 @@ fn count(s: &[u8]) -> Tally
     Tally::Damaged(n)
 }
 
-// The rows of all pieces, which are judged first unless the file is known to be sound.
-fn write(s: &[u8], rows: &mut [u32], sound: bool)
-    requires { ⌜ Known (now s) sound ⌝ }
-    ensures { λ _. ⌜ now (rows .exit) ≡ overlay (now (rows .entry)) 0 (salvageOf (now (s .entry))) ⌝ }
-{
-    let mut at = 0;
-    let mut n = 0;
-    while at < s.len() {
-        let end = piece::piece_end(s, at);
-        n = piece::write_piece(&s[at..end], at, rows, n, sound);
-        at = end;
-    }
-}
-
-// The answer, the rows having been counted.
-fn written(s: &[u8], rows: &mut [u32], n: usize, sound: bool) -> Reading
-    requires { ⌜ Counted (now s) n sound ⌝ }
+// The answer for a file without damage. Its rows are those of strict reading, which needs no pieces.
+fn write_sound(s: &[u8], rows: &mut [u32], n: usize) -> Reading
+    requires { ⌜ Counted (now s) n × (clean (salvageOf (now s)) ≡ true) ⌝ }
     ensures { λ r. ⌜ Salvage (now (s .entry)) (now (rows .entry)) r (now (rows .exit)) ⌝ }
 {
     if rows.len() / 4 < n {
         return Reading::Refused(Fault::NoRoom);
     }
-    write(s, rows, sound);
+    file::parse(s, 0, rows, 0);
+    Reading::Rows(n)
+}
+
+// The answer for a file with damage. The pieces are lent only the numbers that the rows will fill, so that none of the others change.
+fn write_damaged(s: &[u8], rows: &mut [u32], n: usize, valid: usize) -> Reading
+    requires { ⌜ Counted (now s) n × Checked (now s) valid ⌝ }
+    ensures { λ r. ⌜ Salvage (now (s .entry)) (now (rows .entry)) r (now (rows .exit)) ⌝ }
+{
+    if rows.len() / 4 < n {
+        return Reading::Refused(Fault::NoRoom);
+    }
+    let end = n * 4;
+    read_pieces(s, &mut rows[..end], valid);
     Reading::Rows(n)
 }
 
@@ -78,8 +93,10 @@ pub fn salvage(s: &[u8], rows: &mut [u32]) -> Reading
     if 16_777_215 < s.len() {
         return Reading::Refused(Fault::TooLong);
     }
-    match count(s) {
-        Tally::Sound(n) => written(s, rows, n, true),
-        Tally::Damaged(n) => written(s, rows, n, false),
+    let valid = valid_to(s);
+    let mut none = [0u32; 0];
+    match read_pieces(s, &mut none, valid) {
+        Tally::Sound(n) => write_sound(s, rows, n),
+        Tally::Damaged(n) => write_damaged(s, rows, n, valid),
     }
 }

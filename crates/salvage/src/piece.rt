@@ -1,4 +1,4 @@
-// A piece of a file: where it ends, what strict reading says of it, and its rows.
+// A piece of a file: where it ends, and what reading it alone gives.
 use raw::fault;
 use raw::fault::Answer;
 use raw::fault::Fault;
@@ -9,16 +9,51 @@ use text::block;
 use text::utf8;
 use text::utf8::Validity;
 ghost use mathlib.Core.Path.{_≡_};
-ghost use Prim.Native.Nat.{_≤_, _<_};
-ghost use lib.ListN.{length};
+ghost use mathlib.Core.Bool.{_&&_};
+ghost use Prim.Native.Nat.{_+_, _-_, _≤_, _<_};
+ghost use lib.ListN.{length, getD, drop};
 ghost use Rattle.raw.specs.Row.{moved, overlay};
 ghost use Rattle.raw.specs.Read.{strict};
-ghost use Rattle.raw.specs.Says.{answerOf, Within, Ready};
-ghost use Rattle.salvage.specs.Salvage.{damaged};
-ghost use Rattle.salvage.specs.Inner.{Ends, Puts, Accepted, Piece, Damage};
+ghost use Rattle.raw.specs.Says.{Says, Within};
+ghost use Rattle.salvage.specs.Salvage.{head, newline, damaged};
+ghost use Rattle.salvage.specs.Inner.{Ends, Puts, Piece, Damage};
 
-// The end of the piece that begins at a place: after the first newline that a head follows, or at the end of the file.
-pub fn piece_end(s: &[u8], at: usize) -> usize
+// A number of rows, and whether damage is among them.
+pub enum Tally {
+    Sound(usize),
+    Damaged(usize),
+}
+
+// Whether a piece begins at a place after the first.
+fn begins(s: &[u8], i: usize) -> bool
+    requires { ⌜ (0 < i) × (i < length (now s)) ⌝ }
+    ensures { λ r. ⌜ r ≡ (newline (getD (now (s .entry)) (i - 1) 0) && head (drop i (now (s .entry)))) ⌝ }
+{
+    if s[i] != 0x40 {
+        return false;
+    }
+    s[i - 1] == 0x0a
+}
+
+// The end of the piece that begins at a place, if it is one of the next seven places; else the place itself. Bytes are looked at one by
+// one, which is quicker for a short piece than the blocks of `find`.
+fn near_end(s: &[u8], at: usize) -> usize
+    requires { ⌜ at + 8 ≤ length (now s) ⌝ }
+    ensures { λ r. ⌜ (at < r → Ends (now (s .entry)) at r) ⌝ }
+{
+    let mut k = 1;
+    while k < 8 {
+        let i = at + k;
+        if begins(s, i) {
+            return i;
+        }
+        k += 1;
+    }
+    at
+}
+
+// The end of the piece that begins at a place, however long: each "@" is found, and the byte before it tells.
+fn far_end(s: &[u8], at: usize) -> usize
     requires { ⌜ at < length (now s) ⌝ }
     ensures { λ r. ⌜ Ends (now (s .entry)) at r ⌝ }
 {
@@ -35,59 +70,57 @@ pub fn piece_end(s: &[u8], at: usize) -> usize
     }
 }
 
-// What strict reading says of a piece, whose rows are only counted.
-pub fn judge(w: &[u8]) -> Answer
-    requires { ⌜ length (now w) ≤ 16777215 ⌝ }
-    ensures says { λ r. ⌜ r ≡ answerOf (strict (now (w .entry))) 0 ⌝ }
-    ensures within { λ r. ⌜ Within (length (now (w .entry))) 0 0 0 r ⌝ }
+// The end of the piece that begins at a place: after the first newline that a head follows, or at the end of the file.
+pub fn piece_end(s: &[u8], at: usize) -> usize
+    requires { ⌜ at < length (now s) ⌝ }
+    ensures { λ r. ⌜ Ends (now (s .entry)) at r ⌝ }
 {
-    match utf8::validate(w) {
-        Validity::IllFormed(i) => {
-            return Answer::Refused(Fault::NotUtf8(i));
+    if 8 <= s.len() - at {
+        let e = near_end(s, at);
+        if at < e {
+            return e;
         }
-        Validity::Valid => {}
     }
-    let mut none = [0u32; 0];
-    file::parse(w, 0, &mut none, 0)
+    far_end(s, at)
 }
 
-// The rows of a piece that is accepted.
-fn write_rows(w: &[u8], base: usize, rows: &mut [u32], n: usize) -> usize
-    requires { ⌜ Ready base (length (now w)) 0 n × Accepted (now w) ⌝ }
-    ensures { λ r. ⌜ Puts (now (w .entry)) base n (now (rows .entry)) r (now (rows .exit)) ⌝ }
+// Strict reading of a piece that stands base bytes into the file. Its UTF-8 is checked unless it is known to be valid.
+fn read_alone(w: &[u8], base: usize, rows: &mut [u32], valid: bool) -> Answer
+    requires { ⌜ Piece (now w) base valid ⌝ }
+    ensures says { λ r. ⌜ Says base (strict (now (w .entry))) 0 (now (rows .entry)) r (now (rows .exit)) ⌝ }
+    ensures within { λ r. ⌜ Within (length (now (w .entry))) 0 0 0 r ⌝ }
 {
-    match file::parse(w, base, rows, n) {
-        Answer::Next { at: _, n: m } => m,
-        Answer::Refused(_) => n,
+    if valid {
+        return file::parse(w, base, rows, 0);
+    }
+    match utf8::validate(w) {
+        Validity::IllFormed(i) => Answer::Refused(Fault::NotUtf8(i)),
+        Validity::Valid => file::parse(w, base, rows, 0),
     }
 }
 
 // The damage of a piece that is refused, and the cause.
-fn write_damage(w: &[u8], base: usize, rows: &mut [u32], n: usize, fault: Fault)
-    requires { ⌜ Damage (now w) base n fault ⌝ }
-    ensures { λ _. ⌜ now (rows .exit) ≡ overlay (now (rows .entry)) n (moved base (damaged (now (w .entry)) fault)) ⌝ }
+fn write_damage(w: &[u8], base: usize, rows: &mut [u32], fault: Fault)
+    requires { ⌜ Damage (now w) base fault ⌝ }
+    ensures { λ _. ⌜ now (rows .exit) ≡ overlay (now (rows .entry)) 0 (moved base (damaged (now (w .entry)) fault)) ⌝ }
 {
-    row::put_row(rows, n, Kind::Damage, base, base + w.len());
+    row::put_row(rows, 0, Kind::Damage, base, base + w.len());
     let start = base + fault::start(fault);
     let end = base + fault::end(fault);
-    row::write_row(rows, n + 1, Kind::Cause, fault::number(fault), start, end);
+    row::write_row(rows, 1, Kind::Cause, fault::number(fault), start, end);
 }
 
-// The rows of a piece, which is judged first unless the whole file is known to be sound.
-pub fn write_piece(w: &[u8], base: usize, rows: &mut [u32], n: usize, sound: bool) -> usize
-    requires { ⌜ Piece (now w) base n sound ⌝ }
-    ensures { λ r. ⌜ Puts (now (w .entry)) base n (now (rows .entry)) r (now (rows .exit)) ⌝ }
+// Reads a piece, whose rows then stand in front of the lent numbers where all of them fit. What a refused piece wrote before its fault is
+// overwritten by its damage and cause, or stands behind these, where the rows of later pieces go.
+pub fn read_piece(w: &[u8], base: usize, rows: &mut [u32], valid: bool) -> Tally
+    requires { ⌜ Piece (now w) base valid ⌝ }
+    ensures { λ r. ⌜ Puts (now (w .entry)) base (now (rows .entry)) r (now (rows .exit)) ⌝ }
 {
-    if sound {
-        return write_rows(w, base, rows, n);
-    }
-    match judge(w) {
-        Answer::Next { at: _, n: _ } => {
-            return write_rows(w, base, rows, n);
-        }
+    match read_alone(w, base, rows, valid) {
+        Answer::Next { at: _, n } => Tally::Sound(n),
         Answer::Refused(f) => {
-            write_damage(w, base, rows, n, f);
-            return n + 2;
+            write_damage(w, base, rows, f);
+            Tally::Damaged(2)
         }
     }
 }

@@ -1,26 +1,39 @@
 -- `salvage::file::salvage` meets its contract. Assumes nothing.
 use borrow.Author.Needs.{needs}
-use Rattle.salvage.proofs.FileWays.{tally-sound, tally-damaged, salvage-long}
+use Rattle.salvage.proofs.FileWays.{salvage-long, counted-sound, counted-damaged}
 use Rattle.salvage.proofs.file.salvage.Statement.{statement}
 use Rattle.salvage.proofs.file.salvage.Tie as tie
 
 returns : tie.Need-returns
 returns c = let a = c .before .before .before .args in salvage-long (a .s .now) (a .rows .now) (c .if1 .taken)
 
-count-requires : tie.Need-count-requires
-count-requires c κs = search needs
+valid-to-requires : tie.Need-valid-to-requires
+valid-to-requires c κs = search needs
+
+slice-aggregate-read-pieces : tie.Need-slice-aggregate-read-pieces
+slice-aggregate-read-pieces c = search needs
+
+read-pieces-requires : tie.Need-read-pieces-requires
+read-pieces-requires c κs = search needs
 
 enum-known-n : tie.Need-enum-known-n
 enum-known-n c = search needs
 
-written-requires : tie.Need-written-requires
-written-requires c κs = tally-sound (c .before .before .before .before .before .before .before .before .args .s .now) (c .before .before .before .before .before .if1 .left) (c .before .before .before .before .count .ensures) (c .before .before .n .given .1)
+write-sound-requires : tie.Need-write-sound-requires
+write-sound-requires c κs =
+    let r = c .before .before .before .before .before in
+    let i = r .before .before .before in
+    counted-sound (i .before .before .before .args .s .now) (i .if1 .left) (r .read-pieces .ensures) (c .before .before .n .given .1)
 
 enum-known-n-2 : tie.Need-enum-known-n-2
 enum-known-n-2 c = search needs
 
-written-requires-2 : tie.Need-written-requires-2
-written-requires-2 c κs = tally-damaged (c .before .before .before .before .before .before .before .before .args .s .now) (c .before .before .before .before .before .if1 .left) (c .before .before .before .before .count .ensures) (c .before .before .n2 .given .1)
+write-damaged-requires : tie.Need-write-damaged-requires
+write-damaged-requires c κs =
+    let r = c .before .before .before .before .before in
+    let v = r .before .before in
+    let i = v .before in
+    (counted-damaged (i .before .before .before .args .s .now) (i .if1 .left) (r .read-pieces .ensures) (c .before .before .n2 .given .1), record { short = i .if1 .left; valid = v .valid-to .ensures })
 
 same-length : tie.Need-same-length
 same-length c = search needs
@@ -39,11 +52,13 @@ salvage-spec =
     tie.close
     (tie.spec
     returns
-    count-requires
+    valid-to-requires
+    slice-aggregate-read-pieces
+    read-pieces-requires
     enum-known-n
-    written-requires
+    write-sound-requires
     enum-known-n-2
-    written-requires-2
+    write-damaged-requires
     same-length
     returns-2
     same-length-2

@@ -1,4 +1,5 @@
 -- `salvage::piece::write_damage` meets its contract. Assumes nothing.
+use native.Mathlib.Omega.{arith}
 use borrow.Author.Needs.{needs}
 use Rattle.salvage.proofs.PieceWays.{damage-put}
 use Rattle.salvage.proofs.piece.write_damage.Statement.{statement}
@@ -22,9 +23,6 @@ end-requires c κs = search needs
 add-end : tie.Need-add-end
 add-end c = search needs
 
-add-write-row : tie.Need-add-write-row
-add-write-row c = search needs
-
 number-requires : tie.Need-number-requires
 number-requires c κs = search needs
 
@@ -36,8 +34,12 @@ same-length c = search needs
 
 returns : tie.Need-returns
 returns c =
-    let a = c .before .before .before .before .before .before .before .before .before .before .before .before .before .args in
-    damage-put (a .w .now) (a .base) (a .n) (a .rows .now) (a .fault) (c .before .before .before .before .before .before .start .ensures) (c .before .before .before .before .before .end .ensures) (c .before .before .before .number .ensures) (c .before .before .before .before .before .before .before .before .before .put-row .ensures) (c .before .before .write-row .ensures)
+    let r = c .before .before .before in
+    let e = r .before .before in
+    let s = e .before in
+    let p = s .before .before .before in
+    let a = p .before .before .before .before .args in
+    damage-put (a .w .now) (a .base) (a .rows .now) (a .fault) (omega arith) (omega (arith, s .start .ensures)) (omega (arith, e .end .ensures)) (r .number .ensures) (p .put-row .ensures) (c .before .before .write-row .ensures)
 
 pub write-damage-spec : {M : Type 1} → statement M
 write-damage-spec =
@@ -49,7 +51,6 @@ write-damage-spec =
     add-start
     end-requires
     add-end
-    add-write-row
     number-requires
     write-row-requires
     same-length

@@ -1,0 +1,23 @@
+-- `salvage::file::valid_to` meets its contract. Assumes nothing.
+use borrow.Author.Needs.{needs}
+use Rattle.salvage.proofs.FileWays.{valid-all, valid-part}
+use Rattle.salvage.proofs.file.valid_to.Statement.{statement}
+use Rattle.salvage.proofs.file.valid_to.Tie as tie
+
+validate-requires : tie.Need-validate-requires
+validate-requires c κs = search needs
+
+enum-told : tie.Need-enum-told
+enum-told c = search needs
+
+enum-known-i : tie.Need-enum-known-i
+enum-known-i c = search needs
+
+returns : tie.Need-returns
+returns c = valid-all (c .before .before .before .before .args .s .now) (c .before .before .validate .ensures) (c .enum-told .given .1)
+
+returns-2 : tie.Need-returns-2
+returns-2 c = valid-part (c .before .before .before .before .before .args .s .now) (c .before .before .before .validate .ensures) (c .before .i .given .1)
+
+pub valid-to-spec : {M : Type 1} → statement M
+valid-to-spec = tie.close (tie.spec validate-requires enum-told enum-known-i returns returns-2)

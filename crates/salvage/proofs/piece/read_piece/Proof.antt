@@ -1,0 +1,56 @@
+-- `salvage::piece::read_piece` meets its contract. Assumes nothing.
+use borrow.Author.Needs.{needs}
+use Rattle.salvage.proofs.PieceWays.{piece-sound, off-strict, off-damage, piece-damaged}
+use Rattle.salvage.proofs.piece.read_piece.Statement.{statement}
+use Rattle.salvage.proofs.piece.read_piece.Tie as tie
+
+read-alone-requires : tie.Need-read-alone-requires
+read-alone-requires c κs = search needs
+
+enum-known-n : tie.Need-enum-known-n
+enum-known-n c = search needs
+
+enum-known-f : tie.Need-enum-known-f
+enum-known-f c = search needs
+
+write-damage-requires : tie.Need-write-damage-requires
+write-damage-requires c κs =
+    let f = c .before .before in
+    let r = f .before .before .before .before in
+    let b = r .before .before .before .before in
+    let w = b .args .w .now in
+    off-damage w (b .pre) (b .args .rows .now) (off-strict w (b .pre) (b .args .rows .now) (f .f .given .1) (r .read-alone .ensures .0))
+
+same-length : tie.Need-same-length
+same-length c = search needs
+
+returns : tie.Need-returns
+returns c =
+    let r = c .before .before .before .before .before in
+    let b = r .before .before .before .before in
+    piece-sound (b .args .w .now) (b .pre) (b .args .rows .now) (c .before .n .given .1) (r .read-alone .ensures .0) (r .read-alone .ensures .1)
+
+same-length-2 : tie.Need-same-length-2
+same-length-2 c = search needs
+
+returns-2 : tie.Need-returns-2
+returns-2 c =
+    let f = c .before .before .before .before .before in
+    let r = f .before .before .before .before in
+    let b = r .before .before .before .before in
+    let w = b .args .w .now in
+    let x = off-strict w (b .pre) (b .args .rows .now) (f .f .given .1) (r .read-alone .ensures .0) in
+    piece-damaged w (b .pre) (b .args .rows .now) x (r .read-alone .last .1 .1 .0) (r .read-alone .kept .1 .1 .0) (c .before .before .write-damage .ensures)
+
+pub read-piece-spec : {M : Type 1} → statement M
+read-piece-spec =
+    tie.close
+    (tie.spec
+    read-alone-requires
+    enum-known-n
+    enum-known-f
+    write-damage-requires
+    same-length
+    returns
+    same-length-2
+    returns-2)
