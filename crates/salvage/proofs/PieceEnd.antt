@@ -11,7 +11,7 @@ use mathlib.Core.List.{List, [], _∷_}
 use lib.ListN.{length, getD, drop, drop-of-length-le}
 use lib.Dec.{eqb}
 use borrow.Author.Tests.{eq-eqb, ne-eqb}
-use Rattle.text.specs.Inner.{Lack, Found}
+use Rattle.text.specs.Block.{Found}
 use Rattle.text.proofs.Grammar.{both-true}
 use Rattle.text.proofs.Places.{drop-next}
 use Rattle.salvage.specs.Salvage.{head, newline, cut}
@@ -109,19 +109,16 @@ module _ (s : List ℕ) where
 
   -- ---- `far_end`
 
-  at-place : (i j : ℕ) → i ≡ j → getD s i 0 ≡ 0x40 → getD s j 0 ≡ 0x40
-  at-place i j e q = subst (λ (m : ℕ). getD s m 0 ≡ 0x40) e q
-
   pub ends-place : (e i j : ℕ) → i ≡ j → Ends s i e → Ends s j e
   ends-place e i j q x = subst (λ (m : ℕ). Ends s m e) q x
 
   -- between two "@" no piece ends
-  ends-skip : (n i : ℕ) → i + n < length s → Lack 0x40 s (i + 1) n → (e : ℕ) → Ends s (i + n) e → Ends s i e
+  ends-skip : (n i : ℕ) → i + n < length s → ((k : ℕ) → i + 1 ≤ k → k < i + 1 + n → getD s k 0 ≡ 0x40 → ⊥) → (e : ℕ) → Ends s (i + n) e → Ends s i e
   ends-skip zero i h a e x = ends-place e (i + 0) i (omega arith) x
   ends-skip (suc n) i h a e x =
-      let z = no-head (i + 1) (omega arith) (λ q. a 0 (omega arith) (at-place (i + 1) (i + 1 + 0) (omega arith) q)) in
+      let z = no-head (i + 1) (omega arith) (a (i + 1) (omega arith) (omega arith)) in
       ends-on i (omega arith) e (ap (λ (x : Bool). newline (getD s i 0) && x) z ∙ and-false (newline (getD s i 0)))
-      (ends-skip n (i + 1) (omega arith) (λ k l q. a (suc k) (omega arith) (at-place (i + 1 + 1 + k) (i + 1 + suc k) (omega arith) q)) e (ends-place e (i + suc n) (i + 1 + n) (omega arith) x))
+      (ends-skip n (i + 1) (omega arith) (λ k p q. a k (omega arith) (omega arith)) e (ends-place e (i + suc n) (i + 1 + n) (omega arith) x))
 
   module _ (i j : ℕ) (h : i < length s) (f : Found 0x40 s (i + 1) j) where
     some : 0 < j
@@ -130,7 +127,7 @@ module _ (s : List ℕ) where
     skip-to : (e : ℕ) → Ends s (j - 1) e → Ends s i e
     skip-to e x =
         let q : j - 1 ≡ i + (j - (i + 1)) = omega (arith, f .from) in
-        ends-skip (j - (i + 1)) i (omega (arith, f .from, f .to)) (f .before) e (ends-place e (j - 1) (i + (j - (i + 1))) q x)
+        ends-skip (j - (i + 1)) i (omega (arith, f .from, f .to)) (λ k p q. f .before k p (omega arith)) e (ends-place e (j - 1) (i + (j - (i + 1))) q x)
 
     pub found-last : length s ≤ j → Ends s i j
     found-last l =
