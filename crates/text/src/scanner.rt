@@ -254,7 +254,7 @@ pub fn eat_start(s: &[u8], at: usize) -> usize
     if is_letter(b) {
         return at + 1;
     }
-    eat_wide(s, at, Test::IdStart, true)
+    eat_if(s, at, Test::IdStart)
 }
 
 pub fn eat_id(s: &[u8], at: usize) -> usize

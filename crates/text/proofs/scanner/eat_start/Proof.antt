@@ -2,7 +2,7 @@
 use mathlib.Core.Path.{sym, _∙_}
 use Rattle.text.specs.Class.{isIdStart, holdsOf}
 use Rattle.text.specs.declared.class.Test.the-variants.{IdStart}
-use Rattle.text.proofs.Skip.{passed, bit-end}
+use Rattle.text.proofs.Skip.{bit-end}
 use Rattle.text.proofs.AsciiTurns.{letter-start}
 use borrow.Author.Needs.{needs}
 use Rattle.text.proofs.scanner.eat_start.Statement.{statement}
@@ -24,12 +24,12 @@ add-result c = search needs
 returns-2 : tie.Need-returns-2
 returns-2 c = let a = c .before .before .before .before .before .args in letter-start (a .s .now) (a .at) (c .before .before .before .if1 .left) (sym (c .before .is-letter .ensures) ∙ c .if2 .taken)
 
-eat-wide-requires : tie.Need-eat-wide-requires
-eat-wide-requires c κs = search needs
+eat-if-requires : tie.Need-eat-if-requires
+eat-if-requires c κs = search needs
 
 returns-3 : tie.Need-returns-3
 unfolding holdsOf
-returns-3 c = let a = c .before .before .before .before .before .before .args in passed isIdStart (a .s .now) (a .at) (c .eat-wide .ensures)
+returns-3 c = c .eat-if .ensures
 
 pub eat-start-spec : {M : Type 1} → statement M
 eat-start-spec =
@@ -40,5 +40,5 @@ eat-start-spec =
     is-letter-requires
     add-result
     returns-2
-    eat-wide-requires
+    eat-if-requires
     returns-3)
