@@ -29,7 +29,7 @@ module _ (n : ℕ) (h : 10 < n) where
   begun-large : (f : Bool) → begun f n ≡ wrong
   begun-large f = rw (not-it 1 (omega arith), not-it 4 (omega arith), not-it 8 (omega arith), not-it 0 (omega arith), not-it 9 (omega arith))
 
-  next-large : (a : Await) → next a n ≡ wrong
+  pub next-large : (a : Await) → next a n ≡ wrong
   unfolding next
   next-large (part f) = begun-large f
   next-large type = rw (not-it 2 (omega arith))

@@ -36,4 +36,5 @@ pub mod Fields
 pub mod Elements
 pub mod Numbers
 pub mod Halves
+pub mod Masks
 pub mod Unique

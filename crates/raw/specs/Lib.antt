@@ -7,4 +7,5 @@ pub mod Rules
 pub mod Strict
 pub mod Worked
 pub mod Numbers
+pub mod Masks
 pub mod Inner

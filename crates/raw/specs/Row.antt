@@ -25,9 +25,12 @@ pub record Row : Type 0 where
   pub start : ℕ
   pub end : ℕ
 
+abbrev pub rowOf : ℕ → ℕ → ℕ → ℕ → Row
+rowOf k d a b = record { kind = k; detail = d; start = a; end = b }
+
 -- a row of a kind, with a detail; and with detail 0
 abbrev pub rowWith : Kind → ℕ → ℕ → ℕ → Row
-rowWith k d a b = record { kind = kindOf k; detail = d; start = a; end = b }
+rowWith k d a b = rowOf (kindOf k) d a b
 
 abbrev pub row : Kind → ℕ → ℕ → Row
 row k a b = rowWith k 0 a b

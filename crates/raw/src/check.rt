@@ -1,4 +1,5 @@
 // The row check: whether numbers are rows of the readings [01:Rows and their packing]. It does not test file order.
+// mask.rt judges a row after the same rules, for the loops of packing and unpacking.
 //
 // Kinds come in as any numbers, so they are compared as numbers: 0 preamble, 1 entry, 2 entry type, 3 key, 4 field name, 5 value, 6 literal,
 // 7 name, 8 definition name, 9 damage, 10 cause. The proofs tie each to `kindOf`, the one definition of a kind's number.
@@ -32,7 +33,8 @@ pub enum Checked {
     BadRows,
 }
 
-fn is_detail(kind: u32, detail: u32) -> bool
+// Whether a row of the kind may have the detail.
+pub fn is_detail(kind: u32, detail: u32) -> bool
     ensures { λ r. ⌜ r ≡ isDetail kind detail ⌝ }
 {
     if kind == 10 {
@@ -85,7 +87,7 @@ fn next(state: State, kind: u32) -> State
 }
 
 // After a row of the kind with the detail.
-pub fn step(state: State, kind: u32, detail: u32) -> State
+fn step(state: State, kind: u32, detail: u32) -> State
     ensures { λ r. ⌜ r ≡ stateOf (cond (isDetail kind detail) (next (awaitOf state) kind) wrong) ⌝ }
 {
     if is_detail(kind, detail) {
@@ -95,7 +97,7 @@ pub fn step(state: State, kind: u32, detail: u32) -> State
 }
 
 // Whether the sequence may end.
-pub fn is_whole(state: State) -> bool
+fn is_whole(state: State) -> bool
     ensures { λ r. ⌜ r ≡ wholeOf state ⌝ }
 {
     match state {

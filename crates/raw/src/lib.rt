@@ -4,6 +4,7 @@ pub mod entry;
 pub mod fault;
 pub mod field;
 pub mod file;
+pub mod mask;
 pub mod row;
 pub mod token;
 pub mod value;

@@ -1,37 +1,33 @@
 -- Laws of what `pack` and `unpack` check before they write.
---     both                              a conjunction that holds
+--     both                                         a conjunction that holds
 --     packable, AllFit, packable-fit, fit-next     what a packable list of numbers is; its rows fit seven bytes each
---     sound, not-sound, span-on, span-off, span-end             the check of `pack`, by what its code does
---     seven-count, seven-start, seven-turn, seven-off, seven-end     and that of `unpack`
+--     Judging, judge-row, judge-off, judge-end     a loop that judges rows by masks: one turn, a row whose span is refused, the end
+--     four-count, four-start, seven-count, seven-start     how it begins, over numbers and over bytes
 -- Assumes nothing.
-use Prim.Native.Nat.{ℕ, _+_, _%_, _≤_, _<_}
+use Prim.Native.Nat.{ℕ, _+_, _%_, _≤_}
 use native.Mathlib.Omega.{arith}
 use mathlib.Core.Path.{_≡_, refl, sym, ap, _∙_}
-use mathlib.Core.Bool.{Bool, true, false, cond, _&&_}
+use mathlib.Core.Bool.{Bool, true, false, _&&_, and-true, and-false}
 use mathlib.Core.List.{List, [], _∷_}
 use lib.ListN.{length, drop}
 use lib.Dec.{eqb, leb}
-use borrow.Author.Tests.{leb-true, lt-leb, le-leb, eqb-true, ne-eqb}
-use Rattle.raw.specs.declared.check.Checked.the-variants as checked
-use Rattle.raw.specs.declared.check.State.{State}
+use borrow.Author.Tests.{leb-true, eqb-true, ne-eqb}
+use Rattle.raw.specs.declared.mask.Masks.{Masks}
 use Rattle.raw.specs.Row.{Row}
 use Rattle.raw.specs.Read.{mostBytes}
-use Rattle.raw.specs.Rules.{Await, part, wrong, isDetail, next, run, whole, isRows}
-use Rattle.raw.specs.Numbers.{rowsOf, isSound, checkOf, awaitOf, stateOf, wholeOf}
-use Rattle.raw.proofs.Numbers.{rowAt, rows-next, rows-end, await-back}
+use Rattle.raw.specs.Rules.{Await, part, run, whole, isRows}
+use Rattle.raw.specs.Numbers.{rowsOf, isSound}
+use Rattle.raw.specs.Masks.{masksOf, stepOf, endsOf}
+use Rattle.raw.proofs.Numbers.{rowAt, rows-next}
+use Rattle.raw.proofs.Masks.{afterRow, masks-step, masks-whole}
 use Rattle.raw.proofs.Halves.{AllSmall, rules-small}
-use Rattle.rows.specs.Seven.{unpacking, unpackAt, endFits, spanFits, every, Fits}
+use Rattle.rows.specs.Seven.{unpacking, endFits, spanFits, every, Fits}
 use Rattle.rows.specs.Pack.{isPackable}
 use Rattle.rows.specs.Unpack.{isUnpackable}
-use Rattle.rows.proofs.Sevens.{sevens-next, sevens-end}
 
 pub both : (a b : Bool) → (a && b) ≡ true → (a ≡ true) × (b ≡ true)
 both true b e = (refl, e)
 both false b e = let z : _≡_ {A = ℕ} 0 1 = cc in absurd (omega arith)
-
-and-false : (a : Bool) → false ≡ (a && false)
-and-false true = refl
-and-false false = refl
 
 -- ---- what is packable
 
@@ -66,74 +62,55 @@ pub fit-next : (l : List ℕ) (i : ℕ) → i + 4 ≤ length l → AllFit (rowsO
 unfolding AllFit
 fit-next l i h a = rw (rows-next l i h) at a
 
+-- ---- judging rows by masks
+
+-- rows that are left where a is awaited: whether they keep the rules and each passes the test t
+abbrev pub judged : (Row → Bool) → Await → List Row → Bool
+judged t a rs = whole (run a rs) && every t rs
+
+-- the rows rs are left, the masks m stand for what is awaited, and whether the rows rs pass is the answer x
+pub record Judging (t : Row → Bool) (x : Bool) (m : Masks) (rs : List Row) : Type 0 where
+  pub await : Await
+  pub stand : m ≡ masksOf await
+  pub left : x ≡ judged t await rs
+
+module _ {t : Row → Bool} {x : Bool} {m : Masks} {rs : List Row} (o : Judging t x m rs) where
+  module _ {r : Row} {ss : List Row} (e : rs ≡ r ∷ ss) where
+    pub judge-row : {n : Masks} → n ≡ stepOf m (r .kind) (r .detail) → t r ≡ true → Judging t x n ss
+    unfolding run every
+    judge-row p f =
+        record {
+          await = afterRow (o .await) (r .kind) (r .detail);
+          stand = p ∙ ap (λ (k : Masks). stepOf k (r .kind) (r .detail)) (o .stand) ∙ masks-step (o .await) (r .kind) (r .detail);
+          left = o .left ∙ rw (e, f);
+        }
+
+    pub judge-off : t r ≡ false → false ≡ x
+    unfolding run every
+    judge-off f = sym (o .left ∙ rw (e, f) (and-false (whole (run (o .await) (r ∷ ss)))))
+
+  pub judge-end : {w : Bool} → rs ≡ [] → w ≡ endsOf m → w ≡ x
+  unfolding run every
+  judge-end e p = p ∙ ap endsOf (o .stand) ∙ masks-whole (o .await) ∙ sym (o .left ∙ rw e (and-true (whole (o .await))))
+
 -- ---- the check of `pack`
 
--- what is still to find from number i on
-abbrev pub SpansLeft : List ℕ → ℕ → Type 0
-SpansLeft l i = isPackable l ≡ every spanFits (rowsOf (drop i l))
+module _ (l : List ℕ) where
+  pub four-count : (length l % 4 ≡ 0 → ⊥) → false ≡ isPackable l
+  unfolding isPackable isSound
+  four-count h = rw (ne-eqb (length l % 4) 0 h)
 
-sound-true : (l : List ℕ) → checked.Sound ≡ checkOf l → isSound l ≡ true
-sound-true l = by (isSound l)
-  where
-    by : (b : Bool) → checked.Sound ≡ cond b checked.Sound checked.BadRows → b ≡ true
-    by true e = refl
-    by false e = let z : _≡_ {A = ℕ} 0 1 = cc in absurd (omega arith)
-
-pub sound : (l : List ℕ) → checked.Sound ≡ checkOf l → (length l % 4 ≡ 0) × SpansLeft l 0
-unfolding isPackable isSound
-sound l e =
-    let s = sound-true l e in
-    (eqb-true (length l % 4) 0 (both (eqb (length l % 4) 0) (isRows (rowsOf l)) s .0), ap (λ (b : Bool). b && every spanFits (rowsOf l)) s)
-
-pub not-sound : (l : List ℕ) → checked.BadRows ≡ checkOf l → false ≡ isPackable l
-unfolding isPackable
-not-sound l = by (isSound l)
-  where
-    by : (b : Bool) → checked.BadRows ≡ cond b checked.Sound checked.BadRows → false ≡ (b && every spanFits (rowsOf l))
-    by true e = let z : _≡_ {A = ℕ} 0 1 = cc in absurd (omega arith)
-    by false e = refl
-
-module _ (l : List ℕ) (i : ℕ) where
-  pub span-on : i + 4 ≤ length l → spanFits (rowAt l i) ≡ true → SpansLeft l i → SpansLeft l (i + 4)
-  unfolding every
-  span-on h e o = rw (rows-next l i h, e) at o
-
-  pub span-off : i + 4 ≤ length l → spanFits (rowAt l i) ≡ false → SpansLeft l i → false ≡ isPackable l
-  unfolding every
-  span-off h e o = sym (rw (rows-next l i h, e) at o)
-
-  pub span-end : length l ≤ i → SpansLeft l i → true ≡ isPackable l
-  unfolding every
-  span-end h o = sym (rw (rows-end l i (omega arith)) at o)
+  pub four-start : {m : Masks} → length l % 4 ≡ 0 → m ≡ masksOf (part false) → Judging spanFits (isPackable l) m (rowsOf l)
+  unfolding isPackable isSound isRows
+  four-start h e = record { await = part false; stand = e; left = rw h }
 
 -- ---- the check of `unpack`
-
--- the rows from byte p on, where a is awaited
-abbrev pub found : List ℕ → Await → ℕ → Bool
-found s a p = whole (run a (unpacking (drop p s))) && every endFits (unpacking (drop p s))
 
 module _ (s : List ℕ) where
   pub seven-count : (length s % 7 ≡ 0 → ⊥) → false ≡ isUnpackable s
   unfolding isUnpackable
   seven-count h = rw (ne-eqb (length s % 7) 0 h)
 
-  pub seven-start : length s % 7 ≡ 0 → isUnpackable s ≡ found s (part false) 0
+  pub seven-start : {m : Masks} → length s % 7 ≡ 0 → m ≡ masksOf (part false) → Judging endFits (isUnpackable s) m (unpacking s)
   unfolding isUnpackable isRows
-  seven-start h = rw h
-
-  module _ (p : ℕ) where
-    pub seven-turn : (a r : State) (k d : ℕ) → p + 7 ≤ length s → unpackAt s p .kind ≡ k → unpackAt s p .detail ≡ d → unpackAt s p .end ≤ mostBytes → r ≡ stateOf (cond (isDetail k d) (next (awaitOf a) k) wrong) → isUnpackable s ≡ found s (awaitOf a) p → isUnpackable s ≡ found s (awaitOf r) (p + 7)
-    unfolding run every
-    seven-turn a r k d h x y f e o = o ∙ rw (e, await-back, sevens-next s p h, le-leb (unpackAt s p .end) mostBytes f, x, y)
-
-    pub seven-off : (a : Await) → p + 7 ≤ length s → mostBytes < unpackAt s p .end → isUnpackable s ≡ found s a p → false ≡ isUnpackable s
-    unfolding every
-    seven-off a h f o = sym (o ∙ rw (sevens-next s p h, lt-leb (unpackAt s p .end) mostBytes f) (sym (and-false (whole (run a (unpackAt s p ∷ unpacking (drop (p + 7) s)))))))
-
-    pub seven-end : (a : State) → length s ≤ p → isUnpackable s ≡ found s (awaitOf a) p → wholeOf a ≡ isUnpackable s
-    unfolding run every
-    seven-end a h o = sym (o ∙ rw (sevens-end s p (omega arith)) (by (wholeOf a)))
-      where
-        by : (b : Bool) → (b && true) ≡ b
-        by true = refl
-        by false = refl
+  seven-start h e = record { await = part false; stand = e; left = rw h }

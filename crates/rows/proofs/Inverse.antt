@@ -1,7 +1,7 @@
 -- Packing and unpacking are inverse to each other: rows that fit seven bytes, and bytes by sevens.
 --     rows-flat, flat-rows, flat-length, rows-length       rows and their numbers
 --     packing-length, packs-back        rows, through bytes
---     unpacking-length, unpacks-back    bytes, through rows
+--     unpacks-back                      bytes, through rows
 --     Unpackable, unpackable            what an unpackable list of bytes is
 --     ends-of-spans, spans-of-ends      the two tests of spans
 --     flat-packable                     the numbers of rows that pass
@@ -105,17 +105,6 @@ unpacks-back (a ∷ b ∷ c ∷ d ∷ e ∷ f ∷ []) w h = absurd (omega arith)
 unpacks-back (g ∷ a ∷ b ∷ c ∷ d ∷ e ∷ f ∷ s) w h =
     let v = w .1 .1 .1 .1 in
     ap₂ (λ (x y : List ℕ). x ++ y) (seven-back g a b c d e f (w .1 .0, (w .1 .1 .0, (w .1 .1 .1 .0, tt))) (v .0, (v .1 .0, (v .1 .1 .0, tt)))) (unpacks-back s (v .1 .1 .1) (omega arith))
-
-pub unpacking-length : (s : List ℕ) → length (unpacking s) ≡ length s / 7
-unfolding unpacking
-unpacking-length [] = refl
-unpacking-length (a ∷ []) = refl
-unpacking-length (a ∷ b ∷ []) = refl
-unpacking-length (a ∷ b ∷ c ∷ []) = refl
-unpacking-length (a ∷ b ∷ c ∷ d ∷ []) = refl
-unpacking-length (a ∷ b ∷ c ∷ d ∷ e ∷ []) = refl
-unpacking-length (a ∷ b ∷ c ∷ d ∷ e ∷ f ∷ []) = refl
-unpacking-length (a ∷ b ∷ c ∷ d ∷ e ∷ f ∷ g ∷ s) = let x = unpacking-length s in omega arith
 
 -- ---- what is unpackable
 

@@ -19,8 +19,9 @@ use Rattle.rows.specs.Seven.{packing, unpacking, every}
 use Rattle.rows.specs.Pack.{isPackable, bytesFor, Pack}
 use Rattle.rows.specs.Unpack.{isUnpackable, Unpack}
 use Rattle.rows.specs.RoundTrip.{edgeRows, edgeBytes, RoundTrip}
+use Rattle.rows.proofs.Sevens.{unpacking-length}
 use Rattle.rows.proofs.Checks.{packable, packable-fit}
-use Rattle.rows.proofs.Inverse.{rows-flat, flat-rows, flat-length, rows-length, packs-back, packing-length, unpacks-back, unpacking-length, unpackable, ends-of-spans, spans-of-ends, flat-packable}
+use Rattle.rows.proofs.Inverse.{rows-flat, flat-rows, flat-length, rows-length, packs-back, packing-length, unpacks-back, unpackable, ends-of-spans, spans-of-ends, flat-packable}
 use Rattle.rows.proofs.Told.{pack-told, pack-gives, unpack-told, unpack-gives}
 use Rattle.rows.proofs.Readings.{strictly, readings}
 

@@ -1,5 +1,6 @@
 -- Laws of bytes taken as rows, seven to a row.
 --     sevens-short, sevens-next, sevens-end     no row is left; the next row, by index
+--     unpacking-length                          how many rows they are
 --     seven-is                                  a row's bytes, one by one
 -- Assumes nothing.
 use Prim.Native.Nat.{ℕ, suc, _+_, _-_, _*_, _/_, _%_, _≤_, _<_}
@@ -42,6 +43,17 @@ sevens-next s p h =
 
 pub sevens-end : (s : List ℕ) (p : ℕ) → length s < p + 7 → unpacking (drop p s) ≡ []
 sevens-end s p h = sevens-short (drop p s) (omega (arith, length-drop p s))
+
+pub unpacking-length : (s : List ℕ) → length (unpacking s) ≡ length s / 7
+unfolding unpacking
+unpacking-length [] = refl
+unpacking-length (a ∷ []) = refl
+unpacking-length (a ∷ b ∷ []) = refl
+unpacking-length (a ∷ b ∷ c ∷ []) = refl
+unpacking-length (a ∷ b ∷ c ∷ d ∷ []) = refl
+unpacking-length (a ∷ b ∷ c ∷ d ∷ e ∷ []) = refl
+unpacking-length (a ∷ b ∷ c ∷ d ∷ e ∷ f ∷ []) = refl
+unpacking-length (a ∷ b ∷ c ∷ d ∷ e ∷ f ∷ g ∷ s) = let x = unpacking-length s in omega arith
 
 -- ---- the code's bytes
 

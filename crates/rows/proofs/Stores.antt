@@ -1,5 +1,5 @@
 -- Laws of lists that are written into lent ones.
---     set-four, set-seven     the code's stores, one after the other
+--     set-seven               the code's stores, one after the other
 --     Written                 of a list, a front stands in the lent one, and the rest is still to come
 --     at-first, go-on, at-last     before the first stores, after more of them, and after the last
 -- Assumes nothing.
@@ -9,14 +9,6 @@ use mathlib.Core.Path.{_≡_, refl, sym, ap, ap₂, _∙_}
 use mathlib.Core.List.{List, [], _∷_, _++_, append-assoc, append-nil}
 use lib.ListN.{length, set, take, drop, length-append}
 use lib.Seq.{sets-eq, take-at, drop-append-add, drop-drop}
-
-module _ (l : List ℕ) (i a b c d : ℕ) (h : i + 4 ≤ length l) where
-  pub set-four : set (set (set (set l i a) (i + 1) b) (i + 2) c) (i + 3) d ≡ take i l ++ (a ∷ b ∷ c ∷ d ∷ []) ++ drop (i + 4) l
-  set-four =
-      let e₁ : i + 1 ≡ suc i = omega arith in
-      let e₂ : i + 2 ≡ suc (suc i) = omega arith in
-      let e₃ : i + 3 ≡ suc (suc (suc i)) = omega arith in
-      rw (e₁, e₂, e₃) (sets-eq (a ∷ b ∷ c ∷ d ∷ []) l i h)
 
 module _ (l : List ℕ) (i a b c d e f g : ℕ) (h : i + 7 ≤ length l) where
   pub set-seven : set (set (set (set (set (set (set l i a) (i + 1) b) (i + 2) c) (i + 3) d) (i + 4) e) (i + 5) f) (i + 6) g ≡ take i l ++ (a ∷ b ∷ c ∷ d ∷ e ∷ f ∷ g ∷ []) ++ drop (i + 7) l

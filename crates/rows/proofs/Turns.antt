@@ -2,18 +2,19 @@
 --     pack-turn, pack-end         a row's bytes over lent bytes; after the last row
 --     unpack-turn, unpack-end     a row's numbers over lent numbers; after the last row
 -- Assumes nothing.
-use Prim.Native.Nat.{ℕ, _+_, _≤_, _<_}
+use Prim.Native.Nat.{ℕ, suc, _+_, _*_, _/_, _≤_, _<_}
 use native.Mathlib.Omega.{arith}
-use mathlib.Core.Path.{_≡_, refl}
-use mathlib.Core.List.{List, [], _∷_, _++_}
+use mathlib.Core.Path.{_≡_, refl, sym, ap, _∙_}
+use mathlib.Core.List.{List, _++_}
 use lib.ListN.{length, take, drop}
-use Rattle.raw.specs.Row.{Row, flat}
+use Rattle.raw.specs.Row.{Row, flat, putRow, overlay}
 use Rattle.raw.specs.Numbers.{rowsOf}
+use Rattle.raw.proofs.Rows.{overlay-fits}
 use Rattle.raw.proofs.Numbers.{rowAt, rows-next, rows-end}
 use Rattle.rows.specs.Big.{big}
 use Rattle.rows.specs.Seven.{packRow, packing, unpacking, unpackAt}
 use Rattle.rows.proofs.Stores.{Written, go-on, at-last}
-use Rattle.rows.proofs.Sevens.{sevens-next, sevens-end}
+use Rattle.rows.proofs.Sevens.{sevens-next, sevens-end, unpacking-length}
 
 pub row-size : (r : Row) → length (packRow r) ≡ 7
 unfolding big
@@ -33,16 +34,20 @@ module _ (l b : List ℕ) (i p : ℕ) where
   unfolding packing
   pack-end out n h e o = rw e at (at-last (rw (rows-end l i (omega arith)) at o))
 
--- the rows from byte p on are still to be unpacked
+-- the rows from byte p on are still to be laid over the lent numbers from row n on
 abbrev pub Unpacking : List ℕ → List ℕ → ℕ → ℕ → List ℕ → Type 0
-Unpacking s b p i out = Written (flat (unpacking s)) b i (flat (unpacking (drop p s))) out
+Unpacking s b p n out = overlay b 0 (unpacking s) ≡ overlay out n (unpacking (drop p s))
 
-module _ (s b : List ℕ) (p i : ℕ) where
-  pub unpack-turn : (r : Row) (out out′ : List ℕ) → p + 7 ≤ length s → r ≡ unpackAt s p → out′ ≡ take i out ++ flat (r ∷ []) ++ drop (i + 4) out → Unpacking s b p i out → Unpacking s b (p + 7) (i + 4) out′
-  unfolding flat
+module _ (s b : List ℕ) (p n : ℕ) where
+  pub unpack-turn : (r : Row) (out out′ : List ℕ) → p + 7 ≤ length s → r ≡ unpackAt s p → out′ ≡ putRow out n r → Unpacking s b p n out → Unpacking s b (p + 7) (n + 1) out′
+  unfolding overlay
   unpack-turn r out out′ h x e o =
-      go-on (flat (unpacking s)) b i (flat (r ∷ [])) (flat (unpacking (drop (p + 7) s))) out out′ 4 (rw x (rw (sevens-next s p h) at o)) refl e
+      let f : n + 1 ≡ suc n = omega arith in
+      o ∙ rw (sevens-next s p h, f, e, x)
 
-  pub unpack-end : (out : List ℕ) (n : ℕ) → length s < p + 7 → i ≡ n → Unpacking s b p i out → out ≡ flat (unpacking s) ++ drop n b
-  unfolding flat
-  unpack-end out n h e o = rw e at (at-last (rw (sevens-end s p h) at o))
+  pub unpack-end : (out : List ℕ) → length s < p + 7 → length s / 7 * 4 ≤ length b → Unpacking s b p n out → out ≡ flat (unpacking s) ++ drop (length s / 7 * 4) b
+  unfolding overlay
+  unpack-end out h m o =
+      sym (rw (sevens-end s p h) at o)
+      ∙ overlay-fits (unpacking s) b (omega (arith, unpacking-length s))
+      ∙ ap (λ (k : ℕ). flat (unpacking s) ++ drop (k * 4) b) (unpacking-length s)

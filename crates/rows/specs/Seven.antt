@@ -11,14 +11,11 @@ use mathlib.Core.Bool.{Bool, true, _&&_}
 use mathlib.Core.List.{List, [], _∷_, _++_}
 use lib.ListN.{getD}
 use lib.Dec.{leb}
-use Rattle.raw.specs.Row.{Row}
+use Rattle.raw.specs.Row.{Row, rowOf}
 use Rattle.raw.specs.Read.{mostBytes}
 use Rattle.rows.specs.declared.fault.RowFault.{RowFault}
 use Rattle.rows.specs.declared.fault.RowFault.the-variants.{BadRows, NoRoom}
 use Rattle.rows.specs.Big.{big, ofBig}
-
-abbrev pub rowOf : ℕ → ℕ → ℕ → ℕ → Row
-rowOf k d a b = record { kind = k; detail = d; start = a; end = b }
 
 abbrev pub packRow : Row → List ℕ
 packRow r = (r .kind * 16 + r .detail) ∷ (big 3 (r .start) ++ big 3 (r .end - r .start))

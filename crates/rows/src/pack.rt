@@ -1,14 +1,14 @@
 // Rows into bytes: checked first, written second.
 use crate::fault::RowFault;
-use raw::check;
-use raw::check::Checked;
+use raw::mask;
 ghost use mathlib.Core.Path.{_≡_};
 ghost use mathlib.Core.Bool.{true};
 ghost use mathlib.Core.List.{_++_};
 ghost use Prim.Native.Nat.{_+_, _*_, _/_, _≤_};
 ghost use lib.ListN.{length, take, drop};
+ghost use Rattle.raw.specs.Row.{rowOf};
 ghost use Rattle.raw.specs.Numbers.{rowsOf};
-ghost use Rattle.rows.specs.Seven.{rowOf, packRow, packing, Fits};
+ghost use Rattle.rows.specs.Seven.{packRow, packing, Fits};
 ghost use Rattle.rows.specs.Pack.{isPackable, Pack};
 
 // The number of bytes, which then stand in the lent ones.
@@ -21,23 +21,24 @@ pub enum Packed {
 fn is_packable(rows: &[u32]) -> bool
     ensures { λ r. ⌜ r ≡ isPackable (now (rows .entry)) ⌝ }
 {
-    match check::check(rows) {
-        Checked::BadRows => {
-            return false;
-        }
-        Checked::Sound => {}
+    if rows.len() % 4 != 0 {
+        return false;
     }
+    let mut masks = mask::first();
     let mut i = 0;
     while i < rows.len() {
+        let kind = rows[i];
+        let detail = rows[i + 1];
         let start = rows[i + 2];
         let end = rows[i + 3];
+        masks = mask::step(masks, kind, detail);
         if (end <= 16_777_215) & (start <= end) {
             i += 4;
         } else {
             return false;
         }
     }
-    true
+    mask::is_whole(masks)
 }
 
 // A row into the seven bytes from p on.

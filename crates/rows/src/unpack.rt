@@ -1,13 +1,13 @@
 // Bytes into rows: checked first, written second.
 use crate::fault::RowFault;
-use raw::check;
-use raw::check::State;
+use raw::mask;
+use raw::row;
 ghost use mathlib.Core.Path.{_≡_};
-ghost use mathlib.Core.List.{[], _∷_, _++_};
+ghost use mathlib.Core.List.{_++_};
 ghost use Prim.Native.Nat.{_+_, _*_, _/_, _≤_};
-ghost use lib.ListN.{length, take, drop};
+ghost use lib.ListN.{length, drop};
 ghost use Rattle.raw.specs.Row.{flat};
-ghost use Rattle.rows.specs.Seven.{rowOf, unpacking, threeAt};
+ghost use Rattle.rows.specs.Seven.{unpacking, threeAt};
 ghost use Rattle.rows.specs.Unpack.{isUnpackable, Unpack};
 
 // The number of rows, which then stand in the lent numbers.
@@ -34,11 +34,11 @@ fn is_unpackable(bytes: &[u8]) -> bool
     if bytes.len() % 7 != 0 {
         return false;
     }
-    let mut state = State::Part(false);
+    let mut masks = mask::first();
     let mut p = 0;
     while p < bytes.len() {
         let head = bytes[p] as u32;
-        state = check::step(state, head / 16, head % 16);
+        masks = mask::step(masks, head / 16, head % 16);
         let start = three(bytes, p + 1);
         let size = three(bytes, p + 4);
         if start + size <= 16_777_215 {
@@ -47,18 +47,7 @@ fn is_unpackable(bytes: &[u8]) -> bool
             return false;
         }
     }
-    check::is_whole(state)
-}
-
-// A row into the four numbers from i on.
-fn put_unpacked(rows: &mut [u32], i: usize, kind: u32, detail: u32, start: u32, end: u32)
-    requires { ⌜ i + 4 ≤ length (now rows) ⌝ }
-    ensures { λ _. ⌜ now (rows .exit) ≡ take i (now (rows .entry)) ++ flat (rowOf kind detail start end ∷ []) ++ drop (i + 4) (now (rows .entry)) ⌝ }
-{
-    rows[i] = kind;
-    rows[i + 1] = detail;
-    rows[i + 2] = start;
-    rows[i + 3] = end;
+    mask::is_whole(masks)
 }
 
 // The rows of all sevens, from the first number on.
@@ -66,16 +55,16 @@ fn put_all(bytes: &[u8], rows: &mut [u32])
     requires { ⌜ length (now bytes) / 7 * 4 ≤ length (now rows) ⌝ }
     ensures { λ _. ⌜ now (rows .exit) ≡ flat (unpacking (now (bytes .entry))) ++ drop (length (now (bytes .entry)) / 7 * 4) (now (rows .entry)) ⌝ }
 {
-    let n = bytes.len() / 7 * 7;
+    let end = bytes.len() / 7 * 7;
     let mut p = 0;
-    let mut i = 0;
-    while p < n {
+    let mut n = 0;
+    while p < end {
         let head = bytes[p] as u32;
         let start = three(bytes, p + 1);
         let size = three(bytes, p + 4);
-        put_unpacked(rows, i, head / 16, head % 16, start, start + size);
+        row::write_numbers(rows, n, head / 16, head % 16, start, start + size);
         p += 7;
-        i += 4;
+        n += 1;
     }
 }
 

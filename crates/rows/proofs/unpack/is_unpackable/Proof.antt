@@ -1,27 +1,32 @@
--- `rows::unpack::is_unpackable` meets its contract: each turn of the loop takes a row of the rules. Assumes nothing.
+-- `rows::unpack::is_unpackable` meets its contract: each turn of the loop judges a row. Assumes nothing.
 use Prim.Native.Nat.{_%_, _-_, _≤_}
-use mathlib.Core.Path.{_≡_, refl, _∙_}
+use mathlib.Core.Path.{_≡_}
 use native.Mathlib.Omega.{arith}
-use lib.ListN.{length}
+use lib.ListN.{length, drop}
 use borrow.Author.Needs.{needs}
-use Rattle.raw.specs.Numbers.{awaitOf}
+use borrow.Author.Tests.{le-leb, lt-leb}
+use Rattle.rows.specs.Seven.{unpacking, unpackAt, endFits}
 use Rattle.rows.specs.Unpack.{isUnpackable}
-use Rattle.rows.proofs.Checks.{found, seven-count, seven-start, seven-turn, seven-off, seven-end}
+use Rattle.rows.proofs.Sevens.{sevens-next, sevens-end}
+use Rattle.rows.proofs.Checks.{Judging, judge-row, judge-off, judge-end, seven-count, seven-start}
 use Rattle.rows.proofs.unpack.is_unpackable.Statement.{statement}
 use Rattle.rows.proofs.unpack.is_unpackable.Tie as tie
 
 abbrev Inv-loop : tie.InvT-loop
-Inv-loop bytes state₀ p₀ state p =
-    (length bytes % 7 ≡ 0) × (p % 7 ≡ 0) × (p ≤ length bytes) × (isUnpackable bytes ≡ found bytes (awaitOf state) p)
+Inv-loop bytes masks₀ p₀ masks p =
+    (length bytes % 7 ≡ 0) × (p % 7 ≡ 0) × (p ≤ length bytes) × Judging endFits (isUnpackable bytes) masks (unpacking (drop p bytes))
 
 abbrev μ-loop : tie.MeasureT-loop
-μ-loop bytes state₀ p₀ state p = length bytes - p
+μ-loop bytes masks₀ p₀ masks p = length bytes - p
 
 returns : tie.Need-returns Inv-loop μ-loop
 returns c = seven-count (c .before .before .args .bytes .now) (c .if1 .taken)
 
+first-requires : tie.Need-first-requires Inv-loop μ-loop
+first-requires c κs = search needs
+
 loop-holds : tie.Need-loop-holds Inv-loop μ-loop
-loop-holds c = (c .if1 .left, omega arith, omega arith, seven-start (c .before .before .args .bytes .now) (c .if1 .left))
+loop-holds c = (c .before .if1 .left, omega arith, omega arith, seven-start (c .before .before .before .args .bytes .now) (c .before .if1 .left) (c .first .ensures))
 
 shared-slice-read-head : tie.Need-shared-slice-read-head Inv-loop μ-loop
 shared-slice-read-head c = search needs
@@ -56,16 +61,20 @@ loop-less c = search needs
 loop-again : tie.Need-loop-again Inv-loop μ-loop
 loop-again c =
     let l = c .before .before .before .before .before .before in
-    let a = c .before .before .before .before .before .before .before .before .before .args in
+    let a = c .before .before .before .before .before .before .before .before .before .before .args in
     let m = l .loop .inv in
-    (m .0, omega arith, omega arith, seven-turn (a .bytes .now) (l .loop .p) (l .loop .state) _ _ _ (omega arith) refl refl (omega (arith, c .before .before .three .ensures .0, c .before .three2 .ensures .0)) (c .before .before .before .step .ensures) (m .3))
+    let r = unpackAt (a .bytes .now) (l .loop .p) in
+    let e = le-leb (r .end) 16777215 (omega (arith, c .before .before .three .ensures .0, c .before .three2 .ensures .0)) in
+    (m .0, omega arith, omega arith, judge-row (m .3) (sevens-next (a .bytes .now) (l .loop .p) (omega arith)) (c .before .before .before .step .ensures) e)
 
 returns-2 : tie.Need-returns-2 Inv-loop μ-loop
 returns-2 c =
     let l = c .before .before .before .before .before .before in
-    let a = c .before .before .before .before .before .before .before .before .before .args in
+    let a = c .before .before .before .before .before .before .before .before .before .before .args in
     let m = l .loop .inv in
-    seven-off (a .bytes .now) (l .loop .p) (awaitOf (l .loop .state)) (omega arith) (omega (arith, c .before .before .three .ensures .0, c .before .three2 .ensures .0)) (m .3)
+    let r = unpackAt (a .bytes .now) (l .loop .p) in
+    let e = lt-leb (r .end) 16777215 (omega (arith, c .before .before .three .ensures .0, c .before .three2 .ensures .0)) in
+    judge-off (m .3) (sevens-next (a .bytes .now) (l .loop .p) (omega arith)) e
 
 is-whole-requires : tie.Need-is-whole-requires Inv-loop μ-loop
 is-whole-requires c κs = search needs
@@ -73,8 +82,8 @@ is-whole-requires c κs = search needs
 returns-3 : tie.Need-returns-3 Inv-loop μ-loop
 returns-3 c =
     let l = c .before .before in
-    let a = c .before .before .before .before .before .args in
-    c .is-whole .ensures ∙ seven-end (a .bytes .now) (l .loop .p) (l .loop .state) (c .before .loop-test .left) (l .loop .inv .3)
+    let a = c .before .before .before .before .before .before .args in
+    judge-end (l .loop .inv .3) (sevens-end (a .bytes .now) (l .loop .p) (omega arith)) (c .is-whole .ensures)
 
 pub is-unpackable-spec : {M : Type 1} → statement M
 is-unpackable-spec =
@@ -83,6 +92,7 @@ is-unpackable-spec =
     Inv-loop
     μ-loop
     returns
+    first-requires
     loop-holds
     shared-slice-read-head
     cast-head

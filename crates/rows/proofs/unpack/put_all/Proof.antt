@@ -1,29 +1,26 @@
--- `rows::unpack::put_all` meets its contract: each turn of the loop writes the next row over the lent numbers. Assumes nothing.
-use Prim.Native.Nat.{ℕ, _+_, _*_, _/_, _%_, _-_, _≤_}
+-- `rows::unpack::put_all` meets its contract: each turn of the loop lays the next row over the lent numbers. Assumes nothing.
+use Prim.Native.Nat.{_+_, _*_, _/_, _%_, _-_, _≤_}
 use mathlib.Core.Path.{_≡_, refl, _∙_}
 use native.Mathlib.Omega.{arith}
 use lib.ListN.{length, getD}
 use borrow.Author.Needs.{needs}
-use Rattle.rows.specs.Seven.{rowOf}
-use Rattle.rows.proofs.Stores.{at-first}
+use Rattle.raw.specs.Row.{rowOf}
 use Rattle.rows.proofs.Turns.{Unpacking, unpack-turn, unpack-end}
 use Rattle.rows.proofs.unpack.put_all.Statement.{statement}
 use Rattle.rows.proofs.unpack.put_all.Tie as tie
 
 abbrev Inv-loop : tie.InvT-loop
-Inv-loop bytes rows₀ n p₀ i₀ rows p i =
-    (n ≡ length bytes / 7 * 7) × (k : ℕ) × (p ≡ k * 7) × (i ≡ k * 4) × (p ≤ n) × (length rows ≡ length rows₀) × (length bytes / 7 * 4 ≤ length rows₀) × Unpacking bytes rows₀ p i rows
+Inv-loop bytes rows₀ end p₀ n₀ rows p n =
+    (end ≡ length bytes / 7 * 7) × (p ≡ n * 7) × (p ≤ end) × (length rows ≡ length rows₀) × (length bytes / 7 * 4 ≤ length rows₀) × Unpacking bytes rows₀ p n rows
 
 abbrev μ-loop : tie.MeasureT-loop
-μ-loop bytes rows₀ n p₀ i₀ rows p i = n - p
+μ-loop bytes rows₀ end p₀ n₀ rows p n = end - p
 
-mul-n : tie.Need-mul-n Inv-loop μ-loop
-mul-n c = search needs
+mul-end : tie.Need-mul-end Inv-loop μ-loop
+mul-end c = search needs
 
 loop-holds : tie.Need-loop-holds Inv-loop μ-loop
-loop-holds c =
-    let s = c .before .before in
-    (refl, 0, refl, refl, omega arith, refl, s .pre, at-first _ _)
+loop-holds c = (refl, refl, omega arith, refl, c .before .before .pre, refl)
 
 shared-slice-read-head : tie.Need-shared-slice-read-head Inv-loop μ-loop
 shared-slice-read-head c = search needs
@@ -43,17 +40,17 @@ add-three-2 c = search needs
 three-requires-2 : tie.Need-three-requires-2 Inv-loop μ-loop
 three-requires-2 c κs = search needs
 
-add-put-unpacked : tie.Need-add-put-unpacked Inv-loop μ-loop
-add-put-unpacked c = search needs
+add-write-numbers : tie.Need-add-write-numbers Inv-loop μ-loop
+add-write-numbers c = search needs
 
-put-unpacked-requires : tie.Need-put-unpacked-requires Inv-loop μ-loop
-put-unpacked-requires c κs = search needs
+write-numbers-requires : tie.Need-write-numbers-requires Inv-loop μ-loop
+write-numbers-requires c κs = search needs
 
 add-p : tie.Need-add-p Inv-loop μ-loop
 add-p c = search needs
 
-add-i : tie.Need-add-i Inv-loop μ-loop
-add-i c = search needs
+add-n : tie.Need-add-n Inv-loop μ-loop
+add-n c = search needs
 
 loop-less : tie.Need-loop-less Inv-loop μ-loop
 loop-less c = search needs
@@ -63,21 +60,22 @@ loop-again c =
     let l = c .before .before .before .before .before .before .before .before in
     let a = c .before .before .before .before .before .before .before .before .before .before .before .args in
     let m = l .loop .inv in
-    let w = c .before .before .put-unpacked in
+    let w = c .before .before .write-numbers in
     let x = c .before .before .before .before .before .three in
     let y = c .before .before .before .before .three2 in
     let h = getD (a .bytes .now) (l .loop .p) 0 in
     let r = rowOf (h / 16) (h % 16) (x .result) (x .result + y .result) in
-    (m .0, m .1 + 1, omega arith, omega arith, omega arith, w .kept .0 ∙ m .5, m .6, unpack-turn (a .bytes .now) (a .rows .now) (l .loop .p) (l .loop .i) r (l .loop .rows) _ (omega arith) (rw (x .ensures .0, y .ensures .0)) (w .ensures) (m .7))
+    (m .0, omega arith, omega arith, w .kept .0 ∙ m .3, m .4, unpack-turn (a .bytes .now) (a .rows .now) (l .loop .p) (l .loop .n) r (l .loop .rows) _ (omega arith) (rw (x .ensures .0, y .ensures .0)) (w .ensures) (m .5))
 
 same-length : tie.Need-same-length Inv-loop μ-loop
-same-length c = c .before .loop .inv .5
+same-length c = c .before .loop .inv .3
 
 returns : tie.Need-returns Inv-loop μ-loop
 returns c =
     let l = c .before in
     let a = c .before .before .before .before .args in
-    unpack-end (a .bytes .now) (a .rows .now) (l .loop .p) (l .loop .i) (l .loop .rows) (length (a .bytes .now) / 7 * 4) (omega arith) (omega arith) (l .loop .inv .7)
+    let m = l .loop .inv in
+    unpack-end (a .bytes .now) (a .rows .now) (l .loop .p) (l .loop .n) (l .loop .rows) (omega arith) (m .4) (m .5)
 
 pub put-all-spec : {M : Type 1} → statement M
 put-all-spec =
@@ -85,7 +83,7 @@ put-all-spec =
     (tie.spec
     Inv-loop
     μ-loop
-    mul-n
+    mul-end
     loop-holds
     shared-slice-read-head
     cast-head
@@ -93,10 +91,10 @@ put-all-spec =
     three-requires
     add-three-2
     three-requires-2
-    add-put-unpacked
-    put-unpacked-requires
+    add-write-numbers
+    write-numbers-requires
     add-p
-    add-i
+    add-n
     loop-less
     loop-again
     same-length

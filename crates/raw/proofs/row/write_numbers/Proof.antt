@@ -1,11 +1,14 @@
--- `rows::unpack::put_unpacked` meets its contract: the four stores are the numbers of a row. Assumes nothing.
+-- `raw::row::write_numbers` meets its contract. Assumes nothing.
 use native.Mathlib.Omega.{arith}
 use lib.ListN.{length-set}
 use borrow.Author.Needs.{needs}
-use Rattle.raw.specs.Row.{flat}
-use Rattle.rows.proofs.Stores.{set-four}
-use Rattle.rows.proofs.unpack.put_unpacked.Statement.{statement}
-use Rattle.rows.proofs.unpack.put_unpacked.Tie as tie
+use Rattle.raw.specs.Row.{rowOf}
+use Rattle.raw.proofs.Rows.{put-sets, put-out}
+use Rattle.raw.proofs.row.write_numbers.Statement.{statement}
+use Rattle.raw.proofs.row.write_numbers.Tie as tie
+
+mul-i : tie.Need-mul-i
+mul-i c = search needs
 
 mul-rows : tie.Need-mul-rows
 mul-rows c = search needs
@@ -44,13 +47,18 @@ same-length : tie.Need-same-length
 same-length c = search needs
 
 returns : tie.Need-returns
-unfolding flat
-returns c = let a = c .args in set-four (a .rows .now) (a .i) (a .kind) (a .detail) (a .start) (a .end) (c .pre)
+returns c =
+    let a = c .before .args in
+    put-sets (a .rows .now) (a .n) (rowOf (a .kind) (a .detail) (a .start) (a .end)) (c .if1 .taken)
 
-pub put-unpacked-spec : {M : Type 1} → statement M
-put-unpacked-spec =
+returns-2 : tie.Need-returns-2
+returns-2 c = let a = c .before .args in put-out (a .rows .now) (a .n) (rowOf (a .kind) (a .detail) (a .start) (a .end)) (c .if1 .left)
+
+pub write-numbers-spec : {M : Type 1} → statement M
+write-numbers-spec =
     tie.close
     (tie.spec
+    mul-i
     mul-rows
     slice-write-rows
     add-rows
@@ -63,4 +71,5 @@ put-unpacked-spec =
     mul-rows-4
     slice-write-rows-4
     same-length
-    returns)
+    returns
+    returns-2)
