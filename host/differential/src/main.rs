@@ -1,8 +1,8 @@
 //! Compares the proved reader with the Rust, row by row and refusal by refusal; then packing and
 //! unpacking with a Rust packer, and salvage with 01's cutting around the Rust.
 //!
-//!     cargo run --release -p differential                    some 850,000 cases, in seconds
-//!     cargo run --release -p differential -- --long          more than forty million
+//!     cargo run --release -p differential                    some 1,100,000 cases, in seconds
+//!     cargo run --release -p differential -- --long          more than fifty million
 //!     cargo run --release -p differential -- --seed 7        other random cases
 //!     cargo run --release -p differential -- FILE FOLDER     these .bib files, folders searched
 //!     cargo run --release -p differential -- --damage 20 FOLDER    and 20 damaged copies of each
@@ -11,6 +11,7 @@
 //! differences stand in full. build.rs of `oracle` and of `proved` say where the two readers come
 //! from.
 
+mod blocks;
 mod drawn;
 mod edges;
 mod exhaustive;
@@ -67,6 +68,7 @@ fn reading(judge: &mut Judge, wanted: &Wanted) {
     judge.group("sequences around UTF-8", |j| exhaustive::sequences(j, long));
     judge.group("characters", |j| exhaustive::characters(j, long));
     judge.group("edge lengths", |j| edges::run(j, long));
+    judge.group("blocks", |j| blocks::run(j, long));
     judge.group("by grammar", |j| drawn::STRICT.grammar(j, seed, long));
     judge.group("damaged", |j| drawn::STRICT.damaged(j, seed, long));
     judge.group("bytes", |j| drawn::bytes(j, seed, long));
@@ -91,6 +93,7 @@ fn salvaging(judge: &mut Judge, wanted: &Wanted) {
     judge.group("salvage, all short files", |j| salvage::short(j, long));
     judge.group("salvage, places", |j| salvage::places(j, long));
     judge.group("salvage, edge lengths", |j| edges::run(j, long));
+    judge.group("salvage, blocks", |j| blocks::run(j, long));
     judge.group("salvage, by grammar", |j| {
         drawn::SALVAGE.grammar(j, seed, long)
     });
