@@ -6,7 +6,8 @@
 //!
 //! The Rust is `std::str::from_utf8` and `RawBibliography::parse`. The proved reader is timed
 //! twice: `lent`, into rows that are there and were written before, and `fresh`, into rows that are
-//! allocated, zeroed, for each run, since the Rust allocates too. Nothing that is given back to the
+//! allocated, zeroed, for each run, since the Rust allocates too. `judged` is a reading into no rows:
+//! the check and the first of the two passes, without which a refusal could not leave the rows alone. Nothing that is given back to the
 //! system is in any of the times. The three take turns in one process on one file, so that noise
 //! meets all alike: compare the ratios, which are the Rust's time divided by the proved reader's
 //! (above 1 the proved reader is faster), of the best times and of the medians.
@@ -30,12 +31,13 @@ use std::process::ExitCode;
 
 use timing::{growth, Times};
 
-/// Measured for one text: the Rust, the proved reader into lent rows and into fresh ones.
+/// Measured for one text: the Rust, the proved reader into lent rows, into fresh ones and into none.
 struct Measured {
     bytes: usize,
     rust: Times,
     lent: Times,
     fresh: Times,
+    judged: Times,
 }
 
 fn main() -> ExitCode {
@@ -84,34 +86,38 @@ fn wanted() -> Result<(usize, Vec<PathBuf>), String> {
 fn measure(text: &[u8], rounds: usize) -> Measured {
     let need = 4 * agreed_rows(text);
     let mut rows = vec![1; need];
-    let (mut rust, mut lent, mut fresh) = (Times::new(), Times::new(), Times::new());
+    let mut measured = Measured {
+        bytes: text.len(),
+        rust: Times::new(),
+        lent: Times::new(),
+        fresh: Times::new(),
+        judged: Times::new(),
+    };
     for _ in 0..rounds {
-        rust.run(|| timing::the_rust(text));
-        lent.run(|| proved::read(text, &mut rows));
-        fresh.run(|| {
+        measured.rust.run(|| timing::the_rust(text));
+        measured.lent.run(|| proved::read(text, &mut rows));
+        measured.fresh.run(|| {
             let mut rows = vec![0; need];
             proved::read(text, &mut rows);
             rows
         });
+        measured.judged.run(|| proved::read(text, &mut []));
     }
-    let bytes = text.len();
-    println!("  {bytes} bytes, {} rows", need / 4);
-    println!("    Rust   {}", rust.speed(bytes));
-    println!(
-        "    lent   {}, ratio {}",
-        lent.speed(bytes),
-        rust.ratio(&lent)
-    );
-    println!(
-        "    fresh  {}, ratio {}",
-        fresh.speed(bytes),
-        rust.ratio(&fresh)
-    );
-    Measured {
-        bytes,
-        rust,
-        lent,
-        fresh,
+    measured.print(need / 4);
+    measured
+}
+
+impl Measured {
+    fn print(&self, rows: usize) {
+        let (bytes, rust) = (self.bytes, &self.rust);
+        println!("  {bytes} bytes, {rows} rows");
+        println!("    Rust   {}", rust.speed(bytes));
+        for (name, times) in [("lent", &self.lent), ("fresh", &self.fresh)] {
+            let (speed, ratio) = (times.speed(bytes), rust.ratio(times));
+            println!("    {name:6} {speed}, ratio {ratio}");
+        }
+        let (speed, part) = (self.judged.speed(bytes), self.judged.ratio(&self.lent));
+        println!("    judged {speed}, {part} of lent's time");
     }
 }
 
