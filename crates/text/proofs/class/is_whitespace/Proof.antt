@@ -37,7 +37,17 @@ is-within-requires-10 c κs = search needs
 
 returns : tie.Need-returns
 unfolding isWhitespace whiteSpace
-returns c = simp (or-assoc, or-false) (cc)
+returns c =
+    let c9 = c .before in
+    let c8 = c9 .before in
+    let c7 = c8 .before in
+    let c6 = c7 .before in
+    let c5 = c6 .before in
+    let c4 = c5 .before in
+    let c3 = c4 .before in
+    let c2 = c3 .before in
+    let c1 = c2 .before in
+    simp (or-assoc, or-false) (rw (c1 .is-within .ensures, c2 .is-within2 .ensures, c3 .is-within3 .ensures, c4 .is-within4 .ensures, c5 .is-within5 .ensures, c6 .is-within6 .ensures, c7 .is-within7 .ensures, c8 .is-within8 .ensures, c9 .is-within9 .ensures, c .is-within10 .ensures))
 
 pub is-whitespace-spec : {M : Type 1} → statement M
 is-whitespace-spec =
