@@ -18,13 +18,10 @@ pub use refusal::{Reason, Refusal};
 pub use row::{Kind, Row, Rows};
 
 use proved::Answer;
+use row::{BYTES, NUMBERS};
 
 /// The most bytes that a file may have; a longer one is refused.
 pub const MOST_BYTES: usize = 16_777_215;
-
-/// The numbers of a row, and the bytes of a packed one.
-const NUMBERS: usize = 4;
-const BYTES: usize = 7;
 
 /// Reads a file strictly: all of its rows, or what is wrong first.
 pub fn read(file: &[u8]) -> Result<Rows, Refusal> {

@@ -2,6 +2,10 @@
 
 use std::fmt;
 
+/// The numbers of a row, and the bytes of a packed one.
+pub(crate) const NUMBERS: usize = 4;
+pub(crate) const BYTES: usize = 7;
+
 /// What a row is of.
 #[derive(Debug, Clone, Copy, PartialEq, Eq, Hash)]
 pub enum Kind {
@@ -78,7 +82,7 @@ impl Rows {
     }
 
     pub fn len(&self) -> usize {
-        self.numbers.len() / super::NUMBERS
+        self.numbers.len() / NUMBERS
     }
 
     pub fn is_empty(&self) -> bool {
@@ -86,7 +90,7 @@ impl Rows {
     }
 
     pub fn iter(&self) -> impl Iterator<Item = Row> + '_ {
-        self.numbers.chunks_exact(super::NUMBERS).map(|row| Row {
+        self.numbers.chunks_exact(NUMBERS).map(|row| Row {
             kind: KINDS[row[0] as usize],
             detail: row[1],
             start: row[2] as usize,

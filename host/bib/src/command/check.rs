@@ -95,7 +95,7 @@ impl<W: Write> Report<'_, W> {
         let begun = lines.number_of(finding.piece.start);
         let line = lines.at(finding.cause.start);
         let excerpt = Excerpt::of(line.text, finding.cause.start - line.begin);
-        let mut what = finding.what(reason).to_string();
+        let mut what = reason.what_at(finding.is_at_end()).to_string();
         if begun != line.number {
             let at = if finding.is_at_end() {
                 "at the end of"
@@ -146,17 +146,6 @@ fn findings(rows: &Rows) -> impl Iterator<Item = Finding> + '_ {
 impl Finding {
     fn is_at_end(&self) -> bool {
         self.cause.start == self.piece.end
-    }
-
-    /// The Rust has one refusal for a text that ends too early and for a value that does not
-    /// begin: only the second can have a place before the end (`early` of
-    /// crates/raw/specs/Strict.antt).
-    fn what(&self, reason: Reason) -> &'static str {
-        match reason {
-            Reason::UnexpectedEof if self.is_at_end() => "the text ends too early",
-            Reason::UnexpectedEof => "expected a value",
-            _ => reason.what(),
-        }
     }
 }
 
