@@ -91,6 +91,13 @@ pub struct Refusal {
 }
 
 impl Refusal {
+    /// Memory is too short to lend what an answer may need.
+    pub(crate) const NO_MEMORY: Self = Self {
+        reason: Reason::NoRoom,
+        start: 0,
+        end: 0,
+    };
+
     /// The refusal of an answer whose number is not 0.
     pub(crate) fn of(answer: &Answer) -> Self {
         Self {
@@ -112,3 +119,9 @@ impl fmt::Display for Refusal {
 }
 
 impl std::error::Error for Refusal {}
+
+impl From<std::collections::TryReserveError> for Refusal {
+    fn from(_: std::collections::TryReserveError) -> Self {
+        Self::NO_MEMORY
+    }
+}

@@ -1,159 +1,280 @@
 //! `bib check`: for people. What is wrong, with its line and a mark under the place.
 
-use std::io::{self, Write};
+use std::collections::HashMap;
+use std::io::{self, BufWriter, Stdout, Write};
 
-use bib::{Kind, Reason, Row, Rows};
+use bib::check::{self, Code, Finding, Level, Lines, Lint, Reading, Stop};
 
-use crate::excerpt::Excerpt;
-use crate::lines::Lines;
-use crate::progress::{self, Progress};
+use crate::folder;
+use crate::levels::Levels;
+use crate::progress::{room, Progress};
+use crate::report::{Report, Spot};
 use crate::source::Source;
 use crate::style::Style;
+use crate::turns::{Failed, Page, Sink, Turns};
+use crate::words::Asked;
 use crate::{say, Status, Trouble};
+
+/// A file of more bytes waits for its turn, so that one such file is in work at a time: reading
+/// takes up to 24 bytes of memory for each byte.
+const LARGE: usize = 1 << 20;
+
+pub fn check(asked: &Asked, sources: Vec<Source>) -> Result<Status, Trouble> {
+    let (sources, troubles) = folder::expanded(sources);
+    let report = Report {
+        style: Style::of(asked.color),
+        room: room(&io::stdout()),
+        json: asked.json,
+    };
+    let checking = Checking {
+        asked,
+        report,
+        sources: &sources,
+    };
+    for trouble in &troubles {
+        say(trouble);
+    }
+    let session = Session {
+        checking: &checking,
+        out: BufWriter::new(io::stdout()),
+        progress: Progress::new(),
+        tally: Tally {
+            unread: troubles.len(),
+            ..Tally::default()
+        },
+        keys: HashMap::new(),
+    };
+    let mut session = Turns::run(session, sources.len(), |page| checking.file(page))?;
+    session.progress.clear();
+    if session.tally.read > 0 && !asked.json && !asked.quiet {
+        writeln!(session.out, "{}", session.tally.summary())?;
+    }
+    session.out.flush()?;
+    Ok(session.tally.status(&asked.levels))
+}
+
+/// What all files are checked by.
+struct Checking<'a> {
+    asked: &'a Asked,
+    report: Report,
+    sources: &'a [Source],
+}
+
+/// What was found in a file.
+#[derive(Default)]
+struct Outcome {
+    entries: usize,
+    errors: usize,
+    warnings: usize,
+    keys: Vec<Key>,
+    /// What kept it from being checked to its end.
+    trouble: Option<String>,
+}
+
+/// A key, and where it is.
+struct Key {
+    text: Vec<u8>,
+    start: usize,
+    line: usize,
+    column: usize,
+}
+
+impl Checking<'_> {
+    fn file(&self, page: &mut Page<Session>) -> Result<Outcome, Failed> {
+        let source = &self.sources[page.index];
+        let file = match source.file() {
+            Ok(file) => file,
+            Err(Trouble::Input(what)) => return Ok(Outcome::not_read(what)),
+            Err(_) => return Err(Failed),
+        };
+        if file.len() > LARGE {
+            page.wait()?;
+        }
+        let mut outcome = Outcome::default();
+        let checked = self.findings(&file, page, &mut outcome);
+        match checked {
+            Ok(()) => Ok(outcome),
+            Err(Stop::Refused(_)) => {
+                outcome.trouble = Some(source.beyond_memory("check"));
+                Ok(outcome)
+            }
+            Err(Stop::Caller(failed)) => Err(failed),
+        }
+    }
+
+    fn findings(
+        &self,
+        file: &[u8],
+        page: &mut Page<Session>,
+        outcome: &mut Outcome,
+    ) -> Result<(), Stop<Failed>> {
+        let source = &self.sources[page.index];
+        let Outcome {
+            errors, warnings, ..
+        } = outcome;
+        let print = |finding: &Finding, lines: &Lines| {
+            let Some(level) = self.asked.levels.of(finding) else {
+                return Ok(());
+            };
+            match level {
+                Level::Error => *errors += 1,
+                Level::Warning => *warnings += 1,
+            }
+            if self.asked.quiet {
+                return Ok(());
+            }
+            page.write(&self.report.finding(source, finding, level, lines))
+        };
+        let reading = Reading::of(file);
+        let counts = check::check_reading(file, &reading, print)?;
+        outcome.entries = counts.entries;
+        if let Ok(reading) = &reading {
+            outcome.keys = self.keys(file, reading)?;
+        }
+        Ok(())
+    }
+
+    /// The keys, where those of several files are compared.
+    fn keys(&self, file: &[u8], reading: &Reading) -> Result<Vec<Key>, Stop<Failed>> {
+        let mut keys = Vec::new();
+        if self.sources.len() < 2 || self.asked.levels.of_lint(Lint::KeyInTwoFiles).is_none() {
+            return Ok(keys);
+        }
+        let lines = Lines::of(file)?;
+        for (text, start) in check::keys(file, &reading.rows) {
+            let (line, column) = lines.line_and_column(start);
+            keys.try_reserve(1)?;
+            keys.push(Key {
+                text: text.to_vec(),
+                start,
+                line,
+                column,
+            });
+        }
+        Ok(keys)
+    }
+}
+
+impl Outcome {
+    fn not_read(what: String) -> Self {
+        Self {
+            trouble: Some(what),
+            ..Self::default()
+        }
+    }
+}
+
+/// What is printed and counted, in the order of the files.
+struct Session<'a> {
+    checking: &'a Checking<'a>,
+    out: BufWriter<Stdout>,
+    progress: Progress,
+    tally: Tally,
+    /// Where a key was seen first: the file's number, line and column.
+    keys: HashMap<Vec<u8>, (usize, usize, usize)>,
+}
+
+impl Sink for Session<'_> {
+    type Outcome = Outcome;
+
+    fn part(&mut self, index: usize, part: &[u8]) -> io::Result<()> {
+        let sources = self.checking.sources;
+        let line = || {
+            format!(
+                "checking {} of {}: {}",
+                index + 1,
+                sources.len(),
+                sources[index]
+            )
+        };
+        self.progress.pass(line, !part.is_empty());
+        self.out.write_all(part)
+    }
+
+    fn end(&mut self, index: usize, mut outcome: Outcome) -> io::Result<()> {
+        let keys = std::mem::take(&mut outcome.keys);
+        for key in keys {
+            self.key(index, key, &mut outcome)?;
+        }
+        self.tally.add(&outcome);
+        if let Some(what) = outcome.trouble {
+            // Findings come before what the next file makes appear on standard error.
+            self.out.flush()?;
+            self.progress.clear();
+            say(&what);
+        }
+        Ok(())
+    }
+}
+
+impl Session<'_> {
+    /// A key that another file has too is a finding.
+    fn key(&mut self, index: usize, key: Key, outcome: &mut Outcome) -> io::Result<()> {
+        let place = (index, key.line, key.column);
+        let end = key.start + key.text.len();
+        let text = String::from_utf8_lossy(&key.text).into_owned();
+        let first = *self.keys.entry(key.text).or_insert(place);
+        let asked = self.checking.asked;
+        let level = asked.levels.of_lint(Lint::KeyInTwoFiles);
+        let Some(level) = level.filter(|_| first.0 != index) else {
+            return Ok(());
+        };
+        match level {
+            Level::Error => outcome.errors += 1,
+            Level::Warning => outcome.warnings += 1,
+        }
+        let other = &self.checking.sources[first.0];
+        let finding = Finding {
+            code: Code::Lint(Lint::KeyInTwoFiles),
+            start: key.start,
+            end,
+            mark: key.start,
+            message: format!("the key {text} is in {other}:{}:{} too", first.1, first.2),
+            hint: None,
+            key: Some(text),
+        };
+        let spot = Spot {
+            source: &self.checking.sources[index],
+            line: key.line,
+            column: key.column,
+        };
+        if asked.quiet {
+            return Ok(());
+        }
+        let text = self.checking.report.bare(&spot, &finding, level);
+        self.out.write_all(text.as_bytes())
+    }
+}
 
 /// What was found in all files so far.
 #[derive(Default)]
 struct Tally {
     entries: usize,
-    damaged: usize,
-    refused: usize,
+    errors: usize,
+    warnings: usize,
+    /// Files that were read, those of them with findings, and those that were not read.
     read: usize,
+    found: usize,
     unread: usize,
 }
 
-/// A damaged piece, and why it is.
-struct Finding {
-    piece: Row,
-    cause: Row,
-}
-
-/// What is printed of one file.
-struct Report<'a, W> {
-    source: &'a Source,
-    style: &'a Style,
-    progress: &'a mut Progress,
-    out: &'a mut W,
-}
-
-pub fn check(sources: &[Source], out: &mut impl Write) -> Result<Status, Trouble> {
-    let style = Style::of(progress::is_terminal(&io::stdout()));
-    let mut progress = Progress::new();
-    let mut tally = Tally::default();
-    for (n, source) in sources.iter().enumerate() {
-        progress.show(|| format!("checking {} of {}: {source}", n + 1, sources.len()));
-        match source.file() {
-            Ok(file) => {
-                let mut report = Report {
-                    source,
-                    style: &style,
-                    progress: &mut progress,
-                    out,
-                };
-                report.file(&file, &mut tally)?;
-            }
-            Err(Trouble::Input(what)) => {
-                progress.clear();
-                say(&what);
-                tally.unread += 1;
-            }
-            Err(trouble) => return Err(trouble),
-        }
-        // Findings come before what the next file makes appear on standard error.
-        out.flush()?;
-    }
-    progress.clear();
-    if tally.read > 0 {
-        writeln!(out, "{}", tally.summary())?;
-    }
-    Ok(tally.status())
-}
-
-impl<W: Write> Report<'_, W> {
-    fn file(&mut self, file: &[u8], tally: &mut Tally) -> io::Result<()> {
-        tally.read += 1;
-        match bib::salvage(file) {
-            Ok(rows) => {
-                let entries = rows.iter().filter(|row| row.kind == Kind::Entry);
-                tally.entries += entries.count();
-                let mut lines = Lines::of(file);
-                for finding in findings(&rows) {
-                    tally.damaged += 1;
-                    self.finding(&finding, &mut lines)?;
-                }
-                Ok(())
-            }
-            Err(refusal) => {
-                tally.refused += 1;
-                self.progress.clear();
-                self.headline(1, 1, refusal.reason.what(), refusal.reason)
-            }
-        }
-    }
-
-    fn finding(&mut self, finding: &Finding, lines: &mut Lines) -> io::Result<()> {
-        let reason = Reason::of(finding.cause.detail).expect("a cause has a refusal's number");
-        let begun = lines.number_of(finding.piece.start);
-        let line = lines.at(finding.cause.start);
-        let excerpt = Excerpt::of(line.text, finding.cause.start - line.begin);
-        let mut what = reason.what_at(finding.is_at_end()).to_string();
-        if begun != line.number {
-            let at = if finding.is_at_end() {
-                "at the end of"
-            } else {
-                "in"
-            };
-            what += &format!(", {at} the piece that begins on line {begun}");
-        }
-        let source = self.source;
-        self.progress
-            .pass(|| format!("checking {source}: line {begun}"));
-        self.headline(line.number, excerpt.column, &what, reason)?;
-        let Style { red, plain, .. } = self.style;
-        writeln!(
-            self.out,
-            "{}\n{}{red}^{plain}",
-            excerpt.text, excerpt.indent
-        )
-    }
-
-    fn headline(
-        &mut self,
-        line: usize,
-        column: usize,
-        what: &str,
-        reason: Reason,
-    ) -> io::Result<()> {
-        let Style { bold, red, plain } = self.style;
-        write!(self.out, "{bold}")?;
-        // Not as text: a name that is not UTF-8 is to be found again.
-        self.out.write_all(self.source.name())?;
-        let number = reason.number();
-        writeln!(
-            self.out,
-            ":{line}:{column}:{plain} {red}{what}{plain} ({number})"
-        )
-    }
-}
-
-/// The damaged pieces; a cause's row follows that of its piece.
-fn findings(rows: &Rows) -> impl Iterator<Item = Finding> + '_ {
-    let pairs = rows.iter().zip(rows.iter().skip(1));
-    pairs
-        .filter(|(piece, _)| piece.kind == Kind::Damage)
-        .map(|(piece, cause)| Finding { piece, cause })
-}
-
-impl Finding {
-    fn is_at_end(&self) -> bool {
-        self.cause.start == self.piece.end
-    }
-}
-
 impl Tally {
-    fn status(&self) -> Status {
+    fn add(&mut self, outcome: &Outcome) {
+        if outcome.trouble.is_some() {
+            self.unread += 1;
+        } else {
+            self.read += 1;
+        }
+        self.entries += outcome.entries;
+        self.errors += outcome.errors;
+        self.warnings += outcome.warnings;
+        self.found += usize::from(outcome.errors + outcome.warnings > 0);
+    }
+
+    fn status(&self, levels: &Levels) -> Status {
         if self.unread > 0 {
             Status::Trouble
-        } else if self.damaged + self.refused > 0 {
+        } else if self.errors > 0 || levels.strict && self.warnings > 0 {
             Status::Findings
         } else {
             Status::Sound
@@ -162,18 +283,16 @@ impl Tally {
 
     fn summary(&self) -> String {
         let mut text = format!(
-            "{} sound, {}",
+            "{} sound, {}, {}",
             counted(self.entries, "entry", "entries"),
-            counted(self.damaged, "damaged piece", "damaged pieces")
+            counted(self.errors, "error", "errors"),
+            counted(self.warnings, "warning", "warnings")
         );
         if self.read > 1 {
-            text += &format!(" in {} files", self.read);
-        }
-        if self.refused > 0 {
-            text += &format!(", {} refused", counted(self.refused, "file", "files"));
+            text += &format!("; findings in {} of {} files", self.found, self.read);
         }
         if self.unread > 0 {
-            text += &format!(", {} not read", counted(self.unread, "file", "files"));
+            text += &format!("; {} not read", counted(self.unread, "file", "files"));
         }
         text
     }

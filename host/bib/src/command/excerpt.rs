@@ -1,12 +1,7 @@
 //! A source line as it is shown, with what goes before the mark.
 
+use crate::shown::characters;
 use crate::width::width;
-
-/// The most columns that are shown of a line: a terminal must not break it, or the mark is lost.
-const MOST: usize = 79;
-
-/// The most that are shown before the place of a line that has more.
-const BEFORE: usize = 50;
 
 /// What stands where a line was cut.
 const CUT: char = '…';
@@ -15,73 +10,70 @@ const CUT: char = '…';
 const TAB: usize = 8;
 
 pub struct Excerpt {
-    /// The place's column in characters, the first being 1.
-    pub column: usize,
     pub text: String,
     /// As wide as the text before the place; its tabs are tabs.
     pub indent: String,
 }
 
 impl Excerpt {
-    /// Of a line, around the byte `at`. A byte that is not UTF-8 counts as one character.
-    pub fn of(line: &[u8], at: usize) -> Self {
+    /// Of a line, around the byte `at`, in at most so many columns: a terminal must not break it,
+    /// or the mark is lost. There is at least one column.
+    pub fn of(line: &[u8], at: usize, most: usize) -> Self {
         let (before, after) = line.split_at(at.min(line.len()));
-        let count = characters(before).count();
-        let mut left: Vec<char> = characters(before)
-            .skip(count.saturating_sub(MOST))
-            .collect();
-        let mut right: Vec<char> = characters(after).take(MOST).collect();
-        let more_left = count > MOST;
-        let more_right = characters(after).nth(MOST).is_some();
-        if more_left || more_right || columns(&left) + columns(&right) > MOST {
-            cut_left(&mut left, more_left);
-            let room = MOST - columns(&left);
+        let (mut left, more_left) = last(before, most);
+        let (mut right, more_right) = first(after, most);
+        if more_left || more_right || columns(&left) + columns(&right).max(1) > most {
+            cut_left(&mut left, more_left, most * 5 / 8);
+            let room = most.saturating_sub(columns(&left));
             cut_right(&mut right, more_right, room);
         }
         Self {
-            column: count + 1,
             indent: left.iter().flat_map(|c| blank(*c)).collect(),
             text: left.into_iter().chain(right).collect(),
         }
     }
 }
 
+/// The first characters of a text, at most so many, and whether there are more behind.
+fn first(text: &[u8], most: usize) -> (Vec<char>, bool) {
+    // A character has at most four bytes; the last bytes of the head may be inside one.
+    let head = &text[..text.len().min(4 * most + 4)];
+    let mut all = characters(head);
+    let few = all.by_ref().take(most).collect();
+    (few, all.next().is_some())
+}
+
+/// The last characters of a text, at most so many, and whether there are more before.
+fn last(text: &[u8], most: usize) -> (Vec<char>, bool) {
+    // A character has at most four bytes; the first bytes of the tail may be inside one.
+    let tail = &text[text.len().saturating_sub(4 * most + 3)..];
+    let all: Vec<char> = characters(tail).collect();
+    let kept = all.len().min(most);
+    let more = tail.len() < text.len() || kept < all.len();
+    (all[all.len() - kept..].to_vec(), more)
+}
+
 /// To the last columns, if there are more, or more characters before.
-fn cut_left(left: &mut Vec<char>, more: bool) {
-    let turned: Vec<char> = left.iter().rev().copied().collect();
-    let first = left.len() - length_of_first(&turned, BEFORE);
-    if more || first > 0 {
-        left.splice(..first, [CUT]);
+fn cut_left(left: &mut Vec<char>, more: bool, room: usize) {
+    if more || columns(left) > room {
+        let turned: Vec<char> = left.iter().rev().copied().collect();
+        let first = left.len() - length_of_first(&turned, room.saturating_sub(1));
+        left.splice(..first, (room > 0).then_some(CUT));
     }
 }
 
 /// To so many columns, if there are more, or more characters after.
 fn cut_right(right: &mut Vec<char>, more: bool, room: usize) {
     if more || columns(right) > room {
-        right.truncate(length_of_first(right, room - 1));
-        right.push(CUT);
+        right.truncate(length_of_first(right, room.saturating_sub(1)));
+        right.extend((room > 0).then_some(CUT));
     }
 }
 
-/// The characters of a text as they are shown.
-fn characters(text: &[u8]) -> impl Iterator<Item = char> + '_ {
-    text.utf8_chunks().flat_map(|chunk| {
-        let valid = chunk.valid().chars().map(shown);
-        valid.chain(chunk.invalid().iter().map(|_| char::REPLACEMENT_CHARACTER))
-    })
-}
-
-/// A character that would steer the terminal, or turn the text's direction, is shown by another.
-fn shown(c: char) -> char {
-    match c {
-        '\t' => c,
-        '\0'..='\x1f' => char::from_u32(0x2400 + c as u32).unwrap_or(c),
-        '\x7f' => '\u{2421}',
-        '\u{80}'..='\u{9f}' | '\u{2028}'..='\u{202e}' | '\u{2066}'..='\u{2069}' => {
-            char::REPLACEMENT_CHARACTER
-        }
-        _ => c,
-    }
+/// As much of a line as has so many columns.
+pub fn cut(line: &str, most: usize) -> String {
+    let all: Vec<char> = line.chars().collect();
+    all[..length_of_first(&all, most)].iter().collect()
 }
 
 fn columns(text: &[char]) -> usize {
@@ -114,4 +106,40 @@ fn length_of_first(text: &[char], most: usize) -> usize {
         used <= most
     };
     text.iter().take_while(fits).count()
+}
+
+#[cfg(test)]
+mod tests {
+    use super::*;
+
+    /// Neither the line nor its mark passes any width, wherever the place is.
+    #[test]
+    fn any_width() {
+        let lines = [
+            "",
+            "short",
+            "漢字漢字漢字漢字漢字漢字",
+            "a\tb\tc\te\u{301}e\u{301}\tf",
+        ];
+        for line in lines.iter().map(|line| line.repeat(9)) {
+            for most in 1..100 {
+                for at in (0..=line.len()).filter(|at| line.is_char_boundary(*at)) {
+                    let excerpt = Excerpt::of(line.as_bytes(), at, most);
+                    let shown: Vec<char> = excerpt.text.chars().collect();
+                    let indent: Vec<char> = excerpt.indent.chars().collect();
+                    assert!(columns(&shown) <= most, "{most} {at} {:?}", excerpt.text);
+                    assert!(columns(&indent) < most, "{most} {at} {:?}", excerpt.text);
+                }
+            }
+        }
+    }
+
+    #[test]
+    fn long_lines() {
+        let line = "x".repeat(30) + "y" + &"z".repeat(30);
+        let excerpt = Excerpt::of(line.as_bytes(), 30, 16);
+        assert_eq!(excerpt.text, "…xxxxxxxxxyzzzz…");
+        assert_eq!(excerpt.indent, " ".repeat(10));
+        assert_eq!(cut("abc漢字", 6), "abc漢");
+    }
 }

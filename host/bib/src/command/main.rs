@@ -2,11 +2,18 @@
 
 mod check;
 mod excerpt;
-mod lines;
+mod folder;
+mod json;
+mod levels;
+mod near;
 mod print;
 mod progress;
+mod report;
+mod shown;
 mod source;
 mod style;
+mod system;
+mod turns;
 mod width;
 mod words;
 
@@ -14,6 +21,7 @@ use std::env;
 use std::io::{self, BufWriter, ErrorKind, Write};
 use std::process::ExitCode;
 
+use bib::Reason;
 use source::Source;
 use words::{Words, Work};
 
@@ -60,7 +68,10 @@ fn main() -> ExitCode {
 
 fn sentence(trouble: &Trouble) -> String {
     match trouble {
-        Trouble::Words(what) => format!("{what}; `bib --help` shows what can be asked"),
+        Trouble::Words(what) => {
+            let end = if what.ends_with('?') { "" } else { ";" };
+            format!("{what}{end} `bib --help` shows what can be asked")
+        }
         Trouble::Input(what) => what.clone(),
         Trouble::Output(error) => format!("cannot write the output: {}", source::plain(error)),
     }
@@ -76,7 +87,12 @@ fn run(words: Words) -> Result<Status, Trouble> {
     let status = match words {
         Words::Help => print::help(&mut out)?,
         Words::Version => print::version(&mut out)?,
-        Words::Check(sources) => check::check(&sources, &mut out)?,
+        Words::List => print::list(&mut out)?,
+        Words::Check(asked, sources) => {
+            // It prints from several threads.
+            drop(out);
+            return check::check(&asked, sources);
+        }
         Words::One(work, source) => one(work, &source, &mut out)?,
     };
     out.flush()?;
@@ -88,7 +104,7 @@ fn one(work: Work, source: &Source, out: &mut impl Write) -> Result<Status, Trou
     let answer = match work {
         Work::Rows => bib::read(&source.file()?),
         Work::Salvage => bib::salvage(&source.file()?),
-        Work::Unpack => bib::unpack(&source.bytes()?),
+        Work::Unpack => bib::unpack(&source.packed()?),
         Work::Pack => return pack(source, out),
     };
     match answer {
@@ -96,11 +112,23 @@ fn one(work: Work, source: &Source, out: &mut impl Write) -> Result<Status, Trou
             print::rows(&rows, out)?;
             Ok(Status::Sound)
         }
+        Err(refusal) if refusal.reason == Reason::NoRoom => Err(beyond_memory(work, source)),
         Err(refusal) => {
             writeln!(out, "{}", print::refused(&refusal))?;
             Ok(Status::Findings)
         }
     }
+}
+
+/// Room is lent for every answer, so that only memory can be short.
+fn beyond_memory(work: Work, source: &Source) -> Trouble {
+    let work = match work {
+        Work::Rows => "read",
+        Work::Salvage => "salvage",
+        Work::Pack => "pack",
+        Work::Unpack => "unpack",
+    };
+    Trouble::Input(source.beyond_memory(work))
 }
 
 fn pack(source: &Source, out: &mut impl Write) -> Result<Status, Trouble> {
@@ -110,6 +138,7 @@ fn pack(source: &Source, out: &mut impl Write) -> Result<Status, Trouble> {
             out.write_all(&bytes)?;
             Ok(Status::Sound)
         }
+        Err(refusal) if refusal.reason == Reason::NoRoom => Err(beyond_memory(Work::Pack, source)),
         Err(refusal) => {
             // Standard output is for packed rows alone.
             writeln!(io::stderr(), "{}", print::refused(&refusal))?;

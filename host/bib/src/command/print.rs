@@ -2,8 +2,10 @@
 
 use std::io::{self, Write};
 
+use bib::check::LINTS;
 use bib::{Refusal, Rows};
 
+use crate::shown;
 use crate::Status;
 
 const HELP: &str = "\
@@ -17,16 +19,40 @@ Reads .bib files: every entry, name and field with its place, or what is wrong a
   bib --help            this text
   bib --version         the version
 
-No FILE, or -, is standard input. After -- every word is a file.
+No FILE, or -, is standard input. Of a folder, `bib check` takes all .bib files below it. After --
+every word is a file.
+
+Errors of `bib check` are what the reader refuses, with the number of the refusal; warnings are
+what is read but surely not meant, with a name:
+
+  --allow NAME,..       silences these warnings
+  --deny NAME,..        makes errors of them
+  --strict              exit status 1 for warnings too
+  --list                explains every warning, with an example
+  --json                a JSON object in a line for each finding, and nothing else
+  --quiet, -q           no output, only the exit status
+  --color WHEN          auto, always or never
 
 Rows are lines `kind detail start end`, and then `rows N`; places are bytes of the file. The kinds:
 0 preamble with its quotes, 1 entry, 2 entry type, 3 key, 4 field name, 5 value, 6 literal, 7 name,
 8 definition name, 9 damaged piece, 10 its cause, whose detail is the number of a refusal.
 A refusal is a line `refused NUMBER START END`; `bib pack` has it on standard error.
 
-Exit status: 0 sound; 1 something is wrong in a file; 2 a file cannot be read, or the words are
-not known.
+Exit status: 0 sound, or with warnings alone; 1 something is wrong in a file; 2 a file cannot be
+read, memory is short, or the words are not known.
 ";
+
+/// Every lint, what it means, and a file that has it.
+pub fn list(out: &mut impl Write) -> io::Result<Status> {
+    for (n, about) in LINTS.iter().enumerate() {
+        let between = if n > 0 { "\n" } else { "" };
+        writeln!(out, "{between}{}\n  {}", about.name, about.meaning)?;
+        for line in about.example.lines() {
+            writeln!(out, "    {}", shown::sentence(line))?;
+        }
+    }
+    Ok(Status::Sound)
+}
 
 pub fn help(out: &mut impl Write) -> io::Result<Status> {
     out.write_all(HELP.as_bytes())?;

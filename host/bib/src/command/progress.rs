@@ -1,13 +1,17 @@
 //! A line on standard error that says where long work is, on a terminal only.
 
 use std::io::{self, IsTerminal, Write};
+use std::os::fd::AsFd;
 use std::time::{Duration, Instant};
+
+use crate::excerpt::cut;
+use crate::system;
 
 /// Work is long after this time; and the line changes no more often.
 const PATIENCE: Duration = Duration::from_millis(300);
 
-/// The most characters that are shown: a line that the terminal broke could not be cleared.
-const MOST: usize = 79;
+/// The columns of a terminal that does not say how many it has, and of what is no terminal.
+const USUAL: usize = 80;
 
 /// Back to the beginning of the line, and clear it.
 const AGAIN: &str = "\r\x1b[K";
@@ -25,6 +29,12 @@ pub fn is_terminal(stream: &impl IsTerminal) -> bool {
     stream.is_terminal() && std::env::var_os("TERM").is_none_or(|terminal| terminal != "dumb")
 }
 
+/// The columns of a line that a stream's terminal does not break; one is left free at the end.
+pub fn room(stream: &impl AsFd) -> usize {
+    let columns = system::columns(stream).unwrap_or(USUAL);
+    columns.saturating_sub(1).max(1)
+}
+
 impl Progress {
     pub fn new() -> Self {
         Self {
@@ -38,16 +48,18 @@ impl Progress {
     /// Shows where the work is, if it has been long enough since the last time.
     pub fn show(&mut self, line: impl FnOnce() -> String) {
         if self.is_terminal && self.last.elapsed() >= PATIENCE {
-            let line: String = line().chars().take(MOST).collect();
+            // A line that the terminal broke could not be cleared.
+            let line = cut(&line(), room(&io::stderr()));
             let _ = write!(io::stderr(), "{AGAIN}{line}");
             self.shown = true;
             self.last = Instant::now();
         }
     }
 
-    /// Before something is printed: shows where the work is, or makes room on a shared terminal.
-    pub fn pass(&mut self, line: impl FnOnce() -> String) {
-        if self.is_shared {
+    /// Between two files: shows where the work is. If something is printed now, it makes room for
+    /// that on a shared terminal.
+    pub fn pass(&mut self, line: impl FnOnce() -> String, is_printed: bool) {
+        if self.is_shared && is_printed {
             self.clear();
         } else {
             self.show(line);

@@ -7,6 +7,8 @@ use std::io::{self, Read};
 use std::os::fd::AsFd;
 use std::path::PathBuf;
 
+use crate::shown;
+use crate::system::is_stdin_closed;
 use crate::Trouble;
 
 /// What standard input is called.
@@ -37,14 +39,26 @@ impl Source {
         }
     }
 
+    /// What is said where memory is too short for the work on it.
+    pub fn beyond_memory(&self, work: &str) -> String {
+        format!("cannot {work} {self}: out of memory")
+    }
+
     /// A file's bytes; of one that is too long, one byte more than may be, which shows that it is.
     pub fn file(&self) -> Result<Vec<u8>, Trouble> {
         self.at_most(bib::MOST_BYTES as u64 + 1)
     }
 
-    /// All bytes, however many.
-    pub fn bytes(&self) -> Result<Vec<u8>, Trouble> {
-        self.at_most(u64::MAX)
+    /// Packed rows. No file has more than a row for each byte and one, so that more bytes than
+    /// those take are the rows of no file; the input may have no end.
+    pub fn packed(&self) -> Result<Vec<u8>, Trouble> {
+        const MOST: u64 = (bib::MOST_BYTES as u64 + 1) * 7;
+        let bytes = self.at_most(MOST + 1)?;
+        if bytes.len() as u64 > MOST {
+            let what = format!("{self} has more bytes than the rows of any file, {MOST}");
+            return Err(Trouble::Input(what));
+        }
+        Ok(bytes)
     }
 
     fn at_most(&self, most: u64) -> Result<Vec<u8>, Trouble> {
@@ -53,21 +67,27 @@ impl Source {
             Self::Named(path) => File::open(path),
         };
         let read = file.and_then(|file| drained(file, most));
-        read.map_err(|error| Trouble::Input(format!("cannot read {self}: {}", plain(&error))))
+        read.map_err(|error| Trouble::Input(cannot_read(self, &error)))
     }
 }
 
 impl fmt::Display for Source {
+    /// Its name as it is shown.
     fn fmt(&self, f: &mut fmt::Formatter<'_>) -> fmt::Result {
-        match self {
-            Self::Stdin => f.write_str(STDIN),
-            Self::Named(path) => path.display().fmt(f),
-        }
+        f.write_str(&shown::name(self.name()))
     }
+}
+
+/// The sentence about a source that cannot be read.
+pub fn cannot_read(source: &Source, error: &io::Error) -> String {
+    format!("cannot read {source}: {}", plain(error))
 }
 
 /// As a file: `io::stdin` would take one that cannot be read for an empty one.
 fn stdin() -> io::Result<File> {
+    if is_stdin_closed() {
+        return Err(io::Error::other("it is closed"));
+    }
     Ok(File::from(io::stdin().as_fd().try_clone_to_owned()?))
 }
 

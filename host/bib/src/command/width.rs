@@ -6,7 +6,10 @@ use std::cmp::Ordering;
 
 /// 0 for marks that stand on others and for what is not shown, 2 for wide characters, else 1.
 pub fn width(c: char) -> usize {
-    if has(&table::ZERO, c) {
+    // The tables begin with U+0300; most characters come before.
+    if c < '\u{300}' {
+        1
+    } else if has(&table::ZERO, c) {
         0
     } else if has(&table::WIDE, c) {
         2
@@ -56,6 +59,7 @@ mod tests {
     #[test]
     fn tables_rise() {
         for table in [&table::ZERO[..], &table::WIDE[..]] {
+            assert!(table[0].0 >= 0x300);
             assert!(table.iter().all(|range| range.0 <= range.1));
             assert!(table.windows(2).all(|pair| pair[0].1 < pair[1].0));
         }

@@ -1,0 +1,224 @@
+//! What is wrong in a file, in words for its author.
+//!
+//! The proved reader alone judges what is read. A file that strict reading accepts has no errors;
+//! of another one salvage tells the damaged pieces, which are the errors. Warnings are about what
+//! is read, but surely not meant.
+//!
+//! ```
+//! let mut seen = Vec::new();
+//! let file = b"@book{k, year = 1996, year = 1997}";
+//! let counts = bib::check::check(file, |finding, lines| {
+//!     seen.push((lines.place(finding.mark), finding.message.clone()));
+//!     Ok::<(), ()>(())
+//! });
+//! assert_eq!(counts.unwrap().entries, 1);
+//! let message = "the entry has the field `year` already, at 1:10".to_string();
+//! assert_eq!(seen, [("1:23".to_string(), message)]);
+//! ```
+
+mod cursor;
+mod damage;
+mod encoding;
+mod entries;
+mod finding;
+mod hints;
+mod items;
+mod lines;
+mod outside;
+mod text;
+mod trace;
+
+pub use finding::{About, Code, Finding, Level, Lint, LINTS};
+pub use items::{Item, Items, What};
+pub use lines::{Line, Lines};
+
+use std::cell::OnceCell;
+use std::collections::TryReserveError;
+
+use crate::{Kind, Reason, Refusal, Rows};
+use encoding::{Encoding, Format};
+use entries::Repeats;
+use text::field_in_value;
+
+/// What a file has.
+#[derive(Debug, Clone, Copy, PartialEq, Eq, Default)]
+pub struct Counts {
+    /// Entries that were read.
+    pub entries: usize,
+    /// Pieces that are damaged.
+    pub damaged: usize,
+}
+
+/// Why a file was not checked to its end.
+#[derive(Debug, Clone, PartialEq, Eq)]
+pub enum Stop<E> {
+    /// Memory is short: refusal 16.
+    Refused(Refusal),
+    /// The caller's function answered this.
+    Caller(E),
+}
+
+impl<E> From<Refusal> for Stop<E> {
+    fn from(refusal: Refusal) -> Self {
+        Self::Refused(refusal)
+    }
+}
+
+impl<E> From<TryReserveError> for Stop<E> {
+    fn from(error: TryReserveError) -> Self {
+        Self::Refused(error.into())
+    }
+}
+
+/// Hands over what is wrong in a file, piece by piece and entry by entry in file order, with the
+/// file's lines.
+pub fn check<E>(
+    file: &[u8],
+    say: impl FnMut(&Finding, &Lines) -> Result<(), E>,
+) -> Result<Counts, Stop<E>> {
+    check_reading(file, &Reading::of(file), say)
+}
+
+/// The same, where the file has been read.
+pub fn check_reading<E>(
+    file: &[u8],
+    reading: &Result<Reading, Refusal>,
+    say: impl FnMut(&Finding, &Lines) -> Result<(), E>,
+) -> Result<Counts, Stop<E>> {
+    let Reading { rows, is_cut } = match reading {
+        Ok(reading) => reading,
+        Err(refusal) if refusal.reason == Reason::TooLong => {
+            return too_long(say, *refusal).map_err(Stop::Caller)
+        }
+        Err(refusal) => return Err(Stop::Refused(*refusal)),
+    };
+    let mut checker = Checker {
+        file,
+        rows,
+        is_cut: *is_cut,
+        keys: Repeats::in_file(file, rows, Kind::Key)?,
+        names: Repeats::in_file(file, rows, Kind::DefinitionName)?,
+        encoding: Encoding::of(file, rows),
+        format: Format::of(file),
+        lines: OnceCell::new(),
+        has_said: false,
+        say,
+    };
+    checker.whole()?;
+    Ok(checker.counts())
+}
+
+/// The keys of the entries that were read, each with its place; not empty ones.
+pub fn keys<'a>(file: &'a [u8], rows: &'a Rows) -> impl Iterator<Item = (&'a [u8], usize)> + 'a {
+    let keys = rows
+        .iter()
+        .filter(|row| row.kind == Kind::Key && row.start < row.end);
+    keys.map(|row| (&file[row.span()], row.start))
+}
+
+/// A reading of a file: strict reading's rows, or those of salvage where that refuses.
+pub struct Reading {
+    pub rows: Rows,
+    /// Strict reading accepts the file, but salvage would cut it inside an entry.
+    pub is_cut: bool,
+}
+
+impl Reading {
+    /// Where salvage shows no damage, its rows are strict reading's (`undamaged` and `strictly` of
+    /// crates/salvage/specs/Demand3.antt), so that such a file is read once.
+    pub fn of(file: &[u8]) -> Result<Self, Refusal> {
+        let rows = crate::salvage(file)?;
+        let is_damaged = rows.iter().any(|row| row.kind == Kind::Damage);
+        let is_cut = is_damaged && crate::accepts(file);
+        if !is_cut {
+            return Ok(Self { rows, is_cut });
+        }
+        drop(rows);
+        let rows = crate::read(file)?;
+        Ok(Self { rows, is_cut })
+    }
+}
+
+/// A file that is too long is not read; it has no line to show.
+fn too_long<E>(
+    mut say: impl FnMut(&Finding, &Lines) -> Result<(), E>,
+    refusal: Refusal,
+) -> Result<Counts, E> {
+    let finding = Finding {
+        code: Code::Refusal(refusal.reason),
+        start: refusal.start,
+        end: refusal.end,
+        mark: 0,
+        message: refusal.reason.what().into(),
+        hint: Some("split it into several files".into()),
+        key: None,
+    };
+    let lines = Lines::of(b"").expect("no file has no lines but one");
+    say(&finding, &lines)?;
+    Ok(Counts::default())
+}
+
+/// A file that is being checked.
+pub(crate) struct Checker<'a, S> {
+    file: &'a [u8],
+    rows: &'a Rows,
+    is_cut: bool,
+    keys: Repeats,
+    names: Repeats,
+    encoding: Encoding,
+    /// What else than BibTeX the file looks like; said once.
+    format: Option<Format>,
+    /// Made when the first finding needs them.
+    lines: OnceCell<Lines<'a>>,
+    /// Something was said already.
+    has_said: bool,
+    say: S,
+}
+
+impl<'a, E, S: FnMut(&Finding, &Lines) -> Result<(), E>> Checker<'a, S> {
+    fn lines(&self) -> Result<&Lines<'a>, Refusal> {
+        if self.lines.get().is_none() {
+            let _ = self.lines.set(Lines::of(self.file)?);
+        }
+        Ok(self.lines.get().expect("they were made"))
+    }
+
+    fn say(&mut self, finding: Finding) -> Result<(), Stop<E>> {
+        self.lines()?;
+        self.has_said = true;
+        let lines = self.lines.get().expect("they were made");
+        (self.say)(&finding, lines).map_err(Stop::Caller)
+    }
+
+    fn counts(&self) -> Counts {
+        let count = |kind| self.rows.iter().filter(|row| row.kind == kind).count();
+        Counts {
+            entries: count(Kind::Entry),
+            damaged: count(Kind::Damage),
+        }
+    }
+
+    fn whole(&mut self) -> Result<(), Stop<E>> {
+        self.about_encoding()?;
+        let mut is_empty = true;
+        let mut before = None;
+        for item in Items::of(self.file, self.rows) {
+            is_empty &= matches!(item.what, What::Outside | What::Comment);
+            if self.is_cut {
+                self.cuts(&item)?;
+            }
+            match item.what {
+                What::Entry => self.entry(&item)?,
+                What::Definitions => self.definitions(&item)?,
+                What::Outside => self.outside(&item, before)?,
+                What::Damage => self.damage(&item)?,
+                What::Preamble | What::Comment => {}
+            }
+            before = Some(item.what);
+        }
+        if is_empty {
+            self.no_entries()?;
+        }
+        Ok(())
+    }
+}
