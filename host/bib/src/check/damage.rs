@@ -91,8 +91,9 @@ impl Story<'_> {
         place.unwrap_or(self.place)
     }
 
+    /// Whether the piece goes on with an "@".
     pub fn is_at_sign(&self) -> bool {
-        self.file.get(self.place) == Some(&b'@')
+        self.trace.next_byte() == Some(b'@')
     }
 
     fn message(&self) -> String {

@@ -104,7 +104,11 @@ impl<E, S: FnMut(&Finding, &Lines) -> Result<(), E>> Checker<'_, S> {
         let Some((piece, cause)) = self.encoding.first else {
             return self.about_escapes(hint);
         };
-        let mut message = Reason::NotUtf8.what().to_string();
+        let mut message = if is_not_utf8(cause) {
+            Reason::NotUtf8.what().to_string()
+        } else {
+            "zeros between the characters".to_string()
+        };
         let mut key = None;
         if self.encoding.pieces > 1 {
             let pieces = self.encoding.pieces;

@@ -68,18 +68,22 @@ impl<E, S: FnMut(&Finding, &Lines) -> Result<(), E>> Checker<'_, S> {
             // The next entry was taken for the key, which is said of the key.
             return Ok(());
         }
-        let what = match item.what {
-            What::Comment => "a comment",
-            What::Definitions => "an @string",
-            What::Preamble => "a preamble",
-            _ => "an entry",
+        let (what, hint) = match item.what {
+            What::Comment => ("a comment", COMMENT),
+            What::Definitions => ("an @string", VALUE),
+            What::Preamble => ("a preamble", VALUE),
+            _ => ("an entry", VALUE),
         };
         let message = format!("an \"@\" begins a line inside {what}: salvage would cut there");
-        let hint = "put a blank before it, so that damage elsewhere in the file does not reach it";
         let finding = Finding::lint(Lint::CutInside, place, place + 1, message);
         self.say(finding.with_hint(Some(hint.into())))
     }
 }
+
+/// What to do about an "@" that begins a line inside a comment, or a value.
+const COMMENT: &str =
+    "the comment goes on to its first \"}\": if an entry begins here, close it before";
+const VALUE: &str = "put a blank before it, so that damage elsewhere in the file does not reach it";
 
 /// A field or an entry that is lost in this text.
 fn lost(text: &[u8], place: usize, before: Option<What>) -> Option<Finding> {
