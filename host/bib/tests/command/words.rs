@@ -74,6 +74,29 @@ fn help() {
     assert_eq!(bib(&["check", "file", "-h"], b""), run);
 }
 
+/// The page of the manual and the completions know all that the help knows.
+#[test]
+fn manual_and_completions() {
+    let page = include_str!("../../share/bib.1").replace('\\', "");
+    let bash = include_str!("../../share/bib.bash");
+    let zsh = include_str!("../../share/bib.zsh");
+    let fish = include_str!("../../share/bib.fish");
+    let help = bib(&["--help"], b"").text().to_string();
+    let words = help.lines().filter_map(|line| line.strip_prefix("  "));
+    let words = words.map(|line| line.strip_prefix("bib ").unwrap_or(line));
+    let words = words.filter_map(|line| line.split([' ', ',']).next());
+    assert!(words.clone().count() >= 14);
+    for word in words {
+        let short = format!("-l {}", word.trim_start_matches('-'));
+        let long = if word.starts_with('-') { &short } else { word };
+        for (text, word) in [(&*page, word), (bash, word), (zsh, word), (fish, long)] {
+            assert!(text.contains(word), "{word} is missing in {}", &text[..40]);
+        }
+    }
+    let version = env!("CARGO_PKG_VERSION");
+    assert!(page.contains(&format!("\"bib {version}\"")));
+}
+
 #[test]
 fn version() {
     let version = format!("bib {}\n", env!("CARGO_PKG_VERSION"));
