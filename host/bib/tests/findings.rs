@@ -478,3 +478,24 @@ fn counts_and_stops() {
         Code::Refusal(bib::Reason::TooLong)
     );
 }
+
+/// The table of README.md: what BibTeX takes and this reader refuses, and what to write instead.
+#[test]
+fn valid_bibtex_that_is_refused() {
+    let pairs = [
+        ("@book(k, title = {T})", "@book{k, title = {T}}"),
+        ("@book{k}", "@book{k,}"),
+        ("@preamble{\"a\" # \"b\"}", "@preamble{\"ab\"}"),
+        ("@preamble{{a}}", "@preamble{\"a\"}"),
+        (
+            "@book{k, title = \"The {\"Big\"} Book\"}",
+            "@book{k, title = {The {\"Big\"} Book}}",
+        ),
+        ("@comment some words", "@comment{some words}"),
+    ];
+    for (refused, accepted) in pairs {
+        assert!(!bib::accepts(refused.as_bytes()), "{refused}");
+        assert!(bib::accepts(accepted.as_bytes()), "{accepted}");
+        assert!(hints(refused)[0].starts_with("BibTeX "), "{refused}");
+    }
+}
