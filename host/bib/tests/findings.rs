@@ -124,6 +124,10 @@ fn lints_of_values() {
         "2:11",
         "@book{k, note = {where\nx = y + z}}",
     );
+}
+
+#[test]
+fn lints_of_lists_and_quotes() {
     lint(
         Lint::AndList,
         "@book{k, author = {A and}}",
@@ -362,46 +366,47 @@ fn hints_where_they_belong() {
     }
 }
 
-/// The words and places of the commonest mistakes.
+/// Files, and where and how the commonest mistakes in them are said.
+const ERRORS: [(&str, &str, &str); 10] = [
+    (
+        "@a{k,\n  t = {x}\n  u = {y}\n}",
+        "2:10",
+        "expected a comma, in entry k (line 1)",
+    ),
+    (
+        "@a{k, t = {x\n\n@c{k,}",
+        "1:11",
+        "entry k (line 1) is not closed",
+    ),
+    (
+        "\n@a{k,\n  t = {x\n\n@c{k,}",
+        "3:7",
+        "entry k (line 2) is not closed",
+    ),
+    (
+        "@a{k,\n  t = {x}\n\n@c{k,}",
+        "1:1",
+        "entry k (line 1) is not closed",
+    ),
+    (
+        "@a{k,}\n@string{b = {x}\n",
+        "2:1",
+        "@string (line 2) is not closed",
+    ),
+    ("@comment{ x\n", "1:1", "@comment (line 1) is not closed"),
+    (
+        "@preamble{\"x\n",
+        "1:11",
+        "@preamble (line 1) is not closed",
+    ),
+    ("@a{x\n@b{k,}", "1:1", "entry x (line 1) is not closed"),
+    ("@a", "1:3", "expected an opening brace"),
+    ("@a{k,} @b{l, t = }", "1:18", "expected a value, in entry l"),
+];
+
 #[test]
 fn places_of_errors() {
-    let cases = [
-        (
-            "@a{k,\n  t = {x}\n  u = {y}\n}",
-            "2:10",
-            "expected a comma, in entry k (line 1)",
-        ),
-        (
-            "@a{k, t = {x\n\n@c{k,}",
-            "1:11",
-            "entry k (line 1) is not closed",
-        ),
-        (
-            "\n@a{k,\n  t = {x\n\n@c{k,}",
-            "3:7",
-            "entry k (line 2) is not closed",
-        ),
-        (
-            "@a{k,\n  t = {x}\n\n@c{k,}",
-            "1:1",
-            "entry k (line 1) is not closed",
-        ),
-        (
-            "@a{k,}\n@string{b = {x}\n",
-            "2:1",
-            "@string (line 2) is not closed",
-        ),
-        ("@comment{ x\n", "1:1", "@comment (line 1) is not closed"),
-        (
-            "@preamble{\"x\n",
-            "1:11",
-            "@preamble (line 1) is not closed",
-        ),
-        ("@a{x\n@b{k,}", "1:1", "entry x (line 1) is not closed"),
-        ("@a", "1:3", "expected an opening brace"),
-        ("@a{k,} @b{l, t = }", "1:18", "expected a value, in entry l"),
-    ];
-    for (file, place, message) in cases {
+    for (file, place, message) in ERRORS {
         let found = findings(file.as_bytes());
         assert_eq!(
             (found[0].0.as_str(), found[0].1.message.as_str()),
@@ -497,5 +502,60 @@ fn valid_bibtex_that_is_refused() {
         assert!(!bib::accepts(refused.as_bytes()), "{refused}");
         assert!(bib::accepts(accepted.as_bytes()), "{accepted}");
         assert!(hints(refused)[0].starts_with("BibTeX "), "{refused}");
+    }
+}
+
+/// No bytes make it fail, and every place is one of the file.
+#[test]
+fn any_bytes() {
+    const PARTS: [&[u8]; 24] = [
+        b"@a{k,",
+        b"@string{",
+        b"@comment{",
+        b"@preamble{\"",
+        b"}",
+        b"\n",
+        b"\r",
+        b"\"",
+        b"{",
+        b"=",
+        b",",
+        b"%",
+        b"\\",
+        b" and ",
+        b"author = {",
+        b"a = 1",
+        b"\xff",
+        b"\xe2\x82",
+        b"\0",
+        b"\x1b$B",
+        "\u{feff}".as_bytes(),
+        "“".as_bytes(),
+        b"1.2",
+        b"@",
+    ];
+    let mut state = 5u64;
+    let mut draw = |below: usize| {
+        state = state
+            .wrapping_mul(6364136223846793005)
+            .wrapping_add(1442695040888963407);
+        (state >> 33) as usize % below
+    };
+    for _ in 0..100_000 {
+        let length = draw(16);
+        let file: Vec<u8> = (0..length)
+            .flat_map(|_| PARTS[draw(PARTS.len())])
+            .copied()
+            .collect();
+        for (_, finding) in findings(&file) {
+            assert!(
+                finding.start <= finding.end && finding.end <= file.len(),
+                "{file:?}"
+            );
+            assert!(
+                finding.mark <= file.len() && !finding.message.is_empty(),
+                "{file:?}"
+            );
+        }
     }
 }

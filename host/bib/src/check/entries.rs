@@ -151,30 +151,14 @@ impl<E, S: FnMut(&Finding, &super::Lines) -> Result<(), E>> Checker<'_, S> {
     fn key(&mut self, index: usize, row: Row) -> Result<Option<Finding>, Refusal> {
         if row.start == row.end {
             let message = "this entry has no key".to_string();
-            return Ok(Some(Finding::lint(
-                Lint::EmptyKey,
-                row.start,
-                row.end,
-                message,
-            )));
+            return Ok(Some(Finding::of_row(Lint::EmptyKey, row, message)));
         }
         if is_odd(&self.file[row.span()]) {
             return Ok(Some(self.odd_key(row)));
         }
-        let Some(first) = self.keys.first_of(index) else {
-            return Ok(None);
-        };
-        let message = format!(
-            "the key {} is that of another entry, at {}",
-            self.shown(row),
-            self.place_of(first)?
-        );
-        Ok(Some(Finding::lint(
-            Lint::DuplicateKey,
-            row.start,
-            row.end,
-            message,
-        )))
+        let first = self.keys.first_of(index);
+        let words = ("the key ", " is that of another entry");
+        self.repeated(Lint::DuplicateKey, row, first, words)
     }
 
     fn odd_key(&self, row: Row) -> Finding {
@@ -185,40 +169,36 @@ impl<E, S: FnMut(&Finding, &super::Lines) -> Result<(), E>> Checker<'_, S> {
             ("a field", "put a key and a comma before it")
         };
         let message = format!("the key {} looks like {what}", self.shown(row));
-        let finding = Finding::lint(Lint::OddKey, row.start, row.end, message);
-        finding.with_hint(Some(hint.into()))
+        Finding::of_row(Lint::OddKey, row, message).with_hint(Some(hint.into()))
     }
 
     fn field(&mut self, row: Row, first: Option<usize>) -> Result<Option<Finding>, Refusal> {
-        let Some(first) = first else {
-            return Ok(None);
-        };
-        let message = format!(
-            "the entry has the field `{}` already, at {}",
-            self.shown(row),
-            self.place_of(first)?
-        );
-        Ok(Some(Finding::lint(
-            Lint::DuplicateField,
-            row.start,
-            row.end,
-            message,
-        )))
+        let words = ("the entry has the field `", "` already");
+        self.repeated(Lint::DuplicateField, row, first, words)
     }
 
     fn definition(&mut self, index: usize, row: Row) -> Result<Option<Finding>, Refusal> {
-        let Some(first) = self.names.first_of(index) else {
+        let first = self.names.first_of(index);
+        let hint = "the last definition counts, for uses before it too";
+        let words = ("`", "` is defined already");
+        let found = self.repeated(Lint::DuplicateDefinition, row, first, words)?;
+        Ok(found.map(|finding| finding.with_hint(Some(hint.into()))))
+    }
+
+    /// A row whose text an earlier one has, with the words before and behind that text.
+    fn repeated(
+        &mut self,
+        lint: Lint,
+        row: Row,
+        first: Option<usize>,
+        (before, behind): (&str, &str),
+    ) -> Result<Option<Finding>, Refusal> {
+        let Some(first) = first else {
             return Ok(None);
         };
-        let message = format!(
-            "`{}` is defined already, at {}",
-            self.shown(row),
-            self.place_of(first)?
-        );
-        let finding = Finding::lint(Lint::DuplicateDefinition, row.start, row.end, message);
-        Ok(Some(finding.with_hint(Some(
-            "the last definition counts, for uses before it too".into(),
-        ))))
+        let place = self.place_of(first)?;
+        let message = format!("{before}{}{behind}, at {place}", self.shown(row));
+        Ok(Some(Finding::of_row(lint, row, message)))
     }
 
     fn literal(&self, index: usize, row: Row, field: Option<Row>) -> Option<Finding> {
@@ -254,7 +234,7 @@ impl<E, S: FnMut(&Finding, &super::Lines) -> Result<(), E>> Checker<'_, S> {
             "brace"
         };
         let hint = format!("the {what} that opens the value may be closed too late");
-        let finding = Finding::lint(Lint::LateClose, row.start, row.end, message);
+        let finding = Finding::of_row(Lint::LateClose, row, message);
         Finding { mark, ..finding }.with_hint(Some(hint))
     }
 
@@ -263,8 +243,7 @@ impl<E, S: FnMut(&Finding, &super::Lines) -> Result<(), E>> Checker<'_, S> {
         is_typographic(name).then(|| {
             let message = format!("{} is taken for the name of a definition", self.shown(row));
             let hint = "typographic quotation marks delimit nothing: write \"..\" or {..}";
-            Finding::lint(Lint::TypographicQuotes, row.start, row.end, message)
-                .with_hint(Some(hint.into()))
+            Finding::of_row(Lint::TypographicQuotes, row, message).with_hint(Some(hint.into()))
         })
     }
 }

@@ -1,6 +1,6 @@
 //! Findings: what is said of a file.
 
-use crate::Reason;
+use crate::{Reason, Row};
 
 /// How grave a finding is.
 #[derive(Debug, Clone, Copy, PartialEq, Eq, PartialOrd, Ord, Hash)]
@@ -196,6 +196,11 @@ impl Finding {
             hint: None,
             key: None,
         }
+    }
+
+    /// A warning about a row.
+    pub(crate) fn of_row(lint: Lint, row: Row, message: String) -> Self {
+        Self::lint(lint, row.start, row.end, message)
     }
 
     pub(crate) fn with_hint(self, hint: Option<String>) -> Self {

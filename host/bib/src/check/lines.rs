@@ -1,6 +1,6 @@
 //! The lines of a file, and the places of its bytes in them.
 
-use std::cell::RefCell;
+use std::cell::{Cell, RefCell};
 use std::collections::TryReserveError;
 
 use crate::memory::push;
@@ -12,6 +12,8 @@ const BYTE_ORDER_MARK: &[u8] = b"\xef\xbb\xbf";
 pub struct Lines<'a> {
     file: &'a [u8],
     begins: Vec<u32>,
+    /// The number of the line that was asked for last: the next is mostly near.
+    near: Cell<usize>,
     /// The long line that was asked for last.
     long: RefCell<Marks>,
 }
@@ -50,6 +52,7 @@ impl<'a> Lines<'a> {
         Ok(Self {
             file,
             begins,
+            near: Cell::new(1),
             long: RefCell::default(),
         })
     }
@@ -70,10 +73,22 @@ impl<'a> Lines<'a> {
 
     /// The number of the line that has this byte of the file.
     pub fn number(&self, place: usize) -> usize {
-        let after = self
-            .begins
-            .partition_point(|begin| *begin as usize <= place);
-        after.max(1)
+        let near = self.near.get();
+        let found = (near..near + 2).find(|number| self.is_in(*number, place));
+        let search = || {
+            self.begins
+                .partition_point(|begin| *begin as usize <= place)
+        };
+        let number = found.unwrap_or_else(search).max(1);
+        self.near.set(number);
+        number
+    }
+
+    /// Whether the line of this number has this byte of the file.
+    fn is_in(&self, number: usize, place: usize) -> bool {
+        let begin = |number: usize| self.begins.get(number).map(|begin| *begin as usize);
+        let is_after = begin(number - 1).is_some_and(|begin| begin <= place);
+        is_after && begin(number).is_none_or(|next| place < next)
     }
 
     /// The line and the column of a byte. Columns are characters, the first being 1; a byte that is
@@ -182,10 +197,8 @@ mod tests {
     fn columns_of_long_lines() {
         let text = "漢é\u{301}x".repeat(500);
         let lines = Lines::of(text.as_bytes()).unwrap();
-        let mut column = 1;
-        for (place, _) in text.char_indices() {
+        for (column, (place, _)) in (1..).zip(text.char_indices()) {
             assert_eq!(lines.line_and_column(place), (1, column));
-            column += 1;
         }
         let bytes = [0xffu8; 3000];
         let lines = Lines::of(&bytes).unwrap();

@@ -60,11 +60,10 @@ pub fn parse(mut words: impl Iterator<Item = OsString>) -> Result<Words, Trouble
         _ => return Err(unknown_work(&first)),
     };
     let mut rest = Rest::of(words);
-    while let Some(option) = rest.next_option() {
-        match option.as_str() {
-            "--help" | "-h" => return Ok(Words::Help),
-            _ => return Err(unknown(&option, &["--help"])),
-        }
+    match rest.next_option().as_deref() {
+        None => {}
+        Some("--help" | "-h") => return Ok(Words::Help),
+        Some(option) => return Err(unknown(option, &["--help"])),
     }
     match <[Source; 1]>::try_from(rest.sources()) {
         Ok([source]) => Ok(Words::One(work, source)),

@@ -73,7 +73,7 @@ fn most_names() {
     let count = entries.matches(",}").count();
     let entries = Scratch::new(
         "keys.bib",
-        entries[..=entries.rfind('}').unwrap()].as_bytes(),
+        &entries.as_bytes()[..=entries.rfind('}').unwrap()],
     );
     let fields = Scratch::new("names.bib", fields.as_bytes());
     within_memory(&format!("$BIB check {}", entries.name()))
