@@ -37,8 +37,9 @@ impl Excerpt {
 /// The first characters of a text, at most so many, and whether there are more behind.
 fn first(text: &[u8], most: usize) -> (Vec<char>, bool) {
     // A character has at most four bytes; the last bytes of the head may be inside one.
-    let head = &text[..text.len().min(4 * most + 4)];
-    let mut all = characters(head);
+    let head = |most: usize| &text[..text.len().min(most)];
+    let wide = if head(most).is_ascii() { 1 } else { 4 };
+    let mut all = characters(head(wide * (most + 1)));
     let few = all.by_ref().take(most).collect();
     (few, all.next().is_some())
 }
@@ -46,7 +47,9 @@ fn first(text: &[u8], most: usize) -> (Vec<char>, bool) {
 /// The last characters of a text, at most so many, and whether there are more before.
 fn last(text: &[u8], most: usize) -> (Vec<char>, bool) {
     // A character has at most four bytes; the first bytes of the tail may be inside one.
-    let tail = &text[text.len().saturating_sub(4 * most + 3)..];
+    let tail = |most: usize| &text[text.len().saturating_sub(most)..];
+    let wide = if tail(most).is_ascii() { 1 } else { 4 };
+    let tail = tail(wide * (most + 1));
     let all: Vec<char> = characters(tail).collect();
     let kept = all.len().min(most);
     let more = tail.len() < text.len() || kept < all.len();
