@@ -212,7 +212,7 @@ fn hints(file: &str) -> Vec<String> {
 }
 
 /// A hint, a file that it is for, and one like it where it must not appear.
-const HINTS: [(&str, &str, &str); 30] = [
+const HINTS: [(&str, &str, &str); 50] = [
     (
         "the entry has no key: write `@article{KEY,` before its first field",
         "@article{\n  author = {A},\n}",
@@ -350,6 +350,102 @@ const HINTS: [(&str, &str, &str); 30] = [
         "the name of a field has no blanks in it",
         "@book{k, date added = {T}}",
         "@book{k, date {T}}",
+    ),
+    (
+        "its closing `\"}` is missing",
+        "@preamble{\n@book{k,}",
+        "@string{a = 1\n@book{k,}",
+    ),
+    (
+        "the backslash at 2:20 keeps the `\"` behind it from closing the value: write `/` for it, or a blank behind it",
+        "@book{k,\n  file = \"C:\\papers\\\",\n  year = 1997\n}",
+        "@book{k,\n  file = \"C:\\papers\\\\,\n  year = 1997\n}",
+    ),
+    (
+        "a key has no control characters in it",
+        "@book{a\u{1b}b, title = {T}}",
+        "@book{a\tb, title = {T}}",
+    ),
+    (
+        "entry k (line 1) is not closed before this \"@\"",
+        "@book{k, title = {T},\n  @book{l, title = {T}}",
+        "@book{k, title = {T},\n  !book{l, title = {T}}",
+    ),
+    (
+        "there is a comma too many",
+        "@book{k, title = {T},, year = 1997}",
+        "@book{k, title = {T}, # year = 1997}",
+    ),
+    ("the field has no name", "@book{k, = {T}}", "@book{k, \"T\"}"),
+    (
+        "an equals sign is missing behind `title`",
+        "@book{k, title {T}}",
+        "@book{k, title, year = 1997}",
+    ),
+    (
+        "the field `title` has no value",
+        "@book{k, title, year = 1997}",
+        "@book{k, title {T}}",
+    ),
+    (
+        "a value stands in braces or quotation marks, or is one number or one name",
+        "@book{k, title = 'T'}",
+        "@book{k, title = }",
+    ),
+    (
+        "the comment goes on to its first \"}\": if an entry begins here, close it before",
+        "@comment{\n@book{k,}\n@book{l,}",
+        "@book{k, t = {\n@book}}",
+    ),
+    (
+        "put a blank before it, so that damage elsewhere in the file does not reach it",
+        "@book{k, t = {\n@book}}",
+        "@comment{\n@book{k,}\n@book{l,}",
+    ),
+    (
+        "the entry before it may have been closed too early",
+        "@book{k, a = 1}, b = 2}",
+        "b = 2\n@book{k, a = 1}",
+    ),
+    (
+        "an @comment ends at its first \"}\"",
+        "@comment{ a = {1},\n b = {2} }\n@book{k,}",
+        "@book{k, a = 1}, b = 2}",
+    ),
+    (
+        "the last definition counts, for uses before it too",
+        "@string{a = 1}\n@string{a = 2}",
+        "@book{k, a = 1, a = 2}",
+    ),
+    (
+        "the brace that opens the value may be closed too late",
+        "@book{k,\n  a = {A,\n  b = {B}}\n}",
+        "@book{k,\n  a = \"A,\n  b = {B}\"\n}",
+    ),
+    (
+        "the quotation mark that opens the value may be closed too late",
+        "@book{k,\n  a = \"A,\n  b = {B}\"\n}",
+        "@book{k,\n  a = {A,\n  b = {B}}\n}",
+    ),
+    (
+        "the entry before it was begun and not closed",
+        "@book{\n@book{k, a = 1}",
+        "@book{year=1997, a = 1}",
+    ),
+    (
+        "put a key and a comma before it",
+        "@book{year=1997, a = 1}",
+        "@book{\n@book{k, a = 1}",
+    ),
+    (
+        "typographic quotation marks delimit nothing: write \"..\" or {..}",
+        "@book{k, title = “T”}",
+        "@book{k, title = {“T”}, title = {T}}",
+    ),
+    (
+        "perhaps it is ISO-2022-JP: try `iconv -f ISO-2022-JP -t UTF-8`",
+        "@book{k, a = {\u{1b}$B4A;z\u{1b}(B}}",
+        "@book{k, a = {\u{1b}[2J}, a = 1}",
     ),
 ];
 

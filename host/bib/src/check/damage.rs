@@ -29,18 +29,17 @@ impl<E, S: FnMut(&Finding, &Lines) -> Result<(), E>> Checker<'_, S> {
         };
         // Words that were found on another way than the reader's would mislead.
         let is_known = trace.place() == cause.start;
+        let found = is_known.then(|| (story.mark(), story.message(), story.hint()));
+        let plain = || (cause.start, story.reason.what().to_string(), None);
+        let (mark, message, hint) = found.unwrap_or_else(plain);
         let finding = Finding {
             code: Code::Refusal(story.reason),
             start: cause.start,
             end: cause.end,
-            mark: if is_known { story.mark() } else { cause.start },
-            message: if is_known {
-                story.message()
-            } else {
-                story.reason.what().into()
-            },
-            hint: if is_known { story.hint() } else { None },
-            key: key_of(&trace),
+            mark,
+            message,
+            hint,
+            key: key_of(&trace).filter(|_| is_known),
         };
         let format = self.format.take().map(|format| format.hint());
         let hint = format.or(finding.hint.clone());

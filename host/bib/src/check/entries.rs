@@ -5,7 +5,7 @@ use std::ops::Range;
 
 use super::finding::{Finding, Lint};
 use super::items::Item;
-use super::text::{field_in_value, is_typographic, quoted};
+use super::text::{field_in_value, is_typographic, quoted, TYPOGRAPHIC};
 use super::{Checker, Stop};
 use crate::memory::push;
 use crate::{Kind, Refusal, Row, Rows};
@@ -242,8 +242,8 @@ impl<E, S: FnMut(&Finding, &super::Lines) -> Result<(), E>> Checker<'_, S> {
         let name = &self.file[row.span()];
         is_typographic(name).then(|| {
             let message = format!("{} is taken for the name of a definition", self.shown(row));
-            let hint = "typographic quotation marks delimit nothing: write \"..\" or {..}";
-            Finding::of_row(Lint::TypographicQuotes, row, message).with_hint(Some(hint.into()))
+            Finding::of_row(Lint::TypographicQuotes, row, message)
+                .with_hint(Some(TYPOGRAPHIC.into()))
         })
     }
 }

@@ -4,7 +4,7 @@
 use super::cursor::Cursor;
 use super::damage::{subject, Story};
 use super::entries::is_odd;
-use super::text::{is_typographic, quoted, without_blanks};
+use super::text::{is_typographic, quoted, without_blanks, TYPOGRAPHIC};
 use super::trace::{Form, Part, Stage};
 use crate::Reason;
 
@@ -213,7 +213,7 @@ impl Story<'_> {
         let part = self.trace.part.as_ref()?;
         let text = self.trace.text(&part.span);
         if part.form == Form::Name && is_typographic(text) {
-            return some("typographic quotation marks delimit nothing: write \"..\" or {..}");
+            return some(TYPOGRAPHIC);
         }
         if self.is_at_sign() {
             return self.not_closed_before();

@@ -127,6 +127,10 @@ pub(crate) fn entry_outside(text: &[u8]) -> Option<Range<usize>> {
     None
 }
 
+/// What to do about them.
+pub(crate) const TYPOGRAPHIC: &str =
+    "typographic quotation marks delimit nothing: write \"..\" or {..}";
+
 /// Whether a name begins with a typographic quotation mark.
 pub(crate) fn is_typographic(name: &[u8]) -> bool {
     const MARKS: [char; 11] = ['“', '”', '„', '‟', '‘', '’', '‚', '«', '»', '‹', '›'];

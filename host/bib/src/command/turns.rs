@@ -91,7 +91,7 @@ impl<S: Sink> Turns<S> {
             bytes: Vec::new(),
         };
         let outcome = work(&mut page)?;
-        let bytes = page.bytes;
+        let bytes = std::mem::take(&mut page.bytes);
         let mut state = self.lock()?;
         state.done.insert(index, (bytes, outcome));
         let done = state.pass_on();
@@ -155,6 +155,18 @@ pub struct Page<'a, S: Sink> {
 /// So many bytes are kept of a file's output; then it waits for its turn.
 const MOST_KEPT: usize = 1 << 16;
 
+/// A thread that ends in the middle of a file must not leave the others waiting.
+impl<S: Sink> Drop for Page<'_, S> {
+    fn drop(&mut self) {
+        if thread::panicking() {
+            let state = self.turns.state.lock();
+            let failure = io::Error::other("the command failed");
+            state.unwrap_or_else(PoisonError::into_inner).failed = Some(failure);
+            self.turns.turned.notify_all();
+        }
+    }
+}
+
 impl<S: Sink> Page<'_, S> {
     pub fn write(&mut self, text: &str) -> Result<(), Failed> {
         self.bytes.extend_from_slice(text.as_bytes());
@@ -172,5 +184,57 @@ impl<S: Sink> Page<'_, S> {
     /// Waits until all files before this one are done: for work that is not to be done at once.
     pub fn wait(&self) -> Result<(), Failed> {
         self.turns.turn(self.index).map(drop)
+    }
+}
+
+#[cfg(test)]
+mod tests {
+    use super::*;
+
+    /// Keeps all that it takes.
+    #[derive(Default)]
+    struct Kept(Vec<u8>);
+
+    impl Sink for Kept {
+        type Outcome = u8;
+
+        fn part(&mut self, _: usize, part: &[u8]) -> io::Result<()> {
+            self.0.extend_from_slice(part);
+            Ok(())
+        }
+
+        fn end(&mut self, _: usize, outcome: u8) -> io::Result<()> {
+            self.0.push(outcome);
+            Ok(())
+        }
+    }
+
+    #[test]
+    fn order() {
+        let work = |page: &mut Page<Kept>| {
+            // The first takes the longest, and says the most.
+            let length = if page.index == 0 { 3 * MOST_KEPT } else { 1 };
+            for _ in 0..length {
+                page.write("x")?;
+            }
+            Ok(b'0' + page.index as u8)
+        };
+        let kept = Turns::run(Kept::default(), 5, work).ok().unwrap();
+        assert_eq!(
+            kept.0,
+            ["x".repeat(3 * MOST_KEPT).as_bytes(), b"0x1x2x3x4"].concat()
+        );
+    }
+
+    /// Nobody waits for a thread that is gone.
+    #[test]
+    fn failure() {
+        let work = |page: &mut Page<Kept>| {
+            assert_ne!(page.index, 0, "this one fails");
+            page.wait()?;
+            Ok(0)
+        };
+        let run = || Turns::run(Kept::default(), 5, work).is_err();
+        assert!(std::panic::catch_unwind(run).is_err());
     }
 }
