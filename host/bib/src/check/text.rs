@@ -105,22 +105,24 @@ fn first_field(text: &[u8], is_begin: impl Fn(&[u8]) -> bool) -> Option<Range<us
     None
 }
 
-/// The first `word{key,` of a text that begins a line: an entry without its "@".
+/// The first `word{key,` of a text that begins a line: an entry without its "@". With a blank before
+/// the brace, the comma must end the line, since prose may have such a brace.
 pub(crate) fn entry_outside(text: &[u8]) -> Option<Range<usize>> {
     let mut from = 0;
     while let Some(found) = text[from..].iter().position(|byte| *byte == b'{') {
         let brace = from + found;
-        let before = &text[..brace];
-        let start = brace - word_before(before);
-        let is_word = text[start].is_ascii_alphabetic() && start < brace;
-        let is_begin = matches!(
-            without_blanks(&text[..start]).last(),
-            None | Some(b'\n' | b'\r')
-        );
+        let before = without_blanks(&text[..brace]);
+        let start = before.len() - word_before(before);
+        let is_word = start < before.len() && text[start].is_ascii_alphabetic();
+        let line = without_blanks(&text[..start]);
+        let is_begin = matches!(line.last(), None | Some(b'\n' | b'\r'));
         let mut cursor = Cursor::new(text, brace + 1..text.len());
         let key = cursor.key();
         if is_word && is_begin && !key.is_empty() && cursor.eat(b',') {
-            return Some(start..cursor.place);
+            let is_end = matches!(cursor.peek(), None | Some(b'\n' | b'\r'));
+            if before.len() == brace || is_end {
+                return Some(start..cursor.place);
+            }
         }
         from = brace + 1;
     }
@@ -185,7 +187,9 @@ mod tests {
             found(entry_outside, "\n article{k84,\n"),
             Some("article{k84,")
         );
-        assert_eq!(found(entry_outside, "written by {Knuth, D.}"), None);
+        assert_eq!(found(entry_outside, "book {k84,\n"), Some("book {k84,"));
+        assert_eq!(found(entry_outside, "by {Knuth, D.}"), None);
+        assert_eq!(found(entry_outside, "written by {Knuth,\n"), None);
         assert_eq!(found(entry_outside, "\\textbf{bold,"), None);
     }
 }
