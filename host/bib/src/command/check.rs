@@ -34,7 +34,7 @@ pub fn check(asked: &Asked, sources: Vec<Source>) -> Result<Status, Trouble> {
     for trouble in &troubles {
         say(trouble);
     }
-    let session = Session {
+    let results = Results {
         checking: &checking,
         out: BufWriter::new(io::stdout()),
         progress: Progress::new(),
@@ -44,13 +44,13 @@ pub fn check(asked: &Asked, sources: Vec<Source>) -> Result<Status, Trouble> {
         },
         keys: HashMap::new(),
     };
-    let mut session = Turns::run(session, sources.len(), |page| checking.file(page))?;
-    session.progress.clear();
-    if session.tally.read > 0 && !asked.json && !asked.quiet {
-        writeln!(session.out, "{}", session.tally.summary())?;
+    let mut results = Turns::run(results, sources.len(), |page| checking.file(page))?;
+    results.progress.clear();
+    if results.tally.read > 0 && !asked.json && !asked.quiet {
+        writeln!(results.out, "{}", results.tally.summary())?;
     }
-    session.out.flush()?;
-    Ok(session.tally.status(&asked.levels))
+    results.out.flush()?;
+    Ok(results.tally.status(&asked.levels))
 }
 
 /// What all files are checked by.
@@ -80,7 +80,7 @@ struct Key {
 }
 
 impl Checking<'_> {
-    fn file(&self, page: &mut Page<Session>) -> Result<Outcome, Failed> {
+    fn file(&self, page: &mut Page<Results>) -> Result<Outcome, Failed> {
         let source = &self.sources[page.index];
         let file = match source.file() {
             Ok(file) => file,
@@ -105,21 +105,15 @@ impl Checking<'_> {
     fn findings(
         &self,
         file: &[u8],
-        page: &mut Page<Session>,
+        page: &mut Page<Results>,
         outcome: &mut Outcome,
     ) -> Result<(), Stop<Failed>> {
         let source = &self.sources[page.index];
-        let Outcome {
-            errors, warnings, ..
-        } = outcome;
         let print = |finding: &Finding, lines: &Lines| {
             let Some(level) = self.asked.levels.of(finding) else {
                 return Ok(());
             };
-            match level {
-                Level::Error => *errors += 1,
-                Level::Warning => *warnings += 1,
-            }
+            outcome.count(level);
             if self.asked.quiet {
                 return Ok(());
             }
@@ -141,11 +135,14 @@ impl Checking<'_> {
             return Ok(keys);
         }
         let lines = Lines::of(file)?;
-        for (text, start) in check::keys(file, &reading.rows) {
+        for (key, start) in check::keys(file, &reading.rows) {
             let (line, column) = lines.line_and_column(start);
+            let mut text = Vec::new();
+            text.try_reserve_exact(key.len())?;
+            text.extend_from_slice(key);
             keys.try_reserve(1)?;
             keys.push(Key {
-                text: text.to_vec(),
+                text,
                 start,
                 line,
                 column,
@@ -156,6 +153,13 @@ impl Checking<'_> {
 }
 
 impl Outcome {
+    fn count(&mut self, level: Level) {
+        match level {
+            Level::Error => self.errors += 1,
+            Level::Warning => self.warnings += 1,
+        }
+    }
+
     fn not_read(what: String) -> Self {
         Self {
             trouble: Some(what),
@@ -165,7 +169,7 @@ impl Outcome {
 }
 
 /// What is printed and counted, in the order of the files.
-struct Session<'a> {
+struct Results<'a> {
     checking: &'a Checking<'a>,
     out: BufWriter<Stdout>,
     progress: Progress,
@@ -174,7 +178,7 @@ struct Session<'a> {
     keys: HashMap<Vec<u8>, (usize, usize, usize)>,
 }
 
-impl Sink for Session<'_> {
+impl Sink for Results<'_> {
     type Outcome = Outcome;
 
     fn part(&mut self, index: usize, part: &[u8]) -> io::Result<()> {
@@ -207,42 +211,53 @@ impl Sink for Session<'_> {
     }
 }
 
-impl Session<'_> {
+impl Results<'_> {
     /// A key that another file has too is a finding.
     fn key(&mut self, index: usize, key: Key, outcome: &mut Outcome) -> io::Result<()> {
+        let Checking {
+            asked,
+            report,
+            sources,
+        } = self.checking;
+        if self.keys.try_reserve(1).is_err() {
+            let what = sources[index].beyond_memory("compare the keys of");
+            outcome.trouble = Some(what);
+            return Ok(());
+        }
         let place = (index, key.line, key.column);
-        let end = key.start + key.text.len();
-        let text = String::from_utf8_lossy(&key.text).into_owned();
-        let first = *self.keys.entry(key.text).or_insert(place);
-        let asked = self.checking.asked;
+        let first = *self.keys.entry(key.text.clone()).or_insert(place);
         let level = asked.levels.of_lint(Lint::KeyInTwoFiles);
         let Some(level) = level.filter(|_| first.0 != index) else {
             return Ok(());
         };
-        match level {
-            Level::Error => outcome.errors += 1,
-            Level::Warning => outcome.warnings += 1,
-        }
-        let other = &self.checking.sources[first.0];
-        let finding = Finding {
-            code: Code::Lint(Lint::KeyInTwoFiles),
-            start: key.start,
-            end,
-            mark: key.start,
-            message: format!("the key {text} is in {other}:{}:{} too", first.1, first.2),
-            hint: None,
-            key: Some(text),
-        };
-        let spot = Spot {
-            source: &self.checking.sources[index],
-            line: key.line,
-            column: key.column,
-        };
+        outcome.count(level);
         if asked.quiet {
             return Ok(());
         }
-        let text = self.checking.report.bare(&spot, &finding, level);
+        let other = format!("{}:{}:{}", sources[first.0], first.1, first.2);
+        let spot = Spot {
+            source: &sources[index],
+            line: key.line,
+            column: key.column,
+        };
+        let text = report.bare(&spot, &key.finding(&other), level);
         self.out.write_all(text.as_bytes())
+    }
+}
+
+impl Key {
+    /// That the key is at another place too.
+    fn finding(&self, other: &str) -> Finding {
+        let text = String::from_utf8_lossy(&self.text).into_owned();
+        Finding {
+            code: Code::Lint(Lint::KeyInTwoFiles),
+            start: self.start,
+            end: self.start + self.text.len(),
+            mark: self.start,
+            message: format!("the key {text} is in {other} too"),
+            hint: None,
+            key: Some(text),
+        }
     }
 }
 
