@@ -27,6 +27,12 @@
 extern "C" {
 #endif
 
+/* The version of this header and of its library, as major, minor and patch. */
+#define BIB_VERSION "0.1.0"
+#define BIB_VERSION_MAJOR 0
+#define BIB_VERSION_MINOR 1
+#define BIB_VERSION_PATCH 0
+
 /* The most bytes that a file may have. */
 #define BIB_MOST_BYTES 16777215
 

@@ -1,195 +1,224 @@
-//! `bib check`: for people. What is wrong, with its line and a mark under the place.
+//! What is wrong in a file, in words for its author.
+//!
+//! The proved reader alone judges what is read. A file that strict reading accepts has no errors;
+//! of another one salvage tells the damaged pieces, which are the errors. Warnings are about what
+//! is read, but surely not meant.
+//!
+//! ```
+//! let mut seen = Vec::new();
+//! let file = b"@book{k, year = 1996, year = 1997}";
+//! let counts = bib::check::check(file, |finding, lines| {
+//!     seen.push((lines.place(finding.mark), finding.message.clone()));
+//!     Ok::<(), ()>(())
+//! });
+//! assert_eq!(counts.unwrap().entries, 1);
+//! let message = "the entry has the field `year` already, at 1:10".to_string();
+//! assert_eq!(seen, [("1:23".to_string(), message)]);
+//! ```
 
-use std::io::{self, Write};
+mod cursor;
+mod damage;
+mod encoding;
+mod entries;
+mod finding;
+mod hints;
+mod items;
+mod lines;
+mod outside;
+mod text;
+mod trace;
 
-use bib::{Kind, Reason, Row, Rows};
+pub use finding::{About, Code, Finding, Level, Lint, LINTS};
+pub use items::{Item, Items, What};
+pub use lines::{Line, Lines};
 
-use crate::excerpt::Excerpt;
-use crate::lines::Lines;
-use crate::progress::{self, Progress};
-use crate::source::Source;
-use crate::style::Style;
-use crate::{say, Status, Trouble};
+use std::cell::OnceCell;
+use std::collections::TryReserveError;
 
-/// What was found in all files so far.
-#[derive(Default)]
-struct Tally {
-    entries: usize,
-    damaged: usize,
-    refused: usize,
-    read: usize,
-    unread: usize,
+use crate::{Kind, Reason, Refusal, Rows};
+use encoding::{Encoding, Format};
+use entries::Repeats;
+use text::field_in_value;
+
+/// What a file has.
+#[derive(Debug, Clone, Copy, PartialEq, Eq, Default)]
+pub struct Counts {
+    /// Entries that were read.
+    pub entries: usize,
+    /// Pieces that are damaged.
+    pub damaged: usize,
 }
 
-/// A damaged piece, and why it is.
-struct Finding {
-    piece: Row,
-    cause: Row,
+/// Why a file was not checked to its end.
+#[derive(Debug, Clone, PartialEq, Eq)]
+pub enum Stop<E> {
+    /// Memory is short: refusal 16.
+    Refused(Refusal),
+    /// The caller's function answered this.
+    Caller(E),
 }
 
-/// What is printed of one file.
-struct Report<'a, W> {
-    source: &'a Source,
-    style: &'a Style,
-    progress: &'a mut Progress,
-    out: &'a mut W,
+impl<E> From<Refusal> for Stop<E> {
+    fn from(refusal: Refusal) -> Self {
+        Self::Refused(refusal)
+    }
 }
 
-pub fn check(sources: &[Source], out: &mut impl Write) -> Result<Status, Trouble> {
-    let style = Style::of(progress::is_terminal(&io::stdout()));
-    let mut progress = Progress::new();
-    let mut tally = Tally::default();
-    for (n, source) in sources.iter().enumerate() {
-        progress.show(|| format!("checking {} of {}: {source}", n + 1, sources.len()));
-        match source.file() {
-            Ok(file) => {
-                let mut report = Report {
-                    source,
-                    style: &style,
-                    progress: &mut progress,
-                    out,
-                };
-                report.file(&file, &mut tally)?;
+impl<E> From<TryReserveError> for Stop<E> {
+    fn from(error: TryReserveError) -> Self {
+        Self::Refused(error.into())
+    }
+}
+
+/// Hands over what is wrong in a file, piece by piece and entry by entry in file order, with the
+/// file's lines.
+pub fn check<E>(
+    file: &[u8],
+    say: impl FnMut(&Finding, &Lines) -> Result<(), E>,
+) -> Result<Counts, Stop<E>> {
+    check_reading(file, &Reading::of(file), say)
+}
+
+/// The same, where the file has been read.
+pub fn check_reading<E>(
+    file: &[u8],
+    reading: &Result<Reading, Refusal>,
+    say: impl FnMut(&Finding, &Lines) -> Result<(), E>,
+) -> Result<Counts, Stop<E>> {
+    let Reading { rows, is_cut } = match reading {
+        Ok(reading) => reading,
+        Err(refusal) if refusal.reason == Reason::TooLong => {
+            return too_long(say, *refusal).map_err(Stop::Caller)
+        }
+        Err(refusal) => return Err(Stop::Refused(*refusal)),
+    };
+    let mut checker = Checker {
+        file,
+        rows,
+        is_cut: *is_cut,
+        keys: Repeats::in_file(file, rows, Kind::Key)?,
+        names: Repeats::in_file(file, rows, Kind::DefinitionName)?,
+        encoding: Encoding::of(file, rows),
+        format: Format::of(file),
+        lines: OnceCell::new(),
+        has_said: false,
+        say,
+    };
+    checker.whole()?;
+    Ok(checker.counts())
+}
+
+/// The keys of the entries that were read, each with its place; not empty ones.
+pub fn keys<'a>(file: &'a [u8], rows: &'a Rows) -> impl Iterator<Item = (&'a [u8], usize)> + 'a {
+    let keys = rows
+        .iter()
+        .filter(|row| row.kind == Kind::Key && row.start < row.end);
+    keys.map(|row| (&file[row.span()], row.start))
+}
+
+/// A reading of a file: strict reading's rows, or those of salvage where that refuses.
+pub struct Reading {
+    pub rows: Rows,
+    /// Strict reading accepts the file, but salvage would cut it inside an entry.
+    pub is_cut: bool,
+}
+
+impl Reading {
+    /// Where salvage shows no damage, its rows are strict reading's (`undamaged` and `strictly` of
+    /// crates/salvage/specs/Demand3.antt), so that such a file is read once.
+    pub fn of(file: &[u8]) -> Result<Self, Refusal> {
+        let rows = crate::salvage(file)?;
+        let is_damaged = rows.iter().any(|row| row.kind == Kind::Damage);
+        let is_cut = is_damaged && crate::accepts(file);
+        if !is_cut {
+            return Ok(Self { rows, is_cut });
+        }
+        drop(rows);
+        let rows = crate::read(file)?;
+        Ok(Self { rows, is_cut })
+    }
+}
+
+/// A file that is too long is not read; it has no line to show.
+fn too_long<E>(
+    mut say: impl FnMut(&Finding, &Lines) -> Result<(), E>,
+    refusal: Refusal,
+) -> Result<Counts, E> {
+    let finding = Finding {
+        code: Code::Refusal(refusal.reason),
+        start: refusal.start,
+        end: refusal.end,
+        mark: 0,
+        message: refusal.reason.what().into(),
+        hint: Some("split it into several files".into()),
+        key: None,
+    };
+    let lines = Lines::of(b"").expect("no file has no lines but one");
+    say(&finding, &lines)?;
+    Ok(Counts::default())
+}
+
+/// A file that is being checked.
+pub(crate) struct Checker<'a, S> {
+    file: &'a [u8],
+    rows: &'a Rows,
+    is_cut: bool,
+    keys: Repeats,
+    names: Repeats,
+    encoding: Encoding,
+    /// What else than BibTeX the file looks like; said once.
+    format: Option<Format>,
+    /// Made when the first finding needs them.
+    lines: OnceCell<Lines<'a>>,
+    /// Something was said already.
+    has_said: bool,
+    say: S,
+}
+
+impl<'a, E, S: FnMut(&Finding, &Lines) -> Result<(), E>> Checker<'a, S> {
+    fn lines(&self) -> Result<&Lines<'a>, Refusal> {
+        if self.lines.get().is_none() {
+            let _ = self.lines.set(Lines::of(self.file)?);
+        }
+        Ok(self.lines.get().expect("they were made"))
+    }
+
+    fn say(&mut self, finding: Finding) -> Result<(), Stop<E>> {
+        self.lines()?;
+        self.has_said = true;
+        let lines = self.lines.get().expect("they were made");
+        (self.say)(&finding, lines).map_err(Stop::Caller)
+    }
+
+    fn counts(&self) -> Counts {
+        let count = |kind| self.rows.iter().filter(|row| row.kind == kind).count();
+        Counts {
+            entries: count(Kind::Entry),
+            damaged: count(Kind::Damage),
+        }
+    }
+
+    fn whole(&mut self) -> Result<(), Stop<E>> {
+        self.about_encoding()?;
+        let mut is_empty = true;
+        let mut before = None;
+        for item in Items::of(self.file, self.rows) {
+            is_empty &= matches!(item.what, What::Outside | What::Comment);
+            if self.is_cut {
+                self.cuts(&item)?;
             }
-            Err(Trouble::Input(what)) => {
-                progress.clear();
-                say(&what);
-                tally.unread += 1;
+            match item.what {
+                What::Entry => self.entry(&item)?,
+                What::Definitions => self.definitions(&item)?,
+                What::Outside => self.outside(&item, before)?,
+                What::Damage => self.damage(&item)?,
+                What::Preamble | What::Comment => {}
             }
-            Err(trouble) => return Err(trouble),
+            before = Some(item.what);
         }
-        // Findings come before what the next file makes appear on standard error.
-        out.flush()?;
-    }
-    progress.clear();
-    if tally.read > 0 {
-        writeln!(out, "{}", tally.summary())?;
-    }
-    Ok(tally.status())
-}
-
-impl<W: Write> Report<'_, W> {
-    fn file(&mut self, file: &[u8], tally: &mut Tally) -> io::Result<()> {
-        tally.read += 1;
-        match bib::salvage(file) {
-            Ok(rows) => {
-                let entries = rows.iter().filter(|row| row.kind == Kind::Entry);
-                tally.entries += entries.count();
-                let mut lines = Lines::of(file);
-                for finding in findings(&rows) {
-                    tally.damaged += 1;
-                    self.finding(&finding, &mut lines)?;
-                }
-                Ok(())
-            }
-            Err(refusal) => {
-                tally.refused += 1;
-                self.progress.clear();
-                self.headline(1, 1, refusal.reason.what(), refusal.reason)
-            }
+        if is_empty {
+            self.no_entries()?;
         }
+        Ok(())
     }
-
-    fn finding(&mut self, finding: &Finding, lines: &mut Lines) -> io::Result<()> {
-        let reason = Reason::of(finding.cause.detail).expect("a cause has a refusal's number");
-        let begun = lines.number_of(finding.piece.start);
-        let line = lines.at(finding.cause.start);
-        let excerpt = Excerpt::of(line.text, finding.cause.start - line.begin);
-        let mut what = finding.what(reason).to_string();
-        if begun != line.number {
-            let at = if finding.is_at_end() {
-                "at the end of"
-            } else {
-                "in"
-            };
-            what += &format!(", {at} the piece that begins on line {begun}");
-        }
-        let source = self.source;
-        self.progress
-            .pass(|| format!("checking {source}: line {begun}"));
-        self.headline(line.number, excerpt.column, &what, reason)?;
-        let Style { red, plain, .. } = self.style;
-        writeln!(
-            self.out,
-            "{}\n{}{red}^{plain}",
-            excerpt.text, excerpt.indent
-        )
-    }
-
-    fn headline(
-        &mut self,
-        line: usize,
-        column: usize,
-        what: &str,
-        reason: Reason,
-    ) -> io::Result<()> {
-        let Style { bold, red, plain } = self.style;
-        write!(self.out, "{bold}")?;
-        // Not as text: a name that is not UTF-8 is to be found again.
-        self.out.write_all(self.source.name())?;
-        let number = reason.number();
-        writeln!(
-            self.out,
-            ":{line}:{column}:{plain} {red}{what}{plain} ({number})"
-        )
-    }
-}
-
-/// The damaged pieces; a cause's row follows that of its piece.
-fn findings(rows: &Rows) -> impl Iterator<Item = Finding> + '_ {
-    let pairs = rows.iter().zip(rows.iter().skip(1));
-    pairs
-        .filter(|(piece, _)| piece.kind == Kind::Damage)
-        .map(|(piece, cause)| Finding { piece, cause })
-}
-
-impl Finding {
-    fn is_at_end(&self) -> bool {
-        self.cause.start == self.piece.end
-    }
-
-    /// The Rust has one refusal for a text that ends too early and for a value that does not
-    /// begin: only the second can have a place before the end (`early` of
-    /// crates/raw/specs/Strict.antt).
-    fn what(&self, reason: Reason) -> &'static str {
-        match reason {
-            Reason::UnexpectedEof if self.is_at_end() => "the text ends too early",
-            Reason::UnexpectedEof => "expected a value",
-            _ => reason.what(),
-        }
-    }
-}
-
-impl Tally {
-    fn status(&self) -> Status {
-        if self.unread > 0 {
-            Status::Trouble
-        } else if self.damaged + self.refused > 0 {
-            Status::Findings
-        } else {
-            Status::Sound
-        }
-    }
-
-    fn summary(&self) -> String {
-        let mut text = format!(
-            "{} sound, {}",
-            counted(self.entries, "entry", "entries"),
-            counted(self.damaged, "damaged piece", "damaged pieces")
-        );
-        if self.read > 1 {
-            text += &format!(" in {} files", self.read);
-        }
-        if self.refused > 0 {
-            text += &format!(", {} refused", counted(self.refused, "file", "files"));
-        }
-        if self.unread > 0 {
-            text += &format!(", {} not read", counted(self.unread, "file", "files"));
-        }
-        text
-    }
-}
-
-fn counted(n: usize, one: &str, many: &str) -> String {
-    format!("{n} {}", if n == 1 { one } else { many })
 }

@@ -3,74 +3,82 @@
 use proved::Answer;
 use std::fmt;
 
-/// Why something was refused, after document 01's table.
+/// Why something was refused, with document 01's numbers.
 #[derive(Debug, Clone, Copy, PartialEq, Eq, Hash)]
 pub enum Reason {
-    TooLong,
-    NotUtf8,
-    UnexpectedEof,
-    ExpectedIdentifier,
-    ExpectedOpeningBrace,
-    ExpectedClosingBrace,
-    ExpectedComma,
-    ExpectedQuotationMark,
-    ExpectedEquals,
-    UnexpectedDecimalPoint,
-    NoRoom,
-    BadRows,
+    TooLong = 1,
+    NotUtf8 = 2,
+    UnexpectedEof = 3,
+    ExpectedIdentifier = 4,
+    ExpectedOpeningBrace = 5,
+    ExpectedClosingBrace = 6,
+    ExpectedComma = 7,
+    ExpectedQuotationMark = 8,
+    ExpectedEquals = 9,
+    UnexpectedDecimalPoint = 10,
+    NoRoom = 16,
+    BadRows = 17,
 }
 
-/// Each with document 01's number and what it means to a person.
-const REASONS: [(Reason, u32, &str); 12] = [
-    (
-        Reason::TooLong,
-        1,
-        "the file is longer than 16,777,215 bytes",
-    ),
-    (Reason::NotUtf8, 2, "bytes that are not UTF-8"),
-    (
-        Reason::UnexpectedEof,
-        3,
-        "a value is missing or the text ends too early",
-    ),
-    (Reason::ExpectedIdentifier, 4, "expected an identifier"),
-    (Reason::ExpectedOpeningBrace, 5, "expected an opening brace"),
-    (Reason::ExpectedClosingBrace, 6, "expected a closing brace"),
-    (Reason::ExpectedComma, 7, "expected a comma"),
-    (
-        Reason::ExpectedQuotationMark,
-        8,
-        "expected a quotation mark",
-    ),
-    (Reason::ExpectedEquals, 9, "expected an equals sign"),
-    (
-        Reason::UnexpectedDecimalPoint,
-        10,
-        "unexpected decimal point",
-    ),
-    (
-        Reason::NoRoom,
-        16,
-        "there is not enough room for the answer",
-    ),
-    (Reason::BadRows, 17, "these are not well-formed rows"),
+/// All of them, in the order of their numbers.
+const REASONS: [Reason; 12] = [
+    Reason::TooLong,
+    Reason::NotUtf8,
+    Reason::UnexpectedEof,
+    Reason::ExpectedIdentifier,
+    Reason::ExpectedOpeningBrace,
+    Reason::ExpectedClosingBrace,
+    Reason::ExpectedComma,
+    Reason::ExpectedQuotationMark,
+    Reason::ExpectedEquals,
+    Reason::UnexpectedDecimalPoint,
+    Reason::NoRoom,
+    Reason::BadRows,
 ];
 
 impl Reason {
     /// The reason of a number, if there is one.
     pub fn of(number: u32) -> Option<Self> {
-        let found = REASONS.iter().find(|reason| reason.1 == number)?;
-        Some(found.0)
+        REASONS.into_iter().find(|reason| reason.number() == number)
     }
 
     /// Document 01's number.
     pub fn number(self) -> u32 {
-        REASONS[self as usize].1
+        self as u32
     }
 
-    /// What is wrong.
+    /// What is wrong, in the words that are used wherever it is said.
     pub fn what(self) -> &'static str {
-        REASONS[self as usize].2
+        match self {
+            Self::TooLong => "the file is longer than 16,777,215 bytes",
+            Self::NotUtf8 => "bytes that are not UTF-8",
+            Self::UnexpectedEof => "a value is missing or the text ends too early",
+            Self::ExpectedIdentifier => "expected an identifier",
+            Self::ExpectedOpeningBrace => "expected an opening brace",
+            Self::ExpectedClosingBrace => "expected a closing brace",
+            Self::ExpectedComma => "expected a comma",
+            Self::ExpectedQuotationMark => "expected a quotation mark",
+            Self::ExpectedEquals => "expected an equals sign",
+            Self::UnexpectedDecimalPoint => "unexpected decimal point",
+            Self::NoRoom => "there is not enough room for the answer",
+            Self::BadRows => "these are not well-formed rows",
+        }
+    }
+
+    /// What is wrong, where it is known whether the place is the end of the text. The Rust has one
+    /// refusal for a text that ends too early and for a value that does not begin: only the second
+    /// can have a place before the end (`early` of crates/raw/specs/Strict.antt).
+    pub fn what_at(self, is_end: bool) -> &'static str {
+        match self {
+            Self::UnexpectedEof if is_end => "the text ends too early",
+            Self::UnexpectedEof => "expected a value",
+            _ => self.what(),
+        }
+    }
+
+    /// Whether a place says something: the file, the room and the rows as a whole have 0..0.
+    fn has_place(self) -> bool {
+        !matches!(self, Self::TooLong | Self::NoRoom | Self::BadRows)
     }
 }
 
@@ -83,6 +91,13 @@ pub struct Refusal {
 }
 
 impl Refusal {
+    /// Memory is too short to lend what an answer may need.
+    pub(crate) const NO_MEMORY: Self = Self {
+        reason: Reason::NoRoom,
+        start: 0,
+        end: 0,
+    };
+
     /// The refusal of an answer whose number is not 0.
     pub(crate) fn of(answer: &Answer) -> Self {
         Self {
@@ -91,20 +106,12 @@ impl Refusal {
             end: answer.end as usize,
         }
     }
-
-    /// Whether the place says something: the file, the room and the rows as a whole have 0..0.
-    fn has_place(&self) -> bool {
-        !matches!(
-            self.reason,
-            Reason::TooLong | Reason::NoRoom | Reason::BadRows
-        )
-    }
 }
 
 impl fmt::Display for Refusal {
     fn fmt(&self, f: &mut fmt::Formatter<'_>) -> fmt::Result {
         f.write_str(self.reason.what())?;
-        if self.has_place() {
+        if self.reason.has_place() {
             write!(f, " at byte {}", self.start)?;
         }
         write!(f, " (refusal {})", self.reason.number())
@@ -112,3 +119,9 @@ impl fmt::Display for Refusal {
 }
 
 impl std::error::Error for Refusal {}
+
+impl From<std::collections::TryReserveError> for Refusal {
+    fn from(_: std::collections::TryReserveError) -> Self {
+        Self::NO_MEMORY
+    }
+}

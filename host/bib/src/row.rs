@@ -1,6 +1,11 @@
 //! Rows, as document 01 has them.
 
 use std::fmt;
+use std::ops::Range;
+
+/// The numbers of a row, and the bytes of a packed one.
+pub(crate) const NUMBERS: usize = 4;
+pub(crate) const BYTES: usize = 7;
 
 /// What a row is of.
 #[derive(Debug, Clone, Copy, PartialEq, Eq, Hash)]
@@ -53,6 +58,13 @@ pub struct Row {
     pub end: usize,
 }
 
+impl Row {
+    /// Its bytes, as a range.
+    pub fn span(&self) -> Range<usize> {
+        self.start..self.end
+    }
+}
+
 impl fmt::Display for Row {
     /// `kind detail start end`, in numbers.
     fn fmt(&self, f: &mut fmt::Formatter<'_>) -> fmt::Result {
@@ -78,7 +90,7 @@ impl Rows {
     }
 
     pub fn len(&self) -> usize {
-        self.numbers.len() / super::NUMBERS
+        self.numbers.len() / NUMBERS
     }
 
     pub fn is_empty(&self) -> bool {
@@ -86,11 +98,22 @@ impl Rows {
     }
 
     pub fn iter(&self) -> impl Iterator<Item = Row> + '_ {
-        self.numbers.chunks_exact(super::NUMBERS).map(|row| Row {
-            kind: KINDS[row[0] as usize],
-            detail: row[1],
-            start: row[2] as usize,
-            end: row[3] as usize,
-        })
+        self.numbers.chunks_exact(NUMBERS).map(row)
+    }
+
+    /// The row of this number, the first being 0, if there are so many.
+    pub fn get(&self, index: usize) -> Option<Row> {
+        let first = index.checked_mul(NUMBERS)?;
+        let numbers = self.numbers.get(first..first.checked_add(NUMBERS)?)?;
+        Some(row(numbers))
+    }
+}
+
+fn row(numbers: &[u32]) -> Row {
+    Row {
+        kind: KINDS[numbers[0] as usize],
+        detail: numbers[1],
+        start: numbers[2] as usize,
+        end: numbers[3] as usize,
     }
 }

@@ -125,3 +125,14 @@ fn room_enough() {
         assert_eq!(bib::read(&fields).unwrap().len(), 3 + length * 3);
     }
 }
+
+/// The header has the version of the crates.
+#[test]
+fn version_of_the_header() {
+    let header = include_str!("../../../include/bib.h");
+    let version = env!("CARGO_PKG_VERSION");
+    assert!(header.contains(&format!("#define BIB_VERSION \"{version}\"\n")));
+    for (name, part) in ["MAJOR", "MINOR", "PATCH"].iter().zip(version.split('.')) {
+        assert!(header.contains(&format!("#define BIB_VERSION_{name} {part}\n")));
+    }
+}

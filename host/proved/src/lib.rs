@@ -1,52 +1,55 @@
 //! Safe wrappers over the proved library's C functions, as include/bib.h declares them.
 
-/// The form that all functions have: what is lent to be read and its length, what is lent to be
-/// written and its length, and the three numbers that come back.
-type Function<T, U> =
-    unsafe extern "C" fn(*const T, usize, *mut U, usize, *mut u64, *mut u64, *mut u64) -> u32;
+/// Declares the functions in the one form that all of them have, and a safe wrapper of each: what
+/// is lent to be read and its length, what is lent to be written and its length, and the three
+/// numbers that come back.
+macro_rules! functions {
+    ($($(#[$comment:meta])* $name:ident($c:ident): $from:ty => $to:ty;)*) => {
+        extern "C" {
+            $(fn $c(
+                from: *const $from,
+                from_len: usize,
+                to: *mut $to,
+                to_len: usize,
+                count: *mut u64,
+                start: *mut u64,
+                end: *mut u64,
+            ) -> u32;)*
+        }
 
-mod sys {
-    extern "C" {
-        pub fn bib_read(
-            file: *const u8,
-            file_len: usize,
-            rows: *mut u32,
-            rows_len: usize,
-            count: *mut u64,
-            start: *mut u64,
-            end: *mut u64,
-        ) -> u32;
+        $($(#[$comment])*
+        pub fn $name(from: &[$from], to: &mut [$to]) -> Answer {
+            let mut answer = UNSET;
+            // SAFETY: the pointers are of slices and of numbers that live through the call, each
+            // slice with its own length, and the function asks for nothing else.
+            answer.number = unsafe {
+                $c(
+                    from.as_ptr(),
+                    from.len(),
+                    to.as_mut_ptr(),
+                    to.len(),
+                    &mut answer.count,
+                    &mut answer.start,
+                    &mut answer.end,
+                )
+            };
+            answer
+        })*
+    };
+}
 
-        pub fn bib_salvage(
-            file: *const u8,
-            file_len: usize,
-            rows: *mut u32,
-            rows_len: usize,
-            count: *mut u64,
-            start: *mut u64,
-            end: *mut u64,
-        ) -> u32;
+functions! {
+    /// Reads a file strictly, with room for rows lent. Any file and any room will do.
+    read(bib_read): u8 => u32;
 
-        pub fn bib_pack(
-            rows: *const u32,
-            rows_len: usize,
-            bytes: *mut u8,
-            bytes_len: usize,
-            count: *mut u64,
-            start: *mut u64,
-            end: *mut u64,
-        ) -> u32;
+    /// Salvages a file, with room for rows lent. `count` is the number of rows.
+    salvage(bib_salvage): u8 => u32;
 
-        pub fn bib_unpack(
-            bytes: *const u8,
-            bytes_len: usize,
-            rows: *mut u32,
-            rows_len: usize,
-            count: *mut u64,
-            start: *mut u64,
-            end: *mut u64,
-        ) -> u32;
-    }
+    /// Packs rows, four numbers each, into the bytes lent. `count` is the number of bytes.
+    pack(bib_pack): u32 => u8;
+
+    /// Unpacks bytes, seven a row, into the room lent. `count` is the number of rows.
+    unpack(bib_unpack): u8 => u32;
 }
 
 /// All that a function hands back beside what it writes.
@@ -59,6 +62,14 @@ pub struct Answer {
     pub start: u64,
     pub end: u64,
 }
+
+/// What an answer holds before the call, so that a number which is not set shows.
+const UNSET: Answer = Answer {
+    number: 0xDEAD_BEEF,
+    count: 0xDEAD_BEEF_DEAD_BEEF,
+    start: 0xDEAD_BEEF_DEAD_BEEF,
+    end: 0xDEAD_BEEF_DEAD_BEEF,
+};
 
 impl Answer {
     /// An answer that accepts.
@@ -77,52 +88,5 @@ impl Answer {
             number,
             ..Self::accepted(0)
         }
-    }
-}
-
-/// Reads a file strictly, with room for rows lent. Any file and any room will do.
-pub fn read(file: &[u8], rows: &mut [u32]) -> Answer {
-    call(sys::bib_read, file, rows)
-}
-
-/// Salvages a file, with room for rows lent. `count` is the number of rows.
-pub fn salvage(file: &[u8], rows: &mut [u32]) -> Answer {
-    call(sys::bib_salvage, file, rows)
-}
-
-/// Packs rows, four numbers each, into the bytes lent. `count` is the number of bytes.
-pub fn pack(rows: &[u32], bytes: &mut [u8]) -> Answer {
-    call(sys::bib_pack, rows, bytes)
-}
-
-/// Unpacks bytes, seven a row, into the room lent. `count` is the number of rows.
-pub fn unpack(bytes: &[u8], rows: &mut [u32]) -> Answer {
-    call(sys::bib_unpack, bytes, rows)
-}
-
-/// What the three numbers hold before the call, so that one which is not set shows.
-const UNSET: u64 = 0xDEAD_BEEF_DEAD_BEEF;
-
-fn call<T, U>(function: Function<T, U>, from: &[T], to: &mut [U]) -> Answer {
-    let (mut count, mut start, mut end) = (UNSET, UNSET, UNSET);
-    // SAFETY: the only functions that this is handed are the four above. The pointers are of slices
-    // and of numbers that live through the call, each slice with its own length, and the functions
-    // ask for nothing else.
-    let number = unsafe {
-        function(
-            from.as_ptr(),
-            from.len(),
-            to.as_mut_ptr(),
-            to.len(),
-            &mut count,
-            &mut start,
-            &mut end,
-        )
-    };
-    Answer {
-        number,
-        count,
-        start,
-        end,
     }
 }

@@ -3,7 +3,7 @@
 use std::ffi::OsStr;
 use std::os::unix::ffi::OsStrExt;
 
-use crate::run::{bib, Run, Scratch};
+use crate::run::{bib, Folder, Run, Scratch};
 
 /// What is said of a file on standard input.
 fn check(file: &[u8]) -> Run {
@@ -12,72 +12,169 @@ fn check(file: &[u8]) -> Run {
 
 #[test]
 fn sound_files() {
-    check(b"").is(0, "0 entries sound, 0 damaged pieces\n");
-    check(b"@a{k,}").is(0, "1 entry sound, 0 damaged pieces\n");
-    check(b"@a{k,}\n\n@string{x = 1}\n@b{l,}").is(0, "2 entries sound, 0 damaged pieces\n");
+    check(b"").is(0, "0 entries sound, 0 errors, 0 warnings\n");
+    check(b"@a{k,}").is(0, "1 entry sound, 0 errors, 0 warnings\n");
+    let several = b"@a{k,}\n\n@string{x = 1}\n@b{l,}";
+    check(several).is(0, "2 entries sound, 0 errors, 0 warnings\n");
 }
 
 /// All damaged pieces are found, and the sound entries between them counted.
 #[test]
 fn every_damaged_piece() {
-    let file = b"@a{k}\n@b{k,}\n@c{k, t = }\n@d{k,}\n@e{k, y = 1.2.3}\n@f{k,}\n";
+    let file = b"@a{k}\n@b{k,}\n@c{k, t = }\n@d{l,}\n@e{k, y = 1.2.3}\n@f{m,}\n";
     check(file).is(
         1,
         "\
-<stdin>:1:5: expected a comma (7)
+<stdin>:1:5: error: expected a comma, in entry k (7)
 @a{k}
     ^
-<stdin>:3:11: expected a value (3)
+  hint: BibTeX takes an entry without fields so, but this reader wants a comma: write `{k,}`
+<stdin>:3:11: error: expected a value, in entry k (3)
 @c{k, t = }
           ^
-<stdin>:5:14: unexpected decimal point (10)
+  hint: the field `t` has no value: write `t = {}`, or take it out
+<stdin>:5:14: error: unexpected decimal point, in entry k (10)
 @e{k, y = 1.2.3}
              ^
-3 entries sound, 3 damaged pieces
+  hint: a value that is not one number or one name stands in braces: write {1.2.3}
+3 entries sound, 3 errors, 0 warnings
 ",
     );
 }
 
-/// The place may be lines below the piece's beginning, or where the next one begins.
+/// What is open is shown, and not where the next piece begins.
 #[test]
-fn where_the_piece_begins() {
+fn what_is_not_closed() {
     let file = b"@a{k,\n  t = {x}\n  u = {y}\n}\n@b{k, t = {x\n\n@c{k,}";
     check(file).is(
         1,
         "\
-<stdin>:3:3: expected a comma, in the piece that begins on line 1 (7)
-  u = {y}
-  ^
-<stdin>:7:1: the text ends too early, at the end of the piece that begins on line 5 (3)
-@c{k,}
-^
-1 entry sound, 2 damaged pieces
+<stdin>:2:10: error: expected a comma, in entry k (line 1) (7)
+  t = {x}
+         ^
+  hint: a comma is missing behind the value of `t`
+<stdin>:5:11: error: entry k (line 5) is not closed (3)
+@b{k, t = {x
+          ^
+  hint: the brace opened at 5:11 may lack its `}`
+1 entry sound, 2 errors, 0 warnings
 ",
     );
-    check(b"@a{k, t = {x").is(
+}
+
+/// Warnings leave the exit status as it is, unless something else is asked for.
+#[test]
+fn levels() {
+    let file = b"@a{k, y = 1, y = 2}\n@a{k,}";
+    let field = "\
+<stdin>:1:14: warning: the entry has the field `y` already, at 1:7 (duplicate-field)
+@a{k, y = 1, y = 2}
+             ^
+";
+    let key = "\
+<stdin>:2:4: warning: the key k is that of another entry, at 1:4 (duplicate-key)
+@a{k,}
+   ^
+";
+    let both = format!("{field}{key}2 entries sound, 0 errors, 2 warnings\n");
+    check(file).is(0, &both);
+    bib(&["check", "--strict"], file).is(1, &both);
+    let one = format!("{key}2 entries sound, 0 errors, 1 warning\n");
+    bib(&["check", "--allow", "duplicate-field"], file).is(0, &one);
+    bib(&["check", "--strict", "--allow=duplicate-field"], file).is(1, &one);
+    let none = "2 entries sound, 0 errors, 0 warnings\n";
+    bib(
+        &[
+            "check",
+            "--strict",
+            "--allow",
+            "duplicate-field,duplicate-key",
+        ],
+        file,
+    )
+    .is(0, none);
+    let error = field.replace("warning", "error");
+    let denied = format!("{error}{key}2 entries sound, 1 error, 1 warning\n");
+    bib(&["check", "--deny", "duplicate-field"], file).is(1, &denied);
+}
+
+/// A file that strict reading takes has no errors, though salvage would cut it.
+#[test]
+fn strict_reading_decides() {
+    check(b"@a{k, t = {x\n@home}}").is(
+        0,
+        "\
+<stdin>:2:1: warning: an \"@\" begins a line inside an entry: salvage would cut there (cut-inside)
+@home}}
+^
+  hint: put a blank before it, so that damage elsewhere in the file does not reach it
+1 entry sound, 0 errors, 1 warning
+",
+    );
+}
+
+#[test]
+fn list_of_lints() {
+    let run = bib(&["check", "--list"], b"");
+    run.is(0, run.text());
+    for name in ["field-outside", "duplicate-key", "late-close", "cut-inside"] {
+        assert!(run.text().contains(&format!("{name}\n  ")), "{name}");
+    }
+    assert!(!run.text().contains('\x1b'));
+}
+
+#[test]
+fn json() {
+    let file = b"@a{k, t = }\n@b{l, y = 1, y = 2}";
+    bib(&["check", "--json"], file).is(
         1,
         "\
-<stdin>:1:13: the text ends too early (3)
-@a{k, t = {x
-            ^
-0 entries sound, 1 damaged piece
+{\"file\":\"<stdin>\",\"line\":1,\"column\":11,\"start\":10,\"end\":10,\"number\":3,\"level\":\"error\",\
+\"message\":\"expected a value, in entry k\",\
+\"hint\":\"the field `t` has no value: write `t = {}`, or take it out\",\"key\":\"k\"}
+{\"file\":\"<stdin>\",\"line\":2,\"column\":14,\"start\":25,\"end\":26,\"name\":\"duplicate-field\",\
+\"level\":\"warning\",\"message\":\"the entry has the field `y` already, at 2:7\",\"hint\":null,\"key\":\"l\"}
 ",
+    );
+    bib(&["check", "--json"], b"@a{k,}").is(0, "");
+}
+
+#[test]
+fn quiet() {
+    bib(&["check", "--quiet"], b"@a{k}").is(1, "");
+    bib(&["check", "-q"], b"@a{k,}").is(0, "");
+    bib(&["check", "-q", "no/such.bib"], b"").says(
+        2,
+        "bib: cannot read no/such.bib: no such file or directory\n",
     );
 }
 
 /// Each refusal that a piece can have, with its number.
 #[test]
 fn every_number() {
-    let cases: [(&[u8], &str); 9] = [
-        (b"\xff", "1: bytes that are not UTF-8 (2)"),
-        (b"@a{k,", "6: the text ends too early (3)"),
-        (b"@{", "2: expected an identifier (4)"),
-        (b"@a", "3: expected an opening brace (5)"),
-        (b"@comment{", "10: expected a closing brace (6)"),
-        (b"@a{k}", "5: expected a comma (7)"),
-        (b"@preamble{x}", "11: expected a quotation mark (8)"),
-        (b"@a{k,t}", "7: expected an equals sign (9)"),
-        (b"@a{k,t=1..}", "10: unexpected decimal point (10)"),
+    let cases: [(&[u8], &str); 10] = [
+        (b"\xff", "1: error: bytes that are not UTF-8 (2)"),
+        (b"@a{k,", "1: error: entry k (line 1) is not closed (3)"),
+        (b"@a{k,t=}", "8: error: expected a value, in entry k (3)"),
+        (b"@{", "2: error: expected an identifier (4)"),
+        (b"@a", "3: error: expected an opening brace (5)"),
+        (
+            b"@comment{",
+            "1: error: @comment (line 1) is not closed (6)",
+        ),
+        (b"@a{k}", "5: error: expected a comma, in entry k (7)"),
+        (
+            b"@preamble{x}",
+            "11: error: expected a quotation mark, in @preamble (8)",
+        ),
+        (
+            b"@a{k,t}",
+            "7: error: expected an equals sign, in entry k (9)",
+        ),
+        (
+            b"@a{k,t=1..}",
+            "10: error: unexpected decimal point, in entry k (10)",
+        ),
     ];
     for (file, what) in cases {
         let run = check(file);
@@ -89,50 +186,55 @@ fn every_number() {
     }
 }
 
+/// The lines of a finding: its place and words, the source line, the mark.
+#[track_caller]
+fn shows(file: &[u8], lines: [&str; 3]) {
+    let run = check(file);
+    assert_eq!(run.status, Some(1));
+    let seen: Vec<&str> = run.text().lines().take(3).collect();
+    assert_eq!(seen, lines);
+}
+
 /// Columns are characters; the mark stands under the place though tabs, wide characters and marks
-/// on others come before.
+/// on others come before. A byte order mark is not counted.
 #[test]
 fn columns() {
-    check("@a{漢字\té\u{301}e\u{301} =}".as_bytes()).is(
-        1,
-        "\
-<stdin>:1:7: expected a comma (7)
-@a{漢字\té\u{301}e\u{301} =}
-       \t^
-0 entries sound, 1 damaged piece
-",
+    let place = "<stdin>:1:7: error: expected a comma, in entry 漢字 (7)";
+    let line = "@a{漢字\té\u{301}e\u{301} =1}";
+    shows(
+        line.replace('=', "~").as_bytes(),
+        [place, &line.replace('=', "~"), "       \t^"],
     );
-    check("@a{k, 漢e\u{301} =}".as_bytes()).is(
-        1,
-        "\
-<stdin>:1:12: expected a value (3)
-@a{k, 漢e\u{301} =}
-           ^
-0 entries sound, 1 damaged piece
-",
-    );
+    let place = "<stdin>:1:12: error: expected a value, in entry k (3)";
+    let line = "@a{k, 漢e\u{301} =}";
+    shows(line.as_bytes(), [place, line, "           ^"]);
+    let place = "<stdin>:1:5: error: expected a comma, in entry k (7)";
+    shows(b"\xef\xbb\xbf@a{k}", [place, "@a{k}", "    ^"]);
+}
+
+/// Lines may end in CR alone.
+#[test]
+fn lines_of_old_machines() {
+    let place = "<stdin>:2:4: error: expected a value, in entry k (line 1) (3)";
+    shows(b"@a{k,\rt =,\r}\r", [place, "t =,", "   ^"]);
 }
 
 /// Neither the line's end nor what steers a terminal is printed.
 #[test]
 fn characters_that_are_not_shown() {
-    check(b"@a{k\x1b[2J}\r\n").is(
-        1,
-        "\
-<stdin>:1:5: expected a comma (7)
-@a{k\u{241b}[2J}
-    ^
-0 entries sound, 1 damaged piece
-",
+    let place = "<stdin>:1:5: error: expected a comma, in entry k (7)";
+    shows(b"@a{k\x1b[2J}\r\n", [place, "@a{k\u{241b}[2J}", "    ^"]);
+    let place = "<stdin>:1:9: error: bytes that are not UTF-8, in entry k (2)";
+    let line = "@a{k, \u{fffd}}\u{fffd}\u{fffd} \u{fffd}";
+    shows(
+        b"@a{k, \xe2\x80\xae}\xe2\x82 \xff",
+        [place, line, "        ^"],
     );
-    check(b"@a{k, \xe2\x80\xae}\xe2\x82 \xff").is(
-        1,
-        "\
-<stdin>:1:9: bytes that are not UTF-8 (2)
-@a{k, \u{fffd}}\u{fffd}\u{fffd} \u{fffd}
-        ^
-0 entries sound, 1 damaged piece
-",
+    let place = "<stdin>:1:7: error: expected a comma, in entry \u{fffd}\u{fffd}\u{fffd} (7)";
+    let line = "@a{\u{200e}\u{200f}\u{61c}}";
+    shows(
+        line.as_bytes(),
+        [place, "@a{\u{fffd}\u{fffd}\u{fffd}}", "      ^"],
     );
 }
 
@@ -140,38 +242,37 @@ fn characters_that_are_not_shown() {
 #[test]
 fn long_lines() {
     let file = format!("@a{{k, t = {{{}}} {{{}", "x".repeat(100), "y".repeat(100));
-    let shown = format!("…{}}} {{{}…", "x".repeat(48), "y".repeat(26));
-    check(file.as_bytes()).is(
-        1,
-        &format!(
-            "\
-<stdin>:1:114: expected a comma (7)
-{shown}
-{}^
-0 entries sound, 1 damaged piece
-",
-            " ".repeat(51)
-        ),
+    let shown = format!("…{}}} {{{}…", "x".repeat(46), "y".repeat(28));
+    let place = "<stdin>:1:114: error: expected a comma, in entry k (7)";
+    shows(
+        file.as_bytes(),
+        [place, &shown, &format!("{}^", " ".repeat(49))],
     );
     let run = check(format!("@a{{k {}", "é".repeat(2_000_000)).as_bytes());
     assert_eq!(run.status, Some(1));
-    assert!(run.out.len() < 400, "{} bytes", run.out.len());
+    assert!(run.out.len() < 800, "{} bytes", run.out.len());
 }
 
 #[test]
 fn several_files() {
-    let sound = Scratch::new("sound.bib", b"@a{k,}\n@b{k,}");
-    let broken = Scratch::new("broken.bib", b"@a{k,}\n@b{k}");
+    let sound = Scratch::new("sound.bib", b"@a{k,}\n@b{l,}");
+    let broken = Scratch::new("broken.bib", b"@a{m,}\n@b{n, t =}");
     let finding = format!(
-        "{}:2:5: expected a comma (7)\n@b{{k}}\n    ^\n",
+        "\
+{}:2:10: error: expected a value, in entry n (3)
+@b{{n, t =}}
+         ^
+  hint: the field `t` has no value: write `t = {{}}`, or take it out
+",
         broken.name()
     );
-    bib(&["check", sound.name()], b"").is(0, "2 entries sound, 0 damaged pieces\n");
-    let summary = "3 entries sound, 1 damaged piece in 2 files\n";
+    bib(&["check", sound.name()], b"").is(0, "2 entries sound, 0 errors, 0 warnings\n");
+    let summary = "3 entries sound, 1 error, 0 warnings; findings in 1 of 2 files\n";
     let both = ["check", broken.name(), sound.name()];
     bib(&both, b"").is(1, &format!("{finding}{summary}"));
-    let run = bib(&["check", broken.name(), "no/such.bib", "-"], b"@a{k,}");
-    let summary = "2 entries sound, 1 damaged piece in 2 files, 1 file not read\n";
+    let run = bib(&["check", broken.name(), "no/such.bib", "-"], b"@a{o,}");
+    let summary =
+        "2 entries sound, 1 error, 0 warnings; findings in 1 of 2 files; 1 file not read\n";
     let want = Run {
         status: Some(2),
         out: format!("{finding}{summary}").into_bytes(),
@@ -180,23 +281,116 @@ fn several_files() {
     assert_eq!(run, want);
 }
 
+/// A key of another file is said with its place; one of the same file is said as such.
+#[test]
+fn keys_of_several_files() {
+    let one = Scratch::new("keys-one.bib", b"@a{k,}\n@a{l,}");
+    let two = Scratch::new("keys-two.bib", b"@b{m,}\n@b{k,}");
+    let words = ["check", one.name(), two.name()];
+    let warning = format!(
+        "{}:2:4: warning: the key k is in {}:1:4 too (key-in-two-files)\n",
+        two.name(),
+        one.name()
+    );
+    let summary = "4 entries sound, 0 errors, 1 warning; findings in 1 of 2 files\n";
+    bib(&words, b"").is(0, &format!("{warning}{summary}"));
+    let summary = "4 entries sound, 0 errors, 0 warnings; findings in 0 of 2 files\n";
+    bib(
+        &[&words[..], &["--allow", "key-in-two-files"]].concat(),
+        b"",
+    )
+    .is(0, summary);
+    bib(
+        &[&words[..], &["--deny", "key-in-two-files", "-q"]].concat(),
+        b"",
+    )
+    .is(1, "");
+}
+
+/// All .bib files below a folder, in the order of their names.
+#[test]
+fn folders() {
+    let folder = Folder::new("folder");
+    for (name, file) in [
+        ("b.bib", "@a{k}"),
+        ("a/c.BIB", "@a{l}"),
+        ("a/d.txt", "@a{m}"),
+    ] {
+        folder.add(name, file.as_bytes());
+    }
+    let run = bib(&["check", folder.name(), "--json"], b"");
+    let files: Vec<&str> = run
+        .text()
+        .lines()
+        .filter_map(|line| line.split('"').nth(3))
+        .collect();
+    let want = ["a/c.BIB", "b.bib"].map(|name| format!("{}/{name}", folder.name()));
+    assert_eq!(
+        (run.status, files),
+        (Some(1), want.iter().map(String::as_str).collect())
+    );
+    let empty = Folder::new("empty");
+    let sentence = format!("bib: there are no .bib files below {}\n", empty.name());
+    bib(&["check", empty.name()], b"").says(2, &sentence);
+}
+
+/// Many files on all cores, in their order.
+#[test]
+fn many_files() {
+    let folder = Folder::new("many");
+    let mut want = String::new();
+    for n in 100..400 {
+        // Some take longer than others, and some say more than is kept.
+        let blanks = " ".repeat(if n % 7 == 0 { 300_000 } else { 1 });
+        let lines = if n % 50 == 0 { 2_000 } else { 1 };
+        folder.add(
+            &format!("{n}.bib"),
+            format!("{blanks}\n{}", "@a\n".repeat(lines)).as_bytes(),
+        );
+        for line in 0..lines {
+            want += &format!("{}/{n}.bib:{}\n", folder.name(), line + 2);
+        }
+    }
+    let run = bib(&["check", folder.name(), "--json"], b"");
+    let place = |line: &str| {
+        let parts: Vec<&str> = line.split(&['"', ':', ','][..]).collect();
+        format!("{}:{}\n", parts[4], parts[9])
+    };
+    let seen: String = run.text().lines().map(place).collect();
+    assert_eq!(run.status, Some(1));
+    assert!(
+        seen == want,
+        "the order of {} lines",
+        run.text().lines().count()
+    );
+}
+
 #[test]
 fn file_that_is_too_long() {
     check(&vec![b' '; 16_777_216]).is(
         1,
         "\
-<stdin>:1:1: the file is longer than 16,777,215 bytes (1)
-0 entries sound, 0 damaged pieces, 1 file refused
+<stdin>:1:1: error: the file is longer than 16,777,215 bytes (1)
+  hint: split it into several files
+0 entries sound, 1 error, 0 warnings
 ",
     );
 }
 
-/// A name that is not UTF-8 is printed as it is.
+/// A name is shown so that it steers no terminal, and can be found again.
 #[test]
-fn name_that_is_not_text() {
-    let file = Scratch::new(OsStr::from_bytes(b"odd\xff.bib"), b"@a{k}");
+fn names_of_files() {
+    let file = Scratch::new(OsStr::from_bytes(b"odd\xff\x1b[2J.bib"), b"@a{k, t = }");
     let run = bib(&[OsStr::new("check"), file.0.as_os_str()], b"");
-    let name = file.0.as_os_str().as_bytes();
-    assert!(run.out.starts_with(name), "{:?}", run.out);
+    assert!(
+        run.text().contains("/odd\\xff\\u{1b}[2J.bib:1:11: "),
+        "{:?}",
+        run.text()
+    );
     assert_eq!((run.status, run.err.as_str()), (Some(1), ""));
+    let run = bib(&["check", "no\x1bsuch"], b"");
+    run.says(
+        2,
+        "bib: cannot read no\\u{1b}such: no such file or directory\n",
+    );
 }

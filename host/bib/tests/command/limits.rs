@@ -36,7 +36,11 @@ fn most_rows_read_strictly() {
     within_memory(&format!("$BIB rows < {name} | tail -n 1")).is(0, &format!("rows {rows}\n"));
     within_memory(&format!("$BIB pack {name} | wc -c")).is(0, &format!("{}\n", rows * 7));
     within_memory(&format!("$BIB salvage {name} | tail -n 1")).is(0, &format!("rows {rows}\n"));
-    within_memory(&format!("$BIB check {name}")).is(0, "1 entry sound, 0 damaged pieces\n");
+    // All fields have the same name.
+    within_memory(&format!("$BIB check --allow duplicate-field {name}"))
+        .is(0, "1 entry sound, 0 errors, 0 warnings\n");
+    let first = format!("$BIB check --strict {name} | head -n 1 | cut -d: -f 2-4");
+    within_memory(&first).is(0, "1:10: warning\n");
 }
 
 /// Pieces of two bytes have two rows each.
@@ -48,6 +52,51 @@ fn most_rows_salvaged() {
     let name = file.name();
     within_memory(&format!("$BIB salvage {name} | tail -n 1"))
         .is(0, &format!("rows {}\n", LONGEST + 1));
-    let summary = format!("0 entries sound, {} damaged pieces\n", LONGEST / 2 + 1);
+    let summary = format!("0 entries sound, {} errors, 0 warnings\n", LONGEST / 2 + 1);
     within_memory(&format!("$BIB check {name} | tail -n 1")).is(0, &summary);
+}
+
+/// Keys and field names that all differ are compared without more memory.
+#[test]
+fn most_names() {
+    let mut entries = String::new();
+    let mut fields = String::from("@a{k,");
+    for n in 0.. {
+        if fields.len() > LONGEST - 40 {
+            break;
+        }
+        entries += &format!("@a{{{n},}}");
+        fields += &format!("a{n}=1,");
+    }
+    fields.push('}');
+    entries.truncate(LONGEST);
+    let count = entries.matches(",}").count();
+    let entries = Scratch::new(
+        "keys.bib",
+        &entries.as_bytes()[..=entries.rfind('}').unwrap()],
+    );
+    let fields = Scratch::new("names.bib", fields.as_bytes());
+    within_memory(&format!("$BIB check {}", entries.name()))
+        .is(0, &format!("{count} entries sound, 0 errors, 0 warnings\n"));
+    within_memory(&format!("$BIB check {}", fields.name()))
+        .is(0, "1 entry sound, 0 errors, 0 warnings\n");
+}
+
+/// Short memory is a sentence for the file, and the next one goes on.
+#[test]
+fn short_memory() {
+    let long = Scratch::new("short-memory.bib", &longest("@a{k,", "a=b,", "}"));
+    let small = Scratch::new("small.bib", b"@a{k,}");
+    let (long, small) = (long.name(), small.name());
+    for (work, word) in [("rows", "read"), ("salvage", "salvage"), ("pack", "pack")] {
+        let sentence = format!("bib: cannot {word} {long}: out of memory\n");
+        shell(&format!("ulimit -v 100000; $BIB {work} {long}")).says(2, &sentence);
+    }
+    let run = shell(&format!("ulimit -v 100000; $BIB check {long} {small}"));
+    let want = Run {
+        status: Some(2),
+        out: b"1 entry sound, 0 errors, 0 warnings; 1 file not read\n".to_vec(),
+        err: format!("bib: cannot check {long}: out of memory\n"),
+    };
+    assert_eq!(run, want);
 }

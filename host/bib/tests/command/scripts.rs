@@ -60,6 +60,8 @@ fn longest_file() {
 #[test]
 fn endless_file() {
     shell("$BIB rows < /dev/zero").is(1, "refused 1 0 0\n");
+    let sentence = "bib: <stdin> has more bytes than the rows of any file, 117440512\n";
+    shell("$BIB unpack < /dev/zero").says(2, sentence);
 }
 
 #[test]
@@ -97,7 +99,7 @@ fn closed_pipe() {
     let line = "yes '@a{k,}' | head -n 200000 | $BIB rows | head -n 1; echo ${PIPESTATUS[2]}";
     shell(line).is(0, "1 0 0 5\n141\n");
     let line = "yes '@' | head -n 200000 | $BIB check | head -n 1; echo ${PIPESTATUS[2]}";
-    let finding = "<stdin>:1:2: expected an identifier (4)";
+    let finding = "<stdin>:1:2: error: expected an identifier (4)";
     shell(line).is(0, &format!("{finding}\n141\n"));
 }
 

@@ -11,7 +11,7 @@ fn on_terminal(line: &str) -> Run {
 fn colour() {
     let file = Scratch::new("colour.bib", b"@a{k}");
     let coloured = format!(
-        "\x1b[1m{}:1:5:\x1b[0m \x1b[1;31mexpected a comma\x1b[0m (7)\r\n@a{{k}}\r\n    \x1b[1;31m^\x1b[0m\r\n",
+        "\x1b[1m{}:1:5:\x1b[0m \x1b[1;31merror:\x1b[0m expected a comma, in entry k (7)\r\n@a{{k}}\r\n    \x1b[1;31m^\x1b[0m\r\n",
         file.name()
     );
     let run = on_terminal(&format!("$BIB check {}", file.name()));
@@ -22,6 +22,36 @@ fn colour() {
     }
     let run = shell(&format!("$BIB check {}", file.name()));
     assert!(!run.text().contains('\x1b'), "{:?}", run.text());
+    let run = shell(&format!("$BIB check --color always {}", file.name()));
+    let coloured = coloured.replace("\r\n", "\n");
+    assert!(run.text().starts_with(&coloured), "{:?}", run.text());
+    let run = on_terminal(&format!("$BIB check --color=never {}", file.name()));
+    assert!(!run.text().contains('\x1b'), "{:?}", run.text());
+}
+
+/// Excerpts and the progress line keep to the terminal's width, whatever it is.
+#[test]
+fn narrow_terminals() {
+    let line = format!(
+        "@a{{k, t = {{{}}} {}}}\n",
+        "漢".repeat(100),
+        "x".repeat(100)
+    );
+    let file = Scratch::new("narrow.bib", line.as_bytes());
+    for columns in [2, 7, 20, 60, 200] {
+        let run = on_terminal(&format!("stty cols {columns}; $BIB check {}", file.name()));
+        let excerpt = run.text().lines().nth(1).expect("there is an excerpt");
+        let width: usize = excerpt
+            .trim_end()
+            .chars()
+            .map(|c| if c == '漢' { 2 } else { 1 })
+            .sum();
+        assert!(width < columns, "{columns}: {excerpt:?}");
+        assert!(
+            columns < 60 || width > columns - 4,
+            "{columns}: {excerpt:?}"
+        );
+    }
 }
 
 /// A line that says where the work is, after a while, and is gone at the end.
@@ -36,6 +66,13 @@ fn progress() {
     );
     let run = on_terminal(&long);
     assert!(run.text().contains("\r\x1b[Kchecking "), "{:?}", run.text());
+    let run = on_terminal(&format!("stty cols 12; {long}"));
+    let mut shown = run.text().split("\r\x1b[K");
+    assert!(
+        shown.all(|line| line.trim_end().len() < 12),
+        "{:?}",
+        run.text()
+    );
     assert!(run.text().ends_with("\r\x1b[K"), "{:?}", run.text());
     shell(&long).says(1, "");
     on_terminal(&format!(

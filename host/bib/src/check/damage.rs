@@ -1,0 +1,143 @@
+//! What is said of a damaged piece. Number and place are the proved reader's; the words and the
+//! mark are for people.
+
+use super::entries::is_odd;
+use super::finding::{Code, Finding};
+use super::items::Item;
+use super::text::quoted;
+use super::trace::{Part, Stage, Trace};
+use super::{Checker, Lines, Stop};
+use crate::{Reason, Row};
+
+impl<E, S: FnMut(&Finding, &Lines) -> Result<(), E>> Checker<'_, S> {
+    pub(crate) fn damage(&mut self, item: &Item) -> Result<(), Stop<E>> {
+        let rows = item.rows.clone().map_while(|row| self.rows.get(row));
+        let Ok([piece, cause]) = <[Row; 2]>::try_from(rows.collect::<Vec<_>>()) else {
+            return Ok(());
+        };
+        if self.encoding.explains(cause) {
+            return Ok(());
+        }
+        let trace = Trace::of(self.file, piece.span());
+        let story = Story {
+            file: self.file,
+            trace: &trace,
+            lines: self.lines()?,
+            reason: Reason::of(cause.detail).expect("a cause has a refusal's number"),
+            place: cause.start,
+            is_end: cause.start == piece.end,
+        };
+        // Words that were found on another way than the reader's would mislead.
+        let is_known = trace.place() == cause.start;
+        let found = is_known.then(|| (story.mark(), story.message(), story.hint()));
+        let plain = || (cause.start, story.reason.what().to_string(), None);
+        let (mark, message, hint) = found.unwrap_or_else(plain);
+        let finding = Finding {
+            code: Code::Refusal(story.reason),
+            start: cause.start,
+            end: cause.end,
+            mark,
+            message,
+            hint,
+            key: key_of(&trace).filter(|_| is_known),
+        };
+        let format = self.format.take().map(|format| format.hint());
+        let hint = format.or(finding.hint.clone());
+        self.say(finding.with_hint(hint))
+    }
+}
+
+/// What is known of a refusal in a damaged piece.
+pub(crate) struct Story<'a> {
+    pub file: &'a [u8],
+    pub trace: &'a Trace<'a>,
+    pub lines: &'a Lines<'a>,
+    pub reason: Reason,
+    pub place: usize,
+    /// The refusal is where the piece ends.
+    pub is_end: bool,
+}
+
+impl Story<'_> {
+    /// Whether the piece ends inside an entry, or what else begins with an "@".
+    pub fn is_open(&self) -> bool {
+        self.is_end && is_inside(self.trace.stage)
+    }
+
+    /// The value that took in what it should not: one that is not closed, or was closed too late.
+    pub fn culprit(&self) -> Option<&Part> {
+        let open = self.trace.part.as_ref().filter(|part| !part.is_closed);
+        open.or(self.trace.late.as_ref())
+    }
+
+    /// Whether a line ends between a place and the refusal.
+    pub fn is_on_later_line(&self, place: usize) -> bool {
+        self.lines.number(place) < self.lines.number(self.place)
+    }
+
+    fn mark(&self) -> usize {
+        if self.is_open() {
+            return self.culprit().map_or(self.trace.at, |part| part.span.start);
+        }
+        let missing_after = match self.trace.stage {
+            Stage::Opening => Some(self.trace.kind.end),
+            Stage::KeyComma => self.trace.key.as_ref().map(|key| key.end),
+            Stage::ValueEnd => self.trace.part.as_ref().map(|part| part.span.end),
+            _ => None,
+        };
+        // A brace or a comma is missing on the line that should have had it, not on the next one.
+        let place = missing_after.filter(|end| self.is_on_later_line(*end) && !self.is_at_sign());
+        place.unwrap_or(self.place)
+    }
+
+    /// Whether the piece goes on with an "@".
+    pub fn is_at_sign(&self) -> bool {
+        self.trace.next_byte() == Some(b'@')
+    }
+
+    fn message(&self) -> String {
+        if self.is_open() {
+            let line = self.lines.number(self.trace.at);
+            return format!("{} (line {line}) is not closed", subject(self.trace));
+        }
+        let what = self.reason.what_at(self.is_end);
+        what.to_string() + &whose(self.trace, self.lines, self.mark())
+    }
+}
+
+/// Whether reading is behind an opening delimiter.
+fn is_inside(stage: Stage) -> bool {
+    !matches!(stage, Stage::Outside | Stage::Type | Stage::Opening)
+}
+
+/// What a damaged piece is called.
+pub(crate) fn subject(trace: &Trace) -> String {
+    for other in ["string", "preamble", "comment"] {
+        if trace.is(other) {
+            return format!("@{other}");
+        }
+    }
+    key_of(trace).map_or("the entry".into(), |key| format!("entry {key}"))
+}
+
+/// Of what it is, where that is known: `, in entry knuth84 (line 1)`.
+pub(crate) fn whose(trace: &Trace, lines: &Lines, mark: usize) -> String {
+    if !is_inside(trace.stage) {
+        return String::new();
+    }
+    let line = lines.number(trace.at);
+    let subject = subject(trace);
+    if line == lines.number(mark) {
+        format!(", in {subject}")
+    } else {
+        format!(", in {subject} (line {line})")
+    }
+}
+
+/// The key, if there is one: what stands in its place may be a field.
+pub(crate) fn key_of(trace: &Trace) -> Option<String> {
+    let key = trace.text(trace.key.as_ref()?);
+    let is_key = !key.is_empty() && !is_odd(key);
+    let is_field = trace.stage == Stage::KeyComma && trace.next_byte() == Some(b'=');
+    (is_key && !is_field).then(|| quoted(key))
+}

@@ -1,0 +1,329 @@
+//! What is wrong in entries and definitions that were read.
+
+use std::cmp::Ordering;
+use std::ops::Range;
+
+use super::finding::{Finding, Lint};
+use super::items::Item;
+use super::text::{field_in_value, is_typographic, quoted, TYPOGRAPHIC};
+use super::{Checker, Stop};
+use crate::memory::push;
+use crate::{Kind, Refusal, Row, Rows};
+
+/// Fields that hold lists of names.
+const NAME_LISTS: [&str; 12] = [
+    "author",
+    "editor",
+    "editora",
+    "editorb",
+    "editorc",
+    "translator",
+    "bookauthor",
+    "annotator",
+    "commentator",
+    "foreword",
+    "afterword",
+    "holder",
+];
+
+/// Rows with the same text as an earlier one: the row, and the first that has it.
+#[derive(Default)]
+pub(crate) struct Repeats {
+    pairs: Vec<(u32, u32)>,
+    next: usize,
+}
+
+impl Repeats {
+    /// Of these rows, which must rise. `order` says which texts are equal.
+    fn of(
+        rows: &Rows,
+        mut which: Vec<u32>,
+        order: impl Fn(Row, Row) -> Ordering,
+    ) -> Result<Self, Refusal> {
+        let row = |index: u32| rows.get(index as usize).expect("it is a row's number");
+        which.sort_unstable_by(|a, b| order(row(*a), row(*b)).then(a.cmp(b)));
+        let mut pairs = Vec::new();
+        for group in which.chunk_by(|a, b| order(row(*a), row(*b)).is_eq()) {
+            for other in &group[1..] {
+                push(&mut pairs, (*other, group[0]))?;
+            }
+        }
+        pairs.sort_unstable();
+        Ok(Self { pairs, next: 0 })
+    }
+
+    /// The keys or definitions of a file, but empty ones.
+    pub fn in_file(file: &[u8], rows: &Rows, kind: Kind) -> Result<Self, Refusal> {
+        let mut which = Vec::new();
+        for (index, row) in rows.iter().enumerate() {
+            if row.kind == kind && row.start < row.end {
+                push(&mut which, index as u32)?;
+            }
+        }
+        Self::of(rows, which, |a, b| file[a.span()].cmp(&file[b.span()]))
+    }
+
+    /// The fields of an entry, in small or large letters.
+    fn in_entry(file: &[u8], rows: &Rows, range: Range<usize>) -> Result<Self, Refusal> {
+        let small = |row: Row| file[row.span()].iter().map(u8::to_ascii_lowercase);
+        let mut which = Vec::new();
+        for index in range {
+            if rows
+                .get(index)
+                .is_some_and(|row| row.kind == Kind::FieldName)
+            {
+                push(&mut which, index as u32)?;
+            }
+        }
+        Self::of(rows, which, |a, b| small(a).cmp(small(b)))
+    }
+
+    /// The first row with the text of this one, if that is another. Rows are asked for as they rise.
+    fn first_of(&mut self, row: usize) -> Option<usize> {
+        let rest = &self.pairs[self.next..];
+        self.next += rest
+            .iter()
+            .take_while(|pair| (pair.0 as usize) < row)
+            .count();
+        let pair = self.pairs.get(self.next)?;
+        (pair.0 as usize == row).then_some(pair.1 as usize)
+    }
+}
+
+impl<E, S: FnMut(&Finding, &super::Lines) -> Result<(), E>> Checker<'_, S> {
+    /// What is wrong in an entry.
+    pub(crate) fn entry(&mut self, item: &Item) -> Result<(), Stop<E>> {
+        let key = item.rows.clone().filter_map(|index| self.rows.get(index));
+        let key = key.take(3).find(|row| row.kind == Kind::Key);
+        let name = key.map(|row| quoted(&self.file[row.span()]));
+        let mut fields = Repeats::in_entry(self.file, self.rows, item.rows.clone())?;
+        let mut field = None;
+        for index in item.rows.clone() {
+            let Some(row) = self.rows.get(index) else {
+                break;
+            };
+            let finding = match row.kind {
+                Kind::Key => self.key(index, row)?,
+                Kind::FieldName => {
+                    field = Some(row);
+                    self.field(row, fields.first_of(index))?
+                }
+                Kind::Literal => self.literal(index, row, field),
+                Kind::Name => self.name(row),
+                _ => None,
+            };
+            if let Some(finding) = finding {
+                self.say(finding.with_key(name.clone()))?;
+            }
+        }
+        Ok(())
+    }
+
+    /// What is wrong in the definitions of one `@string`.
+    pub(crate) fn definitions(&mut self, item: &Item) -> Result<(), Stop<E>> {
+        for index in item.rows.clone() {
+            let Some(row) = self.rows.get(index) else {
+                break;
+            };
+            let finding = match row.kind {
+                Kind::DefinitionName => self.definition(index, row)?,
+                Kind::Literal => self.literal(index, row, None),
+                Kind::Name => self.name(row),
+                _ => None,
+            };
+            if let Some(finding) = finding {
+                self.say(finding)?;
+            }
+        }
+        Ok(())
+    }
+
+    fn shown(&self, row: Row) -> String {
+        quoted(&self.file[row.span()])
+    }
+
+    /// Where a row begins, as `LINE:COLUMN`.
+    fn place_of(&mut self, row: usize) -> Result<String, Refusal> {
+        let start = self.rows.get(row).map_or(0, |row| row.start);
+        Ok(self.lines()?.place(start))
+    }
+
+    fn key(&mut self, index: usize, row: Row) -> Result<Option<Finding>, Refusal> {
+        if row.start == row.end {
+            let message = "this entry has no key".to_string();
+            return Ok(Some(Finding::of_row(Lint::EmptyKey, row, message)));
+        }
+        if is_odd(&self.file[row.span()]) {
+            return Ok(Some(self.odd_key(row)));
+        }
+        let first = self.keys.first_of(index);
+        let words = ("the key ", " is that of another entry");
+        self.repeated(Lint::DuplicateKey, row, first, words)
+    }
+
+    fn odd_key(&self, row: Row) -> Finding {
+        let is_entry = self.file.get(row.start) == Some(&b'@');
+        let (what, hint) = if is_entry {
+            ("an entry", "the entry before it was begun and not closed")
+        } else {
+            ("a field", "put a key and a comma before it")
+        };
+        let message = format!("the key {} looks like {what}", self.shown(row));
+        Finding::of_row(Lint::OddKey, row, message).with_hint(Some(hint.into()))
+    }
+
+    fn field(&mut self, row: Row, first: Option<usize>) -> Result<Option<Finding>, Refusal> {
+        let words = ("the entry has the field `", "` already");
+        self.repeated(Lint::DuplicateField, row, first, words)
+    }
+
+    fn definition(&mut self, index: usize, row: Row) -> Result<Option<Finding>, Refusal> {
+        let first = self.names.first_of(index);
+        let hint = "the last definition counts, for uses before it too";
+        let words = ("`", "` is defined already");
+        let found = self.repeated(Lint::DuplicateDefinition, row, first, words)?;
+        Ok(found.map(|finding| finding.with_hint(Some(hint.into()))))
+    }
+
+    /// A row whose text an earlier one has, with the words before and behind that text.
+    fn repeated(
+        &mut self,
+        lint: Lint,
+        row: Row,
+        first: Option<usize>,
+        (before, behind): (&str, &str),
+    ) -> Result<Option<Finding>, Refusal> {
+        let Some(first) = first else {
+            return Ok(None);
+        };
+        let place = self.place_of(first)?;
+        let message = format!("{before}{}{behind}, at {place}", self.shown(row));
+        Ok(Some(Finding::of_row(lint, row, message)))
+    }
+
+    fn literal(&self, index: usize, row: Row, field: Option<Row>) -> Option<Finding> {
+        let text = &self.file[row.span()];
+        if let Some(swallowed) = field_in_value(text) {
+            return Some(self.late(row, field, &text[swallowed]));
+        }
+        let is_list = field.is_some_and(|field| is_name_list(&self.file[field.span()]));
+        // A value that is joined of parts may have its names in the others.
+        let is_alone =
+            |index: usize| !matches!(self.rows.get(index), Some(row) if is_part(row.kind));
+        if is_list && is_alone(index.wrapping_sub(1)) && is_alone(index + 1) {
+            return lone_and(text).map(|(place, message)| {
+                let start = row.start + place;
+                Finding::lint(Lint::AndList, start, start + 3, message.into())
+            });
+        }
+        None
+    }
+
+    /// A value that was closed too late. The delimiter stands before the literal.
+    fn late(&self, row: Row, field: Option<Row>, swallowed: &[u8]) -> Finding {
+        let mark = row.start.saturating_sub(1);
+        let whose = field.map(|field| format!(" of `{}`", self.shown(field)));
+        let message = format!(
+            "the value{} holds what looks like the field `{}`",
+            whose.unwrap_or_default(),
+            quoted(swallowed)
+        );
+        let what = if self.file.get(mark) == Some(&b'"') {
+            "quotation mark"
+        } else {
+            "brace"
+        };
+        let hint = format!("the {what} that opens the value may be closed too late");
+        let finding = Finding::of_row(Lint::LateClose, row, message);
+        Finding { mark, ..finding }.with_hint(Some(hint))
+    }
+
+    fn name(&self, row: Row) -> Option<Finding> {
+        let name = &self.file[row.span()];
+        is_typographic(name).then(|| {
+            let message = format!("{} is taken for the name of a definition", self.shown(row));
+            Finding::of_row(Lint::TypographicQuotes, row, message)
+                .with_hint(Some(TYPOGRAPHIC.into()))
+        })
+    }
+}
+
+/// Whether what stands in a key's place is something else: an entry, or a field `word=value` with
+/// a number, a brace or a quotation mark.
+pub(crate) fn is_odd(key: &[u8]) -> bool {
+    let is_field = |equals: usize| {
+        let (name, value) = (&key[..equals], &key[equals + 1..]);
+        let is_name = !name.is_empty() && name.iter().all(u8::is_ascii_alphabetic);
+        let is_number = !value.is_empty() && value.iter().all(u8::is_ascii_digit);
+        is_name && (is_number || matches!(value, [b'{' | b'"', ..]))
+    };
+    let equals = key.iter().position(|byte| *byte == b'=');
+    key.starts_with(b"@") || equals.is_some_and(is_field)
+}
+
+fn is_part(kind: Kind) -> bool {
+    matches!(kind, Kind::Literal | Kind::Name)
+}
+
+fn is_name_list(field: &[u8]) -> bool {
+    NAME_LISTS
+        .iter()
+        .any(|name| field.eq_ignore_ascii_case(name.as_bytes()))
+}
+
+/// Where a list of names has an `and` without a name on one of its sides, and what that is.
+fn lone_and(text: &[u8]) -> Option<(usize, &'static str)> {
+    let is_and = |word: &Range<usize>| text[word.clone()].eq_ignore_ascii_case(b"and");
+    let mut before = None;
+    for word in words(text) {
+        match &before {
+            None if is_and(&word) => {
+                return Some((word.start, "the list of names begins with `and`"))
+            }
+            Some(other) if is_and(other) && is_and(&word) => {
+                return Some((word.start, "the list of names has `and` twice in a row"))
+            }
+            _ => before = Some(word),
+        }
+    }
+    let last = before.filter(is_and)?;
+    Some((last.start, "the list of names ends with `and`"))
+}
+
+/// The words of a value, between the white space that stands outside braces.
+fn words(text: &[u8]) -> impl Iterator<Item = Range<usize>> + '_ {
+    let mut place = 0;
+    std::iter::from_fn(move || {
+        let rest = &text[place..];
+        let start = place + rest.iter().position(|byte| !byte.is_ascii_whitespace())?;
+        let mut depth = 0usize;
+        let is_end = |byte: &u8| {
+            match byte {
+                b'{' => depth += 1,
+                b'}' => depth = depth.saturating_sub(1),
+                _ => {}
+            }
+            byte.is_ascii_whitespace() && depth == 0
+        };
+        let length = text[start..].iter().position(is_end);
+        place = start + length.unwrap_or(text.len() - start);
+        Some(start..place)
+    })
+}
+
+#[cfg(test)]
+mod tests {
+    use super::*;
+
+    #[test]
+    fn lists_of_names() {
+        let at = |text: &str| lone_and(text.as_bytes()).map(|found| found.0);
+        assert_eq!(at("and A. Author"), Some(0));
+        assert_eq!(at("A. Author and"), Some(10));
+        assert_eq!(at("A and  AND B"), Some(7));
+        assert_eq!(at("A and B and others"), None);
+        assert_eq!(at("{and Sons} and {Rock and and Roll}"), None);
+        assert_eq!(at("Anderson and Landand"), None);
+        assert_eq!(at(""), None);
+    }
+}

@@ -1,0 +1,227 @@
+//! Findings: what is said of a file.
+
+use crate::{Reason, Row};
+
+/// How grave a finding is.
+#[derive(Debug, Clone, Copy, PartialEq, Eq, PartialOrd, Ord, Hash)]
+pub enum Level {
+    /// What is read, but surely not meant.
+    Warning,
+    /// What the reader refuses.
+    Error,
+}
+
+impl Level {
+    pub fn name(self) -> &'static str {
+        match self {
+            Self::Warning => "warning",
+            Self::Error => "error",
+        }
+    }
+}
+
+/// What a warning is about. Each has a name, by which it can be silenced or made an error.
+#[derive(Debug, Clone, Copy, PartialEq, Eq, Hash)]
+pub enum Lint {
+    FieldOutside,
+    EntryOutside,
+    NoEntries,
+    DuplicateKey,
+    KeyInTwoFiles,
+    EmptyKey,
+    OddKey,
+    DuplicateField,
+    DuplicateDefinition,
+    LateClose,
+    AndList,
+    TypographicQuotes,
+    CutInside,
+    Encoding,
+}
+
+/// What is to be known of a lint.
+pub struct About {
+    pub lint: Lint,
+    pub name: &'static str,
+    /// What it means, in a sentence or two.
+    pub meaning: &'static str,
+    /// A file that has it.
+    pub example: &'static str,
+}
+
+/// All lints, in the order of the enum.
+pub const LINTS: [About; 14] = [
+    About {
+        lint: Lint::FieldOutside,
+        name: "field-outside",
+        meaning: "Text outside every entry holds `word =`: a field that an entry lost, mostly because the entry was closed before it.",
+        example: "@book{k, title = {T}}, year = 1997}",
+    },
+    About {
+        lint: Lint::EntryOutside,
+        name: "entry-outside",
+        meaning: "Text outside every entry holds `word{key,`: an entry without its \"@\", which is lost.",
+        example: "article{k, title = {T}}",
+    },
+    About {
+        lint: Lint::NoEntries,
+        name: "no-entries",
+        meaning: "The file is not blank, and has neither entries nor definitions nor a preamble.",
+        example: "to be done",
+    },
+    About {
+        lint: Lint::DuplicateKey,
+        name: "duplicate-key",
+        meaning: "Two entries of a file have the same key, so that one of them cannot be cited.",
+        example: "@book{k, title = {A}}\n@book{k, title = {B}}",
+    },
+    About {
+        lint: Lint::KeyInTwoFiles,
+        name: "key-in-two-files",
+        meaning: "Entries of two of the files given have the same key.",
+        example: "@book{k, title = {A}}",
+    },
+    About {
+        lint: Lint::EmptyKey,
+        name: "empty-key",
+        meaning: "An entry's key is empty, so that it cannot be cited.",
+        example: "@book{, title = {T}}",
+    },
+    About {
+        lint: Lint::OddKey,
+        name: "odd-key",
+        meaning: "A key begins with \"@\", or reads like `year=1997`: the next entry, or a field, is taken for the key.",
+        example: "@book{year=1997, title = {T}}",
+    },
+    About {
+        lint: Lint::DuplicateField,
+        name: "duplicate-field",
+        meaning: "An entry has a field twice, in small or large letters; one of the values is lost.",
+        example: "@book{k, year = 1996, year = 1997}",
+    },
+    About {
+        lint: Lint::DuplicateDefinition,
+        name: "duplicate-definition",
+        meaning: "A name is defined twice by @string; the last definition counts, for uses before it too.",
+        example: "@string{acm = {ACM}}\n@string{acm = {A.C.M.}}\n@book{k, publisher = acm}",
+    },
+    About {
+        lint: Lint::LateClose,
+        name: "late-close",
+        meaning: "A value holds a line that looks like a field: a brace or quotation mark was closed too late, and fields are lost in the value.",
+        example: "@book{k,\n  title = {T,\n  year = {1997}}\n}",
+    },
+    About {
+        lint: Lint::AndList,
+        name: "and-list",
+        meaning: "A list of names begins or ends with `and`, or has `and and`: a name is missing.",
+        example: "@book{k, author = {A. Author and}}",
+    },
+    About {
+        lint: Lint::TypographicQuotes,
+        name: "typographic-quotes",
+        meaning: "A value begins with a typographic quotation mark, which delimits nothing: the value is taken for the name of a definition.",
+        example: "@book{k, title = “T”}",
+    },
+    About {
+        lint: Lint::CutInside,
+        name: "cut-inside",
+        meaning: "An \"@\" begins a line inside an entry. The file is sound, but salvage, which reads damaged files, would cut the entry there.",
+        example: "@book{k, abstract = {mail me\n@home}}",
+    },
+    About {
+        lint: Lint::Encoding,
+        name: "encoding",
+        meaning: "The file is read as UTF-8, but has the escape sequences of ISO-2022-JP.",
+        example: "@book{k, title = {\u{1b}$B4A;z\u{1b}(B}}",
+    },
+];
+
+impl Lint {
+    pub fn about(self) -> &'static About {
+        &LINTS[self as usize]
+    }
+
+    pub fn name(self) -> &'static str {
+        self.about().name
+    }
+
+    /// The lint of this name, if there is one.
+    pub fn named(name: &str) -> Option<Self> {
+        let found = LINTS.iter().find(|about| about.name == name)?;
+        Some(found.lint)
+    }
+}
+
+/// What a finding goes by: the number of a refusal, or the name of a lint.
+#[derive(Debug, Clone, Copy, PartialEq, Eq, Hash)]
+pub enum Code {
+    Refusal(Reason),
+    Lint(Lint),
+}
+
+/// Something that is to be said of a file.
+#[derive(Debug, Clone, PartialEq, Eq)]
+pub struct Finding {
+    pub code: Code,
+    /// The bytes that it is about. Of a refusal they are document 01's.
+    pub start: usize,
+    pub end: usize,
+    /// The byte at which a person should look.
+    pub mark: usize,
+    pub message: String,
+    /// What can be done, where that is known.
+    pub hint: Option<String>,
+    /// The key of the entry that it is about, where there is one.
+    pub key: Option<String>,
+}
+
+impl Finding {
+    /// The level that it has unless something else is asked for.
+    pub fn level(&self) -> Level {
+        match self.code {
+            Code::Refusal(_) => Level::Error,
+            Code::Lint(_) => Level::Warning,
+        }
+    }
+
+    /// A warning about these bytes, to be looked at where they begin.
+    pub(crate) fn lint(lint: Lint, start: usize, end: usize, message: String) -> Self {
+        Self {
+            code: Code::Lint(lint),
+            start,
+            end,
+            mark: start,
+            message,
+            hint: None,
+            key: None,
+        }
+    }
+
+    /// A warning about a row.
+    pub(crate) fn of_row(lint: Lint, row: Row, message: String) -> Self {
+        Self::lint(lint, row.start, row.end, message)
+    }
+
+    pub(crate) fn with_hint(self, hint: Option<String>) -> Self {
+        Self { hint, ..self }
+    }
+
+    pub(crate) fn with_key(self, key: Option<String>) -> Self {
+        Self { key, ..self }
+    }
+}
+
+#[cfg(test)]
+mod tests {
+    use super::*;
+
+    #[test]
+    fn lints_in_order() {
+        for (n, about) in LINTS.iter().enumerate() {
+            assert_eq!(about.lint as usize, n);
+            assert_eq!(Lint::named(about.name), Some(about.lint));
+        }
+        assert_eq!(Lint::named("nothing"), None);
+    }
+}

@@ -1,0 +1,255 @@
+//! Hints: what can be done about a refusal, for what authors really write. Where it is valid BibTeX
+//! that this reader refuses, the hint says so.
+
+use super::cursor::Cursor;
+use super::damage::{subject, Story};
+use super::entries::is_odd;
+use super::text::{is_typographic, quoted, without_blanks, TYPOGRAPHIC};
+use super::trace::{Form, Part, Stage};
+use crate::Reason;
+
+type Hint = Option<String>;
+
+fn some(hint: &str) -> Hint {
+    Some(hint.into())
+}
+
+impl Story<'_> {
+    pub fn hint(&self) -> Hint {
+        let known = self.no_key().or_else(|| self.not_closed());
+        known.or_else(|| match self.trace.stage {
+            Stage::Outside | Stage::Comment => None,
+            Stage::Type | Stage::Opening => self.opening(),
+            Stage::Preamble | Stage::Closing => self.preamble(),
+            Stage::KeyComma => self.key_comma(),
+            Stage::FieldName => self.field_name(),
+            Stage::Equals => self.equals(),
+            Stage::Value => self.value(),
+            Stage::ValueEnd => self.value_end(),
+        })
+    }
+
+    fn next(&self) -> Option<u8> {
+        self.trace.next_byte()
+    }
+
+    /// Whether the text goes on with `word =`.
+    fn is_field_next(&self) -> bool {
+        let mut cursor = Cursor::new(self.file, self.place..self.file.len());
+        let is_word = cursor.ident().is_some();
+        cursor.white();
+        is_word && cursor.peek() == Some(b'=')
+    }
+
+    /// `@article{` and then the first field.
+    fn no_key(&self) -> Hint {
+        let key = self.trace.text(self.trace.key.as_ref()?);
+        let is_next = self.trace.stage == Stage::KeyComma && self.next() == Some(b'=');
+        let is_field = is_next || is_odd(key) && !key.starts_with(b"@");
+        let kind = quoted(self.trace.text(&self.trace.kind));
+        is_field
+            .then(|| format!("the entry has no key: write `@{kind}{{KEY,` before its first field"))
+    }
+
+    /// The value that took in the rest, or the closing brace that is missing.
+    fn not_closed(&self) -> Hint {
+        let is_behind = matches!(
+            self.trace.stage,
+            Stage::FieldName | Stage::Equals | Stage::ValueEnd
+        );
+        let culprit = self.culprit().filter(|_| self.is_open() || is_behind);
+        if let Some(part) = culprit {
+            return self.escaped(part).or_else(|| self.lacks(part));
+        }
+        if !self.is_open() {
+            return None;
+        }
+        let closing = if self.trace.stage == Stage::Preamble {
+            "`\"}`"
+        } else {
+            "`}`"
+        };
+        Some(format!("its closing {closing} is missing"))
+    }
+
+    fn lacks(&self, part: &Part) -> Hint {
+        let place = self.lines.place(part.span.start);
+        Some(match part.form {
+            Form::Quoted => {
+                format!("the quotation mark opened at {place} may lack its closing one")
+            }
+            _ => format!("the brace opened at {place} may lack its `}}`"),
+        })
+    }
+
+    /// A backslash before the brace that should close the value: the end of a Windows path.
+    fn escaped(&self, part: &Part) -> Hint {
+        let text = self.trace.text(&part.span);
+        let delimiter = if part.form == Form::Quoted {
+            b'"'
+        } else {
+            b'}'
+        };
+        let is_end = |three: &[u8]| {
+            three[0] == b'\\' && three[1] == delimiter && matches!(three[2], b',' | b'\r' | b'\n')
+        };
+        let place = text.windows(3).position(is_end)?;
+        let place = self.lines.place(part.span.start + place);
+        let delimiter = delimiter as char;
+        Some(format!(
+            "the backslash at {place} keeps the `{delimiter}` behind it from closing the value: write `/` for it, or a blank behind it"
+        ))
+    }
+
+    fn opening(&self) -> Hint {
+        if self.next() == Some(b'(') {
+            return some(
+                "BibTeX also takes ( and ) as delimiters, but this reader does not: write { and }",
+            );
+        }
+        if self.trace.is("comment") && self.trace.stage == Stage::Opening {
+            return some("BibTeX takes an @comment without braces, but this reader does not: write @comment{..}");
+        }
+        let line = self.lines.at(self.trace.at);
+        let before = &line.text[..self.trace.at.saturating_sub(line.begin)];
+        let is_prose = !matches!(without_blanks(before).last(), None | Some(b'}'));
+        if is_prose {
+            return some("outside entries an \"@\" begins an entry, in running text too: put the text behind a \"%\"");
+        }
+        None
+    }
+
+    fn preamble(&self) -> Hint {
+        match (self.trace.stage, self.next()) {
+            (Stage::Preamble, Some(b'{')) => {
+                some("BibTeX also takes a preamble in braces, but this reader does not: write @preamble{\"..\"}")
+            }
+            (Stage::Closing, Some(b'#')) => some(
+                "BibTeX joins strings by # here, but this reader does not: write one string, or another @preamble",
+            ),
+            _ => None,
+        }
+    }
+
+    fn key_comma(&self) -> Hint {
+        let key = self.trace.key.as_ref()?;
+        let shown = quoted(self.trace.text(key));
+        if self.next() == Some(b'}') {
+            return Some(format!(
+                "BibTeX takes an entry without fields so, but this reader wants a comma: write `{{{shown},}}`"
+            ));
+        }
+        if self
+            .next()
+            .is_some_and(|byte| byte.is_ascii_control() && !byte.is_ascii_whitespace())
+        {
+            return some("a key has no control characters in it");
+        }
+        if self.is_on_later_line(key.end) || self.is_field_next() {
+            return Some(format!("a comma is missing behind the key {shown}"));
+        }
+        (key.end < self.place).then(|| format!("a key has no blanks in it: it ends behind {shown}"))
+    }
+
+    fn field_name(&self) -> Hint {
+        match self.next()? {
+            b'%' => some("one comment may stand here, and this reader refuses a second in a row: make one of them"),
+            b'@' => self.not_closed_before(),
+            b',' => some("there is a comma too many"),
+            b'=' => some("the field has no name"),
+            _ => None,
+        }
+    }
+
+    fn not_closed_before(&self) -> Hint {
+        let line = self.lines.number(self.trace.at);
+        let subject = subject(self.trace);
+        Some(format!(
+            "{subject} (line {line}) is not closed before this \"@\""
+        ))
+    }
+
+    fn equals(&self) -> Hint {
+        let name = quoted(self.trace.text(self.trace.field.as_ref()?));
+        match self.next()? {
+            b'{' | b'"' => Some(format!("an equals sign is missing behind `{name}`")),
+            _ if self.is_field_next() && !self.is_on_later_line(self.trace.field.as_ref()?.end) => {
+                some("the name of a field has no blanks in it")
+            }
+            _ => self
+                .closed_early()
+                .or_else(|| Some(format!("the field `{name}` has no value"))),
+        }
+    }
+
+    /// What stands here may be the rest of the value before.
+    fn closed_early(&self) -> Hint {
+        let part = self.trace.part.as_ref()?;
+        let what = match part.form {
+            Form::Braced => "brace",
+            Form::Quoted => "quotation mark",
+            Form::Number | Form::Name => return None,
+        };
+        let end = self.lines.place(part.span.end - 1);
+        Some(format!(
+            "if this belongs to the value before, the {what} at {end} closed it too early"
+        ))
+    }
+
+    fn value(&self) -> Hint {
+        if self.reason == Reason::UnexpectedDecimalPoint {
+            return self.in_braces(self.trace.part.as_ref()?);
+        }
+        let name = quoted(self.trace.text(self.trace.field.as_ref()?));
+        match self.next()? {
+            b',' | b'}' => Some(format!(
+                "the field `{name}` has no value: write `{name} = {{}}`, or take it out"
+            )),
+            _ => some("a value stands in braces or quotation marks, or is one number or one name"),
+        }
+    }
+
+    fn value_end(&self) -> Hint {
+        let part = self.trace.part.as_ref()?;
+        let text = self.trace.text(&part.span);
+        if part.form == Form::Name && is_typographic(text) {
+            return some(TYPOGRAPHIC);
+        }
+        if self.is_at_sign() {
+            return self.not_closed_before();
+        }
+        if part.form == Form::Quoted && is_open_brace_in(text) {
+            return some(
+                "BibTeX takes a quotation mark inside braces inside quotation marks, but this reader ends the value there: write the value in braces",
+            );
+        }
+        if self.is_on_later_line(part.span.end) {
+            let field = quoted(self.trace.text(self.trace.field.as_ref()?));
+            return Some(format!("a comma is missing behind the value of `{field}`"));
+        }
+        match part.form {
+            Form::Number | Form::Name => self.in_braces(part),
+            Form::Quoted => {
+                some("a quotation mark inside the value ends it: write the value in braces")
+            }
+            Form::Braced => self.closed_early(),
+        }
+    }
+
+    /// A value that is not one number or one name, as it should have been written.
+    fn in_braces(&self, part: &Part) -> Hint {
+        let rest = &self.file[part.span.start..];
+        let is_end = |byte: &u8| matches!(byte, b',' | b'}' | b'\n' | b'\r');
+        let value = &rest[..rest.iter().position(is_end).unwrap_or(rest.len())];
+        let value = quoted(without_blanks(value));
+        Some(format!(
+            "a value that is not one number or one name stands in braces: write {{{value}}}"
+        ))
+    }
+}
+
+/// Whether braces are open where a quoted value ends.
+fn is_open_brace_in(text: &[u8]) -> bool {
+    let count = |brace: u8| text.iter().filter(|byte| **byte == brace).count();
+    count(b'{') > count(b'}')
+}

@@ -1,0 +1,215 @@
+//! The lines of a file, and the places of its bytes in them.
+
+use std::cell::{Cell, RefCell};
+use std::collections::TryReserveError;
+
+use crate::memory::push;
+
+/// What some editors put before a text in UTF-8. It is shown nowhere and counted in no column.
+const BYTE_ORDER_MARK: &[u8] = b"\xef\xbb\xbf";
+
+/// Where the lines of a file begin. A line ends with LF, with CR LF, or with CR alone.
+pub struct Lines<'a> {
+    file: &'a [u8],
+    begins: Vec<u32>,
+    /// The number of the line that was asked for last: the next is mostly near.
+    near: Cell<usize>,
+    /// The long line that was asked for last.
+    long: RefCell<Marks>,
+}
+
+/// So many bytes of a line are counted again and again; a longer one has marks.
+const SHORT: usize = 256;
+
+/// Places in a line, some bytes apart, each with the number of characters before it.
+#[derive(Default)]
+struct Marks {
+    begin: usize,
+    all: Vec<(u32, u32)>,
+}
+
+/// A line, the first being number 1.
+#[derive(Debug, Clone, Copy, PartialEq, Eq)]
+pub struct Line<'a> {
+    pub number: usize,
+    pub begin: usize,
+    /// Without the line's end.
+    pub text: &'a [u8],
+}
+
+impl<'a> Lines<'a> {
+    pub fn of(file: &'a [u8]) -> Result<Self, TryReserveError> {
+        let mut begins = Vec::new();
+        let is_marked = file.starts_with(BYTE_ORDER_MARK);
+        let first = if is_marked { BYTE_ORDER_MARK.len() } else { 0 };
+        push(&mut begins, first as u32)?;
+        for (place, byte) in file.iter().enumerate() {
+            let is_end = *byte == b'\n' || *byte == b'\r' && file.get(place + 1) != Some(&b'\n');
+            if is_end {
+                push(&mut begins, place as u32 + 1)?;
+            }
+        }
+        Ok(Self {
+            file,
+            begins,
+            near: Cell::new(1),
+            long: RefCell::default(),
+        })
+    }
+
+    /// The line that has this byte of the file; its end belongs to it.
+    pub fn at(&self, place: usize) -> Line<'a> {
+        let number = self.number(place);
+        let begin = self.begins[number - 1] as usize;
+        let next = self.begins.get(number).map(|next| *next as usize);
+        let text = &self.file[begin..next.unwrap_or(self.file.len())];
+        let text = text.strip_suffix(b"\n").unwrap_or(text);
+        Line {
+            number,
+            begin,
+            text: text.strip_suffix(b"\r").unwrap_or(text),
+        }
+    }
+
+    /// The number of the line that has this byte of the file.
+    pub fn number(&self, place: usize) -> usize {
+        let near = self.near.get();
+        let found = (near..near + 2).find(|number| self.is_in(*number, place));
+        let search = || {
+            self.begins
+                .partition_point(|begin| *begin as usize <= place)
+        };
+        let number = found.unwrap_or_else(search).max(1);
+        self.near.set(number);
+        number
+    }
+
+    /// Whether the line of this number has this byte of the file.
+    fn is_in(&self, number: usize, place: usize) -> bool {
+        let begin = |number: usize| self.begins.get(number).map(|begin| *begin as usize);
+        let is_after = begin(number - 1).is_some_and(|begin| begin <= place);
+        is_after && begin(number).is_none_or(|next| place < next)
+    }
+
+    /// The line and the column of a byte. Columns are characters, the first being 1; a byte that is
+    /// not UTF-8 counts as one.
+    pub fn line_and_column(&self, place: usize) -> (usize, usize) {
+        let line = self.at(place);
+        let before = place.saturating_sub(line.begin).min(line.text.len());
+        let (mark, count) = if before > SHORT {
+            self.mark_before(&line, before)
+        } else {
+            (0, 0)
+        };
+        let column = count + characters(&line.text[mark..before]) + 1;
+        (line.number, column)
+    }
+
+    /// The last mark of a long line that is not behind this place of it.
+    fn mark_before(&self, line: &Line, place: usize) -> (usize, usize) {
+        let mut long = self.long.borrow_mut();
+        if long.begin != line.begin || long.all.is_empty() {
+            *long = Marks::of(line);
+        }
+        let after = long.all.partition_point(|mark| mark.0 as usize <= place);
+        let (mark, count) = long.all[after - 1];
+        (mark as usize, count as usize)
+    }
+
+    /// The same as it is written: `LINE:COLUMN`.
+    pub fn place(&self, place: usize) -> String {
+        let (line, column) = self.line_and_column(place);
+        format!("{line}:{column}")
+    }
+}
+
+impl Marks {
+    fn of(line: &Line) -> Self {
+        let mut all = vec![(0, 0)];
+        let (mut place, mut count) = (0, 0);
+        while place + SHORT <= line.text.len() {
+            // Not inside a character.
+            let is_inner = |byte: &&u8| **byte & 0xC0 == 0x80;
+            let inner = line.text[place + SHORT..].iter().take(3);
+            let length = SHORT + inner.take_while(is_inner).count();
+            count += characters(&line.text[place..place + length]);
+            place += length;
+            all.push((place as u32, count as u32));
+        }
+        Self {
+            begin: line.begin,
+            all,
+        }
+    }
+}
+
+fn characters(text: &[u8]) -> usize {
+    text.utf8_chunks()
+        .map(|chunk| chunk.valid().chars().count() + chunk.invalid().len())
+        .sum()
+}
+
+#[cfg(test)]
+mod tests {
+    use super::*;
+
+    fn seen(file: &[u8]) -> Vec<(usize, usize, String)> {
+        let lines = Lines::of(file).unwrap();
+        (0..=file.len())
+            .map(|place| lines.at(place))
+            .map(|line| {
+                let text = String::from_utf8_lossy(line.text).into_owned();
+                (line.number, line.begin, text)
+            })
+            .collect()
+    }
+
+    #[test]
+    fn places_of_lines() {
+        let first = (1, 0, "a".to_string());
+        let second = (2, 3, String::new());
+        let third = (3, 4, "bc".to_string());
+        let want = [&first, &first, &first, &second, &third, &third, &third];
+        assert!(seen(b"a\r\n\nbc").iter().eq(want));
+    }
+
+    #[test]
+    fn lines_that_end_in_cr_alone() {
+        let first = (1, 0, "a".to_string());
+        let second = (2, 2, "b".to_string());
+        let third = (3, 5, String::new());
+        let want = [&first, &first, &second, &second, &second, &third];
+        assert!(seen(b"a\rb\r\n").iter().eq(want));
+    }
+
+    #[test]
+    fn columns() {
+        let lines = Lines::of("aé\u{301}x\nb\u{fffd}".as_bytes()).unwrap();
+        let all = [0, 1, 3, 5, 6, 7, 8].map(|place| lines.line_and_column(place));
+        assert_eq!(
+            all,
+            [(1, 1), (1, 2), (1, 3), (1, 4), (1, 5), (2, 1), (2, 2)]
+        );
+        assert_eq!(lines.place(3), "1:3");
+    }
+
+    #[test]
+    fn columns_of_long_lines() {
+        let text = "漢é\u{301}x".repeat(500);
+        let lines = Lines::of(text.as_bytes()).unwrap();
+        for (column, (place, _)) in (1..).zip(text.char_indices()) {
+            assert_eq!(lines.line_and_column(place), (1, column));
+        }
+        let bytes = [0xffu8; 3000];
+        let lines = Lines::of(&bytes).unwrap();
+        assert_eq!(lines.line_and_column(2999), (1, 3000));
+    }
+
+    #[test]
+    fn byte_order_mark() {
+        let lines = Lines::of(b"\xef\xbb\xbf@a\n@b").unwrap();
+        let all = [0, 3, 4, 6].map(|place| lines.line_and_column(place));
+        assert_eq!(all, [(1, 1), (1, 1), (1, 2), (2, 1)]);
+        assert_eq!(lines.at(0).text, b"@a");
+    }
+}

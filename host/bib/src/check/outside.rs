@@ -1,0 +1,120 @@
+//! What is wrong outside entries, and in files without any.
+
+use super::encoding::Format;
+use super::finding::{Finding, Lint};
+use super::items::{Item, What};
+use super::text::{entry_outside, field_outside, quoted};
+use super::{Checker, Lines, Stop};
+
+impl<E, S: FnMut(&Finding, &Lines) -> Result<(), E>> Checker<'_, S> {
+    /// Text that belongs to nothing, behind an item of this kind. Comments in it are left out.
+    pub(crate) fn outside(&mut self, item: &Item, before: Option<What>) -> Result<(), Stop<E>> {
+        let mut place = item.span.start;
+        while place < item.span.end {
+            let text = &self.file[place..item.span.end];
+            let comment = text.iter().position(|byte| *byte == b'%');
+            let text = &text[..comment.unwrap_or(text.len())];
+            if let Some(finding) = lost(text, place, before) {
+                return self.say(finding);
+            }
+            place += text.len();
+            let rest = &self.file[place..item.span.end];
+            let line = rest.iter().position(|byte| *byte == b'\n');
+            place += line.unwrap_or(rest.len());
+        }
+        Ok(())
+    }
+
+    pub(crate) fn no_entries(&mut self) -> Result<(), Stop<E>> {
+        let first = self
+            .file
+            .iter()
+            .position(|byte| !byte.is_ascii_whitespace());
+        let Some(first) = first.filter(|_| !self.has_said && self.file != b"\xef\xbb\xbf") else {
+            return Ok(());
+        };
+        let message = "no entries in this file".to_string();
+        let finding = Finding::lint(Lint::NoEntries, first, self.file.len(), message);
+        let hint = self
+            .format
+            .map(Format::hint)
+            .or_else(|| self.comment_without_end());
+        self.say(finding.with_hint(hint))
+    }
+
+    /// Lines that end in CR alone do not end a comment.
+    fn comment_without_end(&self) -> Option<String> {
+        let has = |byte: u8| self.file.contains(&byte);
+        (has(b'%') && has(b'\r') && !has(b'\n')).then(|| {
+            "its lines end in CR alone, so that the first \"%\" makes a comment of all that follows: \
+             try `tr '\\r' '\\n'`"
+                .into()
+        })
+    }
+
+    /// An "@" that begins a line inside an item: strict reading takes it, salvage would cut there.
+    pub(crate) fn cuts(&mut self, item: &Item) -> Result<(), Stop<E>> {
+        if matches!(item.what, What::Outside | What::Damage) {
+            return Ok(());
+        }
+        let text = &self.file[item.span.clone()];
+        let found = text.windows(2).position(|pair| pair == b"\n@");
+        let Some(found) = found else {
+            return Ok(());
+        };
+        let place = item.span.start + found + 1;
+        let key = self.rows.get(item.rows.start + 2);
+        if item.what == What::Entry && key.is_some_and(|key| key.start == place) {
+            // The next entry was taken for the key, which is said of the key.
+            return Ok(());
+        }
+        let (what, hint) = match item.what {
+            What::Comment => ("a comment", COMMENT),
+            What::Definitions => ("an @string", VALUE),
+            What::Preamble => ("a preamble", VALUE),
+            _ => ("an entry", VALUE),
+        };
+        let message = format!("an \"@\" begins a line inside {what}: salvage would cut there");
+        let finding = Finding::lint(Lint::CutInside, place, place + 1, message);
+        self.say(finding.with_hint(Some(hint.into())))
+    }
+}
+
+/// What to do about an "@" that begins a line inside a comment, or a value.
+const COMMENT: &str =
+    "the comment goes on to its first \"}\": if an entry begins here, close it before";
+const VALUE: &str = "put a blank before it, so that damage elsewhere in the file does not reach it";
+
+/// A field or an entry that is lost in this text.
+fn lost(text: &[u8], place: usize, before: Option<What>) -> Option<Finding> {
+    if let Some(span) = entry_outside(text) {
+        let message = format!(
+            "`{}` without an \"@\": the entry is lost",
+            quoted(&text[span.clone()])
+        );
+        let finding = Finding::lint(
+            Lint::EntryOutside,
+            place + span.start,
+            place + span.end,
+            message,
+        );
+        return Some(finding);
+    }
+    let span = field_outside(text)?;
+    let message = format!(
+        "the field `{}` is outside every entry, and lost",
+        quoted(&text[span.clone()])
+    );
+    let hint = match before {
+        Some(What::Entry) => Some("the entry before it may have been closed too early"),
+        Some(What::Comment) => Some("an @comment ends at its first \"}\""),
+        _ => None,
+    };
+    let finding = Finding::lint(
+        Lint::FieldOutside,
+        place + span.start,
+        place + span.end,
+        message,
+    );
+    Some(finding.with_hint(hint.map(String::from)))
+}

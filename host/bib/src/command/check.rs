@@ -1,0 +1,318 @@
+//! `bib check`: for people. What is wrong, with its line and a mark under the place.
+
+use std::collections::HashMap;
+use std::io::{self, BufWriter, Stdout, Write};
+
+use bib::check::{self, Code, Finding, Level, Lines, Lint, Reading, Stop};
+
+use crate::folder;
+use crate::levels::Levels;
+use crate::progress::{room, Progress};
+use crate::report::{Report, Spot};
+use crate::source::Source;
+use crate::style::Style;
+use crate::turns::{Failed, Page, Sink, Turns};
+use crate::words::Asked;
+use crate::{say, Status, Trouble};
+
+/// A file of more bytes waits for its turn, so that one such file is in work at a time: reading
+/// takes up to 24 bytes of memory for each byte.
+const LARGE: usize = 1 << 20;
+
+pub fn check(asked: &Asked, sources: Vec<Source>) -> Result<Status, Trouble> {
+    let (sources, troubles) = folder::expanded(sources);
+    let report = Report {
+        style: Style::of(asked.color),
+        room: room(&io::stdout()),
+        json: asked.json,
+    };
+    let checking = Checking {
+        asked,
+        report,
+        sources: &sources,
+    };
+    for trouble in &troubles {
+        say(trouble);
+    }
+    let results = Results {
+        checking: &checking,
+        out: BufWriter::new(io::stdout()),
+        progress: Progress::new(),
+        tally: Tally {
+            unread: troubles.len(),
+            ..Tally::default()
+        },
+        keys: HashMap::new(),
+    };
+    let mut results = Turns::run(results, sources.len(), |page| checking.file(page))?;
+    results.progress.clear();
+    if results.tally.read > 0 && !asked.json && !asked.quiet {
+        writeln!(results.out, "{}", results.tally.summary())?;
+    }
+    results.out.flush()?;
+    Ok(results.tally.status(&asked.levels))
+}
+
+/// What all files are checked by.
+struct Checking<'a> {
+    asked: &'a Asked,
+    report: Report,
+    sources: &'a [Source],
+}
+
+/// What was found in a file.
+#[derive(Default)]
+struct Outcome {
+    entries: usize,
+    errors: usize,
+    warnings: usize,
+    keys: Vec<Key>,
+    /// What kept it from being checked to its end.
+    trouble: Option<String>,
+}
+
+/// A key, and where it is.
+struct Key {
+    text: Vec<u8>,
+    start: usize,
+    line: usize,
+    column: usize,
+}
+
+impl Checking<'_> {
+    fn file(&self, page: &mut Page<Results>) -> Result<Outcome, Failed> {
+        let source = &self.sources[page.index];
+        let file = match source.file() {
+            Ok(file) => file,
+            Err(Trouble::Input(what)) => return Ok(Outcome::not_read(what)),
+            Err(_) => return Err(Failed),
+        };
+        if file.len() > LARGE {
+            page.wait()?;
+        }
+        let mut outcome = Outcome::default();
+        let checked = self.findings(&file, page, &mut outcome);
+        match checked {
+            Ok(()) => Ok(outcome),
+            Err(Stop::Refused(_)) => {
+                outcome.trouble = Some(source.beyond_memory("check"));
+                Ok(outcome)
+            }
+            Err(Stop::Caller(failed)) => Err(failed),
+        }
+    }
+
+    fn findings(
+        &self,
+        file: &[u8],
+        page: &mut Page<Results>,
+        outcome: &mut Outcome,
+    ) -> Result<(), Stop<Failed>> {
+        let source = &self.sources[page.index];
+        let print = |finding: &Finding, lines: &Lines| {
+            let Some(level) = self.asked.levels.of(finding) else {
+                return Ok(());
+            };
+            outcome.count(level);
+            if self.asked.quiet {
+                return Ok(());
+            }
+            page.write(&self.report.finding(source, finding, level, lines))
+        };
+        let reading = Reading::of(file);
+        let counts = check::check_reading(file, &reading, print)?;
+        outcome.entries = counts.entries;
+        if let Ok(reading) = &reading {
+            outcome.keys = self.keys(file, reading)?;
+        }
+        Ok(())
+    }
+
+    /// The keys, where those of several files are compared.
+    fn keys(&self, file: &[u8], reading: &Reading) -> Result<Vec<Key>, Stop<Failed>> {
+        let mut keys = Vec::new();
+        if self.sources.len() < 2 || self.asked.levels.of_lint(Lint::KeyInTwoFiles).is_none() {
+            return Ok(keys);
+        }
+        let lines = Lines::of(file)?;
+        for (key, start) in check::keys(file, &reading.rows) {
+            let (line, column) = lines.line_and_column(start);
+            let mut text = Vec::new();
+            text.try_reserve_exact(key.len())?;
+            text.extend_from_slice(key);
+            keys.try_reserve(1)?;
+            keys.push(Key {
+                text,
+                start,
+                line,
+                column,
+            });
+        }
+        Ok(keys)
+    }
+}
+
+impl Outcome {
+    fn count(&mut self, level: Level) {
+        match level {
+            Level::Error => self.errors += 1,
+            Level::Warning => self.warnings += 1,
+        }
+    }
+
+    fn not_read(what: String) -> Self {
+        Self {
+            trouble: Some(what),
+            ..Self::default()
+        }
+    }
+}
+
+/// What is printed and counted, in the order of the files.
+struct Results<'a> {
+    checking: &'a Checking<'a>,
+    out: BufWriter<Stdout>,
+    progress: Progress,
+    tally: Tally,
+    /// Where a key was seen first: the file's number, line and column.
+    keys: HashMap<Vec<u8>, (usize, usize, usize)>,
+}
+
+impl Sink for Results<'_> {
+    type Outcome = Outcome;
+
+    fn part(&mut self, index: usize, part: &[u8]) -> io::Result<()> {
+        let sources = self.checking.sources;
+        let line = || {
+            format!(
+                "checking {} of {}: {}",
+                index + 1,
+                sources.len(),
+                sources[index]
+            )
+        };
+        self.progress.pass(line, !part.is_empty());
+        self.out.write_all(part)
+    }
+
+    fn end(&mut self, index: usize, mut outcome: Outcome) -> io::Result<()> {
+        let keys = std::mem::take(&mut outcome.keys);
+        for key in keys {
+            self.key(index, key, &mut outcome)?;
+        }
+        self.tally.add(&outcome);
+        if let Some(what) = outcome.trouble {
+            // Findings come before what the next file makes appear on standard error.
+            self.out.flush()?;
+            self.progress.clear();
+            say(&what);
+        }
+        Ok(())
+    }
+}
+
+impl Results<'_> {
+    /// A key that another file has too is a finding.
+    fn key(&mut self, index: usize, key: Key, outcome: &mut Outcome) -> io::Result<()> {
+        let Checking {
+            asked,
+            report,
+            sources,
+        } = self.checking;
+        if self.keys.try_reserve(1).is_err() {
+            let what = sources[index].beyond_memory("compare the keys of");
+            outcome.trouble = Some(what);
+            return Ok(());
+        }
+        let place = (index, key.line, key.column);
+        let first = *self.keys.entry(key.text.clone()).or_insert(place);
+        let level = asked.levels.of_lint(Lint::KeyInTwoFiles);
+        let Some(level) = level.filter(|_| first.0 != index) else {
+            return Ok(());
+        };
+        outcome.count(level);
+        if asked.quiet {
+            return Ok(());
+        }
+        let other = format!("{}:{}:{}", sources[first.0], first.1, first.2);
+        let spot = Spot {
+            source: &sources[index],
+            line: key.line,
+            column: key.column,
+        };
+        let text = report.bare(&spot, &key.finding(&other), level);
+        self.out.write_all(text.as_bytes())
+    }
+}
+
+impl Key {
+    /// That the key is at another place too.
+    fn finding(&self, other: &str) -> Finding {
+        let text = String::from_utf8_lossy(&self.text).into_owned();
+        Finding {
+            code: Code::Lint(Lint::KeyInTwoFiles),
+            start: self.start,
+            end: self.start + self.text.len(),
+            mark: self.start,
+            message: format!("the key {text} is in {other} too"),
+            hint: None,
+            key: Some(text),
+        }
+    }
+}
+
+/// What was found in all files so far.
+#[derive(Default)]
+struct Tally {
+    entries: usize,
+    errors: usize,
+    warnings: usize,
+    /// Files that were read, those of them with findings, and those that were not read.
+    read: usize,
+    found: usize,
+    unread: usize,
+}
+
+impl Tally {
+    fn add(&mut self, outcome: &Outcome) {
+        if outcome.trouble.is_some() {
+            self.unread += 1;
+        } else {
+            self.read += 1;
+        }
+        self.entries += outcome.entries;
+        self.errors += outcome.errors;
+        self.warnings += outcome.warnings;
+        self.found += usize::from(outcome.errors + outcome.warnings > 0);
+    }
+
+    fn status(&self, levels: &Levels) -> Status {
+        if self.unread > 0 {
+            Status::Trouble
+        } else if self.errors > 0 || levels.strict && self.warnings > 0 {
+            Status::Findings
+        } else {
+            Status::Sound
+        }
+    }
+
+    fn summary(&self) -> String {
+        let mut text = format!(
+            "{} sound, {}, {}",
+            counted(self.entries, "entry", "entries"),
+            counted(self.errors, "error", "errors"),
+            counted(self.warnings, "warning", "warnings")
+        );
+        if self.read > 1 {
+            text += &format!("; findings in {} of {} files", self.found, self.read);
+        }
+        if self.unread > 0 {
+            text += &format!("; {} not read", counted(self.unread, "file", "files"));
+        }
+        text
+    }
+}
+
+fn counted(n: usize, one: &str, many: &str) -> String {
+    format!("{n} {}", if n == 1 { one } else { many })
+}

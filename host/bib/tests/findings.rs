@@ -1,0 +1,657 @@
+//! What the library finds in files: every lint and every hint, with a file that it is for and one
+//! where it must not appear.
+
+use bib::check::{check, Code, Counts, Finding, Level, Lint, Stop, LINTS};
+
+/// All findings, each with its line and column.
+fn findings(file: &[u8]) -> Vec<(String, Finding)> {
+    let mut seen = Vec::new();
+    let checked = check(file, |finding, lines| {
+        seen.push((lines.place(finding.mark), finding.clone()));
+        Ok::<(), ()>(())
+    });
+    assert!(checked.is_ok(), "{checked:?}");
+    seen
+}
+
+/// The lints found, with their places.
+fn lints(file: &str) -> Vec<(Lint, String)> {
+    let found = findings(file.as_bytes()).into_iter();
+    let lint = |(place, finding): (String, Finding)| match finding.code {
+        Code::Lint(lint) => Some((lint, place)),
+        Code::Refusal(_) => None,
+    };
+    found.filter_map(lint).collect()
+}
+
+/// A lint is found in one file at this place, alone, and in the other not at all.
+#[track_caller]
+fn lint(lint: Lint, file: &str, place: &str, without: &str) {
+    assert_eq!(lints(file), [(lint, place.to_string())], "{file}");
+    assert_eq!(lints(without), [], "{without}");
+}
+
+#[test]
+fn lints_outside() {
+    let lost = "@book{k, title = {T}, year = 1997},\n  month = jan,\n}";
+    let prose = "see where x = 3, by {Knuth, D.}\n% year = 1997\n@book{k, title = {T}}";
+    lint(Lint::FieldOutside, lost, "2:3", prose);
+    let lost = "article{knuth84,\n  title = {T}\n}\n@book{k, title = {T}}";
+    lint(
+        Lint::EntryOutside,
+        lost,
+        "1:1",
+        "some {words, here}\n@book{k, title = {T}}",
+    );
+    lint(Lint::NoEntries, "to be done", "1:1", " \n\t");
+    assert_eq!(lints("@string{a = 1}"), []);
+    assert_eq!(lints("@preamble{\"x\"}"), []);
+    assert_eq!(lints("\u{feff}"), []);
+    assert_eq!(lints("% nothing\n"), [(Lint::NoEntries, "1:1".into())]);
+}
+
+#[test]
+fn lints_of_keys() {
+    let twice = "@book{k, title = {A}}\n@book{k, title = {B}}";
+    lint(
+        Lint::DuplicateKey,
+        twice,
+        "2:7",
+        "@book{k, a = 1}\n@book{K, a = 1}",
+    );
+    assert_eq!(
+        findings(twice.as_bytes())[0].1.message,
+        "the key k is that of another entry, at 1:7"
+    );
+    lint(
+        Lint::EmptyKey,
+        "@book{, title = {T}}",
+        "1:7",
+        "@book{k, title = {T}}",
+    );
+    lint(
+        Lint::OddKey,
+        "@book{year=1997, title = {T}}",
+        "1:7",
+        "@book{abnt-doi=link, title = {T}}",
+    );
+    // Strict reading takes the second entry's beginning for a key.
+    lint(
+        Lint::OddKey,
+        "@book{\n@book{k, title = {T}}",
+        "2:1",
+        "@book{k,\n}",
+    );
+    // Empty keys are not the same key.
+    let both = [
+        (Lint::EmptyKey, "1:7".into()),
+        (Lint::EmptyKey, "2:7".into()),
+    ];
+    assert_eq!(lints("@book{, a = 1}\n@book{, a = 1}"), both);
+}
+
+#[test]
+fn lints_of_fields_and_definitions() {
+    let twice = "@book{k, year = 1996,\n  Year = 1997}";
+    lint(
+        Lint::DuplicateField,
+        twice,
+        "2:3",
+        "@book{k, year = 1996}\n@book{l, year = 1996}",
+    );
+    let twice = "@string{a = 1, b = 2}\n@string{b = 3}";
+    lint(
+        Lint::DuplicateDefinition,
+        twice,
+        "2:9",
+        "@string{a = 1}\n@string{A = 1}",
+    );
+}
+
+#[test]
+fn lints_of_values() {
+    let late = "@book{k,\n  title = {T,\n  year = {1997}}\n}";
+    lint(
+        Lint::LateClose,
+        late,
+        "2:11",
+        "@book{k,\n  title = {T},\n  year = {1997}\n}",
+    );
+    let late = "@book{k,\n  title = \"T,\n  year = 1997,\n  note = \"\n}";
+    lint(
+        Lint::LateClose,
+        late,
+        "2:11",
+        "@book{k, note = {where\nx = y + z}}",
+    );
+}
+
+#[test]
+fn lints_of_lists_and_quotes() {
+    lint(
+        Lint::AndList,
+        "@book{k, author = {A and}}",
+        "1:22",
+        "@book{k, author = {A and B}}",
+    );
+    lint(
+        Lint::AndList,
+        "@book{k, Editor = {and A}}",
+        "1:20",
+        "@book{k, title = {and A}}",
+    );
+    lint(
+        Lint::AndList,
+        "@book{k, author = \"A and and B\"}",
+        "1:26",
+        "@book{k, author = {A and others}}",
+    );
+    // What is joined may have its names elsewhere.
+    assert_eq!(lints("@book{k, author = {A and } # b}"), []);
+    assert_eq!(lints("@book{k, author = b # { and A}}"), []);
+    lint(
+        Lint::TypographicQuotes,
+        "@book{k, title = “T”}",
+        "1:18",
+        "@book{k, title = {“T”}}",
+    );
+}
+
+/// Strict reading takes the file, so that nothing is damaged.
+#[test]
+fn lint_of_cuts() {
+    let cut = "@book{k, abstract = {mail me\n@home}}\n@book{l, a = 1}";
+    lint(
+        Lint::CutInside,
+        cut,
+        "2:1",
+        "@book{k, abstract = {mail me\n @home}}",
+    );
+    assert!(findings(cut.as_bytes())
+        .iter()
+        .all(|(_, finding)| finding.level() == Level::Warning));
+    lint(
+        Lint::CutInside,
+        "@comment{\n@book{k,}\n@book{l,}",
+        "2:1",
+        "@comment{\n}\n@book{l,}",
+    );
+    // Where it refuses, there is damage instead.
+    assert_eq!(lints("@book{k, abstract = {mail me\n@home}}\n@book{l"), []);
+}
+
+#[test]
+fn lint_of_encoding() {
+    let file = "@book{k, title = {\u{1b}$B4A;z\u{1b}(B}}";
+    lint(
+        Lint::Encoding,
+        file,
+        "1:19",
+        "@book{k, title = {\u{1b}[2J}}",
+    );
+}
+
+/// What `bib check --list` shows of a lint has just that lint.
+#[test]
+fn examples_of_lints() {
+    for about in &LINTS {
+        // One file alone does not have it.
+        let want = Some(about.lint).filter(|lint| *lint != Lint::KeyInTwoFiles);
+        let found: Vec<Lint> = lints(about.example)
+            .into_iter()
+            .map(|(lint, _)| lint)
+            .collect();
+        assert!(found.iter().copied().eq(want), "{}: {found:?}", about.name);
+    }
+}
+
+/// The hints of all findings.
+fn hints(file: &str) -> Vec<String> {
+    let found = findings(file.as_bytes()).into_iter();
+    found.filter_map(|(_, finding)| finding.hint).collect()
+}
+
+/// A hint, a file that it is for, and one like it where it must not appear.
+const HINTS: [(&str, &str, &str); 50] = [
+    (
+        "the entry has no key: write `@article{KEY,` before its first field",
+        "@article{\n  author = {A},\n}",
+        "@article{author,\n  author = {A,\n}",
+    ),
+    (
+        "the entry has no key: write `@article{KEY,` before its first field",
+        "@article{author={A. Author}, title={T}}",
+        "@article{k1=2, title}",
+    ),
+    (
+        "typographic quotation marks delimit nothing: write \"..\" or {..}",
+        "@book{k, title = “A B”}",
+        "@book{k, title = A “B”}",
+    ),
+    (
+        "a value that is not one number or one name stands in braces: write {12--34}",
+        "@book{k, pages = 12--34, year = 1}",
+        "@book{k, pages = {12--34} year = 1}",
+    ),
+    (
+        "a value that is not one number or one name stands in braces: write {1.2.3}",
+        "@book{k, number = 1.2.3}",
+        "@book{k, number = {1.2.3}, x}",
+    ),
+    (
+        "BibTeX also takes ( and ) as delimiters, but this reader does not: write { and }",
+        "@book(k, title = {T})",
+        "@book[k, title = (T)]",
+    ),
+    (
+        "BibTeX joins strings by # here, but this reader does not: write one string, or another @preamble",
+        "@preamble{\"a\" # \"b\"}",
+        "@preamble{\"a\" + \"b\"}",
+    ),
+    (
+        "BibTeX also takes a preamble in braces, but this reader does not: write @preamble{\"..\"}",
+        "@preamble{{a}}",
+        "@preamble{a}",
+    ),
+    (
+        "one comment may stand here, and this reader refuses a second in a row: make one of them",
+        "@book{k, % a\n % b\n title = {T}}",
+        "@book{k, % a\n = {T}}",
+    ),
+    (
+        "BibTeX takes a quotation mark inside braces inside quotation marks, but this reader ends the value there: write the value in braces",
+        "@book{k, title = \"A {\"B\"} C\"}",
+        "@book{k, title = \"A {B} \"C}",
+    ),
+    (
+        "a quotation mark inside the value ends it: write the value in braces",
+        "@book{k, title = \"A \"B\" C\"}",
+        "@book{k, title = {A} \"B\"}",
+    ),
+    (
+        "the backslash at 2:20 keeps the `}` behind it from closing the value: write `/` for it, or a blank behind it",
+        "@book{k,\n  file = {C:\\papers\\},\n  year = 1997\n}",
+        "@book{k,\n  file = {C:\\papers,\n  title = {\\}}",
+    ),
+    (
+        "this looks like HTML or XML: perhaps a web page was saved in place of the file",
+        "<!DOCTYPE html>\n<p>\n",
+        "< not HTML",
+    ),
+    ("this looks like JSON, not BibTeX", "{\"items\": []}", "{ items }"),
+    ("this looks like RIS, not BibTeX", "TY  - JOUR\nER  -\n", "TYPE\n"),
+    (
+        "its lines end in CR alone, so that the first \"%\" makes a comment of all that follows: try `tr '\\r' '\\n'`",
+        "% mine\r@book{k, title = {T}}\r",
+        "% mine\r\n",
+    ),
+    (
+        "the brace opened at 2:11 may lack its `}`",
+        "@book{k,\n  title = {T,\n  year = 1997\n}\n",
+        "@book{k,\n  title = {T},\n  year = 1997\n",
+    ),
+    (
+        "the brace opened at 2:11 may lack its `}`",
+        "@book{k,\n  title = {T,\n  year = {1997\n}\n",
+        "@book{k,\n  title = {T}\n  year = {1997}\n}\n",
+    ),
+    (
+        "the quotation mark opened at 2:11 may lack its closing one",
+        "@book{k,\n  title = \"T,\n  year = \"1997\"\n}\n",
+        "@book{k,\n  title = \"T\" x,\n  year = \"1997\"\n}\n",
+    ),
+    ("its closing `}` is missing", "@book{k,\n  title = {T}\n", "@book{k\n  title = {T}\n}"),
+    (
+        "a comma is missing behind the value of `title`",
+        "@book{k,\n  title = {T}\n  year = 1997\n}",
+        "@book{k,\n  title = {T} year = 1997\n}",
+    ),
+    (
+        "a comma is missing behind the key k",
+        "@book{k\n  title = {T}\n}",
+        "@book{k l, title = {T}}",
+    ),
+    (
+        "a key has no blanks in it: it ends behind Smith",
+        "@book{Smith 2001, title = {T}}",
+        "@book{Smith title = {T}}",
+    ),
+    (
+        "BibTeX takes an entry without fields so, but this reader wants a comma: write `{k,}`",
+        "@book{k}",
+        "@book{k; l}",
+    ),
+    (
+        "outside entries an \"@\" begins an entry, in running text too: put the text behind a \"%\"",
+        "mail me@example.org\n@book{k,}",
+        "@example.org\n@book{k,}",
+    ),
+    (
+        "BibTeX takes an @comment without braces, but this reader does not: write @comment{..}",
+        "@Comment LocalWords: a b\n@book{k,}",
+        "@commentary LocalWords: a b\n@book{k,}",
+    ),
+    (
+        "entry k (line 1) is not closed before this \"@\"",
+        "@book{k, title = {T}\n  @book{l, title = {T}}",
+        "@book{k, title = {T}\n  book{l, title = {T}}",
+    ),
+    (
+        "the field `title` has no value: write `title = {}`, or take it out",
+        "@book{k, title = , year = 1997}",
+        "@book{k, title = ~, year = 1997}",
+    ),
+    (
+        "if this belongs to the value before, the brace at 1:20 closed it too early",
+        "@book{k, title = {A} B}, year = 1997}",
+        "@book{k, title = A B, year = 1997}",
+    ),
+    (
+        "the name of a field has no blanks in it",
+        "@book{k, date added = {T}}",
+        "@book{k, date {T}}",
+    ),
+    (
+        "its closing `\"}` is missing",
+        "@preamble{\n@book{k,}",
+        "@string{a = 1\n@book{k,}",
+    ),
+    (
+        "the backslash at 2:20 keeps the `\"` behind it from closing the value: write `/` for it, or a blank behind it",
+        "@book{k,\n  file = \"C:\\papers\\\",\n  year = 1997\n}",
+        "@book{k,\n  file = \"C:\\papers\\\\,\n  year = 1997\n}",
+    ),
+    (
+        "a key has no control characters in it",
+        "@book{a\u{1b}b, title = {T}}",
+        "@book{a\tb, title = {T}}",
+    ),
+    (
+        "entry k (line 1) is not closed before this \"@\"",
+        "@book{k, title = {T},\n  @book{l, title = {T}}",
+        "@book{k, title = {T},\n  !book{l, title = {T}}",
+    ),
+    (
+        "there is a comma too many",
+        "@book{k, title = {T},, year = 1997}",
+        "@book{k, title = {T}, # year = 1997}",
+    ),
+    ("the field has no name", "@book{k, = {T}}", "@book{k, \"T\"}"),
+    (
+        "an equals sign is missing behind `title`",
+        "@book{k, title {T}}",
+        "@book{k, title, year = 1997}",
+    ),
+    (
+        "the field `title` has no value",
+        "@book{k, title, year = 1997}",
+        "@book{k, title {T}}",
+    ),
+    (
+        "a value stands in braces or quotation marks, or is one number or one name",
+        "@book{k, title = 'T'}",
+        "@book{k, title = }",
+    ),
+    (
+        "the comment goes on to its first \"}\": if an entry begins here, close it before",
+        "@comment{\n@book{k,}\n@book{l,}",
+        "@book{k, t = {\n@book}}",
+    ),
+    (
+        "put a blank before it, so that damage elsewhere in the file does not reach it",
+        "@book{k, t = {\n@book}}",
+        "@comment{\n@book{k,}\n@book{l,}",
+    ),
+    (
+        "the entry before it may have been closed too early",
+        "@book{k, a = 1}, b = 2}",
+        "b = 2\n@book{k, a = 1}",
+    ),
+    (
+        "an @comment ends at its first \"}\"",
+        "@comment{ a = {1},\n b = {2} }\n@book{k,}",
+        "@book{k, a = 1}, b = 2}",
+    ),
+    (
+        "the last definition counts, for uses before it too",
+        "@string{a = 1}\n@string{a = 2}",
+        "@book{k, a = 1, a = 2}",
+    ),
+    (
+        "the brace that opens the value may be closed too late",
+        "@book{k,\n  a = {A,\n  b = {B}}\n}",
+        "@book{k,\n  a = \"A,\n  b = {B}\"\n}",
+    ),
+    (
+        "the quotation mark that opens the value may be closed too late",
+        "@book{k,\n  a = \"A,\n  b = {B}\"\n}",
+        "@book{k,\n  a = {A,\n  b = {B}}\n}",
+    ),
+    (
+        "the entry before it was begun and not closed",
+        "@book{\n@book{k, a = 1}",
+        "@book{year=1997, a = 1}",
+    ),
+    (
+        "put a key and a comma before it",
+        "@book{year=1997, a = 1}",
+        "@book{\n@book{k, a = 1}",
+    ),
+    (
+        "typographic quotation marks delimit nothing: write \"..\" or {..}",
+        "@book{k, title = “T”}",
+        "@book{k, title = {“T”}, title = {T}}",
+    ),
+    (
+        "perhaps it is ISO-2022-JP: try `iconv -f ISO-2022-JP -t UTF-8`",
+        "@book{k, a = {\u{1b}$B4A;z\u{1b}(B}}",
+        "@book{k, a = {\u{1b}[2J}, a = 1}",
+    ),
+];
+
+#[test]
+fn hints_where_they_belong() {
+    for (hint, file, without) in HINTS {
+        assert_eq!(hints(file), [hint], "{file}");
+        assert!(!hints(without).contains(&hint.to_string()), "{without}");
+        assert_ne!(
+            findings(without.as_bytes()),
+            [],
+            "nothing is wrong in {without}"
+        );
+    }
+}
+
+/// Files, and where and how the commonest mistakes in them are said.
+const ERRORS: [(&str, &str, &str); 10] = [
+    (
+        "@a{k,\n  t = {x}\n  u = {y}\n}",
+        "2:10",
+        "expected a comma, in entry k (line 1)",
+    ),
+    (
+        "@a{k, t = {x\n\n@c{k,}",
+        "1:11",
+        "entry k (line 1) is not closed",
+    ),
+    (
+        "\n@a{k,\n  t = {x\n\n@c{k,}",
+        "3:7",
+        "entry k (line 2) is not closed",
+    ),
+    (
+        "@a{k,\n  t = {x}\n\n@c{k,}",
+        "1:1",
+        "entry k (line 1) is not closed",
+    ),
+    (
+        "@a{k,}\n@string{b = {x}\n",
+        "2:1",
+        "@string (line 2) is not closed",
+    ),
+    ("@comment{ x\n", "1:1", "@comment (line 1) is not closed"),
+    (
+        "@preamble{\"x\n",
+        "1:11",
+        "@preamble (line 1) is not closed",
+    ),
+    ("@a{x\n@b{k,}", "1:1", "entry x (line 1) is not closed"),
+    ("@a", "1:3", "expected an opening brace"),
+    ("@a{k,} @b{l, t = }", "1:18", "expected a value, in entry l"),
+];
+
+#[test]
+fn places_of_errors() {
+    for (file, place, message) in ERRORS {
+        let found = findings(file.as_bytes());
+        assert_eq!(
+            (found[0].0.as_str(), found[0].1.message.as_str()),
+            (place, message),
+            "{file}"
+        );
+    }
+}
+
+/// The number and the bytes are those of the row, wherever the mark is.
+#[test]
+fn numbers_and_bytes() {
+    let file = b"@a{k,\n  t = {x}\n  u = {y}\n}\n@b{k, t = {x\n\n@c{k,}";
+    let rows = bib::salvage(file).unwrap();
+    let causes = rows.iter().filter(|row| row.kind == bib::Kind::Cause);
+    let found = findings(file);
+    assert_eq!(found.len(), 2);
+    for ((_, finding), cause) in found.iter().zip(causes) {
+        assert_eq!((finding.start, finding.end), (cause.start, cause.end));
+        assert!(matches!(finding.code, Code::Refusal(reason) if reason.number() == cause.detail));
+        assert_eq!(
+            (finding.level(), finding.key.as_deref()),
+            (Level::Error, Some("k"))
+        );
+    }
+}
+
+/// One finding for the file, and the others as they are.
+#[test]
+fn encodings() {
+    let latin = b"@a{k, t = {G\xfcnther}}\n@b{l, t = {M\xfcller}}\n@c{m, t = }";
+    let found = findings(latin);
+    let messages: Vec<&str> = found
+        .iter()
+        .map(|(_, finding)| finding.message.as_str())
+        .collect();
+    assert_eq!(
+        messages,
+        [
+            "bytes that are not UTF-8, in 2 pieces of the file, of which this is the first",
+            "expected a value, in entry m"
+        ]
+    );
+    assert_eq!(found[0].0, "1:13");
+    let hint = |file: &[u8]| findings(file)[0].1.hint.clone().unwrap_or_default();
+    assert!(hint(latin).ends_with("try `iconv -f WINDOWS-1252 -t UTF-8`"));
+    let cyrillic = b"@a{k, t = {\xcf\xf0\xe8\xe2\xe5\xf2}}";
+    assert!(hint(cyrillic).ends_with("try `iconv -f WINDOWS-1251 -t UTF-8`"));
+    let utf16: Vec<u8> = "@a{k,}\n@b{l,}"
+        .encode_utf16()
+        .flat_map(u16::to_le_bytes)
+        .collect();
+    assert!(hint(&utf16).ends_with("try `iconv -f UTF-16 -t UTF-8`"));
+    assert!(hint(&[b"\xff\xfe", &utf16[..]].concat()).ends_with("try `iconv -f UTF-16 -t UTF-8`"));
+    assert_eq!(findings(&utf16).len(), 1);
+    let one = findings(b"@a{k, t = {G\xfc}}");
+    assert_eq!(one[0].1.message, "bytes that are not UTF-8, in entry k");
+    assert_eq!(one[0].1.key.as_deref(), Some("k"));
+}
+
+#[test]
+fn counts_and_stops() {
+    let counts = check(b"@a{k,}\n@b{x\n@c{l,}", |_, _| Ok::<(), ()>(()));
+    let want = Counts {
+        entries: 2,
+        damaged: 1,
+    };
+    assert_eq!(counts, Ok(want));
+    let stopped = check(b"@a{\n@b{\n", |finding, _| Err(finding.start));
+    assert_eq!(stopped, Err(Stop::Caller(4)));
+    let long = vec![b' '; bib::MOST_BYTES + 1];
+    assert_eq!(
+        findings(&long)[0].1.code,
+        Code::Refusal(bib::Reason::TooLong)
+    );
+}
+
+/// The table of README.md: what BibTeX takes and this reader refuses, and what to write instead.
+#[test]
+fn valid_bibtex_that_is_refused() {
+    let pairs = [
+        ("@book(k, title = {T})", "@book{k, title = {T}}"),
+        ("@book{k}", "@book{k,}"),
+        ("@preamble{\"a\" # \"b\"}", "@preamble{\"ab\"}"),
+        ("@preamble{{a}}", "@preamble{\"a\"}"),
+        (
+            "@book{k, title = \"The {\"Big\"} Book\"}",
+            "@book{k, title = {The {\"Big\"} Book}}",
+        ),
+        ("@comment some words", "@comment{some words}"),
+    ];
+    for (refused, accepted) in pairs {
+        assert!(!bib::accepts(refused.as_bytes()), "{refused}");
+        assert!(bib::accepts(accepted.as_bytes()), "{accepted}");
+        assert!(hints(refused)[0].starts_with("BibTeX "), "{refused}");
+    }
+}
+
+/// No bytes make it fail, and every place is one of the file.
+#[test]
+fn any_bytes() {
+    const PARTS: [&[u8]; 24] = [
+        b"@a{k,",
+        b"@string{",
+        b"@comment{",
+        b"@preamble{\"",
+        b"}",
+        b"\n",
+        b"\r",
+        b"\"",
+        b"{",
+        b"=",
+        b",",
+        b"%",
+        b"\\",
+        b" and ",
+        b"author = {",
+        b"a = 1",
+        b"\xff",
+        b"\xe2\x82",
+        b"\0",
+        b"\x1b$B",
+        "\u{feff}".as_bytes(),
+        "“".as_bytes(),
+        b"1.2",
+        b"@",
+    ];
+    let mut state = 5u64;
+    let mut draw = |below: usize| {
+        state = state
+            .wrapping_mul(6364136223846793005)
+            .wrapping_add(1442695040888963407);
+        (state >> 33) as usize % below
+    };
+    for _ in 0..100_000 {
+        let length = draw(16);
+        let file: Vec<u8> = (0..length)
+            .flat_map(|_| PARTS[draw(PARTS.len())])
+            .copied()
+            .collect();
+        for (_, finding) in findings(&file) {
+            assert!(
+                finding.start <= finding.end && finding.end <= file.len(),
+                "{file:?}"
+            );
+            assert!(
+                finding.mark <= file.len() && !finding.message.is_empty(),
+                "{file:?}"
+            );
+        }
+    }
+}
