@@ -6,7 +6,7 @@ use mathlib.Core.Path.{_≡_, refl}
 use mathlib.Core.Bool.{true}
 use mathlib.Core.List.{List, [], _∷_}
 use borrow.Author.Tests.{le-leb}
-use Rattle.raw.specs.Row.{Row}
+use Rattle.row.specs.Row.{Row}
 use Rattle.raw.specs.Read.{mostBytes}
 use Rattle.rows.specs.Seven.{spanFits, every}
 use Rattle.rows.proofs.Inverse.{flat-packable}

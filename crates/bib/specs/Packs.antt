@@ -5,7 +5,7 @@ use mathlib.Core.Path.{_≡_}
 use mathlib.Core.Bool.{true}
 use mathlib.Core.List.{List}
 use lib.ListN.{length}
-use Rattle.raw.specs.Row.{flat}
+use Rattle.row.specs.Row.{flat}
 use Rattle.raw.specs.Read.{mostBytes}
 use Rattle.salvage.specs.Salvage.{salvageOf}
 use Rattle.rows.specs.Pack.{isPackable}

@@ -8,8 +8,8 @@ use mathlib.Core.Bool.{true, false}
 use mathlib.Core.List.{List, _++_}
 use lib.ListN.{length, drop}
 use borrow.Author.Tests.{le-leb, lt-leb}
-use Rattle.raw.specs.Row.{flat}
-use Rattle.raw.specs.Numbers.{rowsOf}
+use Rattle.row.specs.Row.{flat}
+use Rattle.row.specs.Numbers.{rowsOf}
 use Rattle.rows.specs.declared.fault.RowFault.the-variants.{BadRows, NoRoom}
 use Rattle.rows.specs.declared.pack.Packed.the-variants as packed
 use Rattle.rows.specs.declared.unpack.Unpacked.the-variants as unpacked

@@ -12,15 +12,15 @@ use mathlib.Core.List.{List, [], _∷_}
 use lib.ListN.{length, drop}
 use lib.Dec.{eqb, leb}
 use borrow.Author.Tests.{leb-true, eqb-true, ne-eqb}
-use Rattle.raw.specs.declared.mask.Masks.{Masks}
-use Rattle.raw.specs.Row.{Row}
+use Rattle.row.specs.declared.mask.Masks.{Masks}
+use Rattle.row.specs.Row.{Row}
 use Rattle.raw.specs.Read.{mostBytes}
-use Rattle.raw.specs.Rules.{Await, part, run, whole, isRows}
-use Rattle.raw.specs.Numbers.{rowsOf, isSound}
-use Rattle.raw.specs.Masks.{masksOf, stepOf, endsOf}
-use Rattle.raw.proofs.Numbers.{rowAt, rows-next}
-use Rattle.raw.proofs.Masks.{afterRow, masks-step, masks-whole}
-use Rattle.raw.proofs.Halves.{AllSmall, rules-small}
+use Rattle.row.specs.Rules.{Await, part, run, whole, isRows}
+use Rattle.row.specs.Numbers.{rowsOf, isSound}
+use Rattle.row.specs.Masks.{masksOf, stepOf, endsOf}
+use Rattle.row.proofs.Numbers.{rowAt, rows-next}
+use Rattle.row.proofs.Masks.{afterRow, masks-step, masks-whole}
+use Rattle.row.proofs.Halves.{AllSmall, rules-small}
 use Rattle.rows.specs.Seven.{unpacking, endFits, spanFits, every, Fits}
 use Rattle.rows.specs.Pack.{isPackable}
 use Rattle.rows.specs.Unpack.{isUnpackable}

@@ -14,10 +14,10 @@ use mathlib.Core.List.{List, [], _∷_, _++_}
 use lib.ListN.{length}
 use lib.Dec.{eqb, leb}
 use borrow.Author.Tests.{le-leb, eqb-true}
-use Rattle.raw.specs.Row.{Row, flat}
+use Rattle.row.specs.Row.{Row, flat}
 use Rattle.raw.specs.Read.{mostBytes}
-use Rattle.raw.specs.Rules.{isRows}
-use Rattle.raw.specs.Numbers.{rowsOf, isSound}
+use Rattle.row.specs.Rules.{isRows}
+use Rattle.row.specs.Numbers.{rowsOf, isSound}
 use Rattle.rows.specs.Big.{big, ofBig, span, Bytes}
 use Rattle.rows.specs.Seven.{packRow, packing, unpackRow, unpacking, endFits, spanFits, every, Fits}
 use Rattle.rows.specs.Pack.{isPackable}

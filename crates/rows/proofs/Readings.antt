@@ -13,7 +13,7 @@ use lib.Dec.{leb}
 use borrow.Author.Tests.{le-leb, leb-true}
 use Rattle.raw.specs.declared.fault.Fault.the-variants as fault
 use Rattle.raw.specs.declared.fault.Reading.the-variants as reading
-use Rattle.raw.specs.Row.{Row, flat}
+use Rattle.row.specs.Row.{Row, flat}
 use Rattle.raw.specs.Reader.{Out, ok, again, bad}
 use Rattle.raw.specs.Read.{strict, mostBytes, readingOut, leftOut, Read}
 use Rattle.raw.specs.Strict.{Spans}

@@ -7,9 +7,9 @@ use mathlib.Core.Bool.{true}
 use mathlib.Core.List.{List, _++_}
 use lib.ListN.{length, take, drop}
 use lib.Seq.{take-at}
-use Rattle.raw.specs.Row.{flat}
-use Rattle.raw.specs.Rules.{isRows, run, next}
-use Rattle.raw.specs.Numbers.{rowsOf, isSound}
+use Rattle.row.specs.Row.{flat}
+use Rattle.row.specs.Rules.{isRows, run, next}
+use Rattle.row.specs.Numbers.{rowsOf, isSound}
 use Rattle.rows.specs.declared.pack.Packed.{Packed}
 use Rattle.rows.specs.declared.pack.Packed.the-variants as packed
 use Rattle.rows.specs.declared.unpack.Unpacked.{Unpacked}

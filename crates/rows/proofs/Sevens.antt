@@ -9,7 +9,7 @@ use mathlib.Core.Path.{_≡_, refl}
 use mathlib.Core.List.{List, [], _∷_}
 use lib.ListN.{length, getD, drop, length-drop}
 use lib.Seq.{drop-cons}
-use Rattle.raw.specs.Row.{Row}
+use Rattle.row.specs.Row.{Row}
 use Rattle.rows.specs.Big.{big}
 use Rattle.rows.specs.Seven.{packRow, unpacking, unpackAt}
 

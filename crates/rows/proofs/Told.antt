@@ -10,8 +10,8 @@ use mathlib.Core.List.{List, _++_}
 use lib.ListN.{length, drop}
 use lib.Dec.{leb}
 use borrow.Author.Tests.{leb-true}
-use Rattle.raw.specs.Row.{flat}
-use Rattle.raw.specs.Numbers.{rowsOf}
+use Rattle.row.specs.Row.{flat}
+use Rattle.row.specs.Numbers.{rowsOf}
 use Rattle.rows.specs.declared.fault.RowFault.the-variants.{BadRows, NoRoom}
 use Rattle.rows.specs.declared.pack.Packed.{Packed}
 use Rattle.rows.specs.declared.pack.Packed.the-variants as packed

@@ -7,10 +7,10 @@ use native.Mathlib.Omega.{arith}
 use mathlib.Core.Path.{_≡_, refl, sym, ap, _∙_}
 use mathlib.Core.List.{List, _++_}
 use lib.ListN.{length, take, drop}
-use Rattle.raw.specs.Row.{Row, flat, putRow, overlay}
-use Rattle.raw.specs.Numbers.{rowsOf}
-use Rattle.raw.proofs.Rows.{overlay-fits}
-use Rattle.raw.proofs.Numbers.{rowAt, rows-next, rows-end}
+use Rattle.row.specs.Row.{Row, flat, putRow, overlay}
+use Rattle.row.specs.Numbers.{rowsOf}
+use Rattle.row.proofs.Rows.{overlay-fits}
+use Rattle.row.proofs.Numbers.{rowAt, rows-next, rows-end}
 use Rattle.rows.specs.Big.{big}
 use Rattle.rows.specs.Seven.{packRow, packing, unpacking, unpackAt}
 use Rattle.rows.proofs.Stores.{Written, go-on, at-last}

@@ -7,7 +7,7 @@ use mathlib.Core.Bool.{Bool, cond, _&&_}
 use mathlib.Core.List.{List, _++_}
 use lib.ListN.{length, drop}
 use lib.Dec.{leb}
-use Rattle.raw.specs.Numbers.{rowsOf, isSound}
+use Rattle.row.specs.Numbers.{rowsOf, isSound}
 use Rattle.rows.specs.declared.fault.RowFault.the-variants.{BadRows, NoRoom}
 use Rattle.rows.specs.declared.pack.Packed.{Packed}
 use Rattle.rows.specs.declared.pack.Packed.the-variants as packed

@@ -7,10 +7,10 @@ use mathlib.Core.Bool.{true}
 use mathlib.Core.List.{List, [], _∷_, _++_}
 use lib.ListN.{length, take, drop}
 use Rattle.raw.specs.declared.fault.Reading.the-variants as reading
-use Rattle.raw.specs.Row.{Row, flat}
+use Rattle.row.specs.Row.{Row, flat}
 use Rattle.raw.specs.Reader.{ok}
 use Rattle.raw.specs.Read.{strict, Read}
-use Rattle.raw.specs.Numbers.{rowsOf}
+use Rattle.row.specs.Numbers.{rowsOf}
 use Rattle.rows.specs.declared.pack.Packed.{Packed}
 use Rattle.rows.specs.declared.pack.Packed.the-variants as packed
 use Rattle.rows.specs.declared.unpack.Unpacked.{Unpacked}

@@ -11,7 +11,7 @@ use mathlib.Core.Bool.{Bool, true, _&&_}
 use mathlib.Core.List.{List, [], _∷_, _++_}
 use lib.ListN.{getD}
 use lib.Dec.{leb}
-use Rattle.raw.specs.Row.{Row, rowOf}
+use Rattle.row.specs.Row.{Row, rowOf}
 use Rattle.raw.specs.Read.{mostBytes}
 use Rattle.rows.specs.declared.fault.RowFault.{RowFault}
 use Rattle.rows.specs.declared.fault.RowFault.the-variants.{BadRows, NoRoom}

@@ -8,8 +8,8 @@ use mathlib.Core.Bool.{Bool, cond, _&&_}
 use mathlib.Core.List.{List, _++_}
 use lib.ListN.{length, drop}
 use lib.Dec.{eqb, leb}
-use Rattle.raw.specs.Row.{flat}
-use Rattle.raw.specs.Rules.{isRows}
+use Rattle.row.specs.Row.{flat}
+use Rattle.row.specs.Rules.{isRows}
 use Rattle.rows.specs.declared.fault.RowFault.the-variants.{BadRows, NoRoom}
 use Rattle.rows.specs.declared.unpack.Unpacked.{Unpacked}
 use Rattle.rows.specs.declared.unpack.Unpacked.the-variants as unpacked

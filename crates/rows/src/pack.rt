@@ -1,13 +1,13 @@
 // Rows into bytes: checked first, written second.
 use crate::fault::RowFault;
-use raw::mask;
+use row::mask;
 ghost use mathlib.Core.Path.{_≡_};
 ghost use mathlib.Core.Bool.{true};
 ghost use mathlib.Core.List.{_++_};
 ghost use Prim.Native.Nat.{_+_, _*_, _/_, _≤_};
 ghost use lib.ListN.{length, take, drop};
-ghost use Rattle.raw.specs.Row.{rowOf};
-ghost use Rattle.raw.specs.Numbers.{rowsOf};
+ghost use Rattle.row.specs.Row.{rowOf};
+ghost use Rattle.row.specs.Numbers.{rowsOf};
 ghost use Rattle.rows.specs.Seven.{packRow, packing, Fits};
 ghost use Rattle.rows.specs.Pack.{isPackable, Pack};
 

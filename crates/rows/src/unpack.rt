@@ -1,12 +1,12 @@
 // Bytes into rows: checked first, written second.
 use crate::fault::RowFault;
-use raw::mask;
-use raw::row;
+use row::form;
+use row::mask;
 ghost use mathlib.Core.Path.{_≡_};
 ghost use mathlib.Core.List.{_++_};
 ghost use Prim.Native.Nat.{_+_, _*_, _/_, _≤_};
 ghost use lib.ListN.{length, drop};
-ghost use Rattle.raw.specs.Row.{flat};
+ghost use Rattle.row.specs.Row.{flat};
 ghost use Rattle.rows.specs.Seven.{unpacking, threeAt};
 ghost use Rattle.rows.specs.Unpack.{isUnpackable, Unpack};
 
@@ -62,7 +62,7 @@ fn put_all(bytes: &[u8], rows: &mut [u32])
         let head = bytes[p] as u32;
         let start = three(bytes, p + 1);
         let size = three(bytes, p + 4);
-        row::write_numbers(rows, n, head / 16, head % 16, start, start + size);
+        form::write_numbers(rows, n, head / 16, head % 16, start, start + size);
         p += 7;
         n += 1;
     }

@@ -4,8 +4,8 @@ use mathlib.Core.Path.{_≡_}
 use native.Mathlib.Omega.{arith}
 use lib.ListN.{length, drop}
 use borrow.Author.Needs.{needs}
-use Rattle.raw.specs.Numbers.{rowsOf}
-use Rattle.raw.proofs.Numbers.{rows-next, rows-end}
+use Rattle.row.specs.Numbers.{rowsOf}
+use Rattle.row.proofs.Numbers.{rows-next, rows-end}
 use Rattle.rows.specs.Seven.{spanFits}
 use Rattle.rows.specs.Pack.{isPackable}
 use Rattle.rows.proofs.Checks.{Judging, judge-row, judge-off, judge-end, four-count, four-start}

@@ -4,7 +4,7 @@ use mathlib.Core.Path.{_≡_, refl, _∙_}
 use native.Mathlib.Omega.{arith}
 use lib.ListN.{length, drop}
 use borrow.Author.Needs.{needs}
-use Rattle.raw.specs.Numbers.{rowsOf}
+use Rattle.row.specs.Numbers.{rowsOf}
 use Rattle.rows.proofs.Stores.{at-first}
 use Rattle.rows.proofs.Checks.{packable, AllFit, packable-fit, fit-next}
 use Rattle.rows.proofs.Turns.{Packing, pack-turn, pack-end}

@@ -5,7 +5,7 @@ use mathlib.Core.List.{List, _++_}
 use native.Mathlib.Omega.{arith}
 use lib.ListN.{take, drop, length-set}
 use borrow.Author.Needs.{needs}
-use Rattle.raw.specs.Row.{rowOf}
+use Rattle.row.specs.Row.{rowOf}
 use Rattle.rows.proofs.Stores.{set-seven}
 use Rattle.rows.proofs.Sevens.{seven-is}
 use Rattle.rows.proofs.pack.put_packed.Statement.{statement}

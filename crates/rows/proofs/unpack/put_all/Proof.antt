@@ -4,7 +4,7 @@ use mathlib.Core.Path.{_≡_, refl, _∙_}
 use native.Mathlib.Omega.{arith}
 use lib.ListN.{length, getD}
 use borrow.Author.Needs.{needs}
-use Rattle.raw.specs.Row.{rowOf}
+use Rattle.row.specs.Row.{rowOf}
 use Rattle.rows.proofs.Turns.{Unpacking, unpack-turn, unpack-end}
 use Rattle.rows.proofs.unpack.put_all.Statement.{statement}
 use Rattle.rows.proofs.unpack.put_all.Tie as tie
