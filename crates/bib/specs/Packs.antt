@@ -8,7 +8,7 @@ use lib.ListN.{length}
 use Rattle.row.specs.Row.{flat}
 use Rattle.raw.specs.Read.{mostBytes}
 use Rattle.salvage.specs.Salvage.{salvageOf}
-use Rattle.rows.specs.Pack.{isPackable}
+use Rattle.pack.specs.Pack.{isPackable}
 
 abbrev pub Packs : Type 0
 Packs = (s : List ℕ) → length s ≤ mostBytes → isPackable (flat (salvageOf s)) ≡ true
