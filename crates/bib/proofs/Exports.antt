@@ -9,14 +9,14 @@ use Rattle.raw.specs.Read.{numberOf, startOf, endOf, readingOut, leftOut}
 use Rattle.raw.specs.declared.fault.Fault.{Fault}
 use Rattle.raw.specs.declared.fault.Reading.{Reading}
 use Rattle.raw.specs.declared.fault.Reading.the-variants.{Refused}
-use Rattle.rows.specs.declared.fault.RowFault.{RowFault}
-use Rattle.rows.specs.declared.pack.Packed.{Packed}
-use Rattle.rows.specs.declared.pack.Packed.the-variants as packed
-use Rattle.rows.specs.declared.unpack.Unpacked.{Unpacked}
-use Rattle.rows.specs.declared.unpack.Unpacked.the-variants as unpacked
-use Rattle.rows.specs.Seven as seven
-use Rattle.rows.specs.Pack.{Pack}
-use Rattle.rows.specs.Unpack.{Unpack}
+use Rattle.pack.specs.declared.fault.RowFault.{RowFault}
+use Rattle.pack.specs.declared.packing.Packed.{Packed}
+use Rattle.pack.specs.declared.packing.Packed.the-variants as packed
+use Rattle.pack.specs.declared.unpacking.Unpacked.{Unpacked}
+use Rattle.pack.specs.declared.unpacking.Unpacked.the-variants as unpacked
+use Rattle.pack.specs.Seven as seven
+use Rattle.pack.specs.Pack.{Pack}
+use Rattle.pack.specs.Unpack.{Unpack}
 use Rattle.bib.specs.Export.{statusOf, countOf, placeStart, placeEnd, Told, Exported, packStatus, packCount, unpackStatus, unpackCount, ExportedPack, ExportedUnpack}
 
 pub told-refused : {f : Fault} {g : Reading} {r x y : ℕ} → g ≡ Refused f → r ≡ numberOf f → x ≡ startOf f → y ≡ endOf f → Told g r 0 x y

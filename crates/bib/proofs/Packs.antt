@@ -6,10 +6,10 @@ use mathlib.Core.Path.{_≡_, refl}
 use mathlib.Core.Bool.{true}
 use mathlib.Core.List.{List, [], _∷_}
 use borrow.Author.Tests.{le-leb}
-use Rattle.raw.specs.Row.{Row}
+use Rattle.row.specs.Row.{Row}
 use Rattle.raw.specs.Read.{mostBytes}
-use Rattle.rows.specs.Seven.{spanFits, every}
-use Rattle.rows.proofs.Inverse.{flat-packable}
+use Rattle.pack.specs.Seven.{spanFits, every}
+use Rattle.pack.proofs.Inverse.{flat-packable}
 use Rattle.salvage.specs.Salvage.{salvageOf}
 use Rattle.salvage.specs.Demand3.{AllFit}
 use Rattle.salvage.proofs.Demand3.{demand3}

@@ -11,7 +11,7 @@ use borrow.Author.Tests.{le-leb}
 use Rattle.raw.specs.declared.fault.Fault.the-variants.{TooLong, NoRoom}
 use Rattle.raw.specs.declared.fault.Reading.{Reading}
 use Rattle.raw.specs.declared.fault.Reading.the-variants.{Refused}
-use Rattle.raw.specs.Row.{Row}
+use Rattle.row.specs.Row.{Row}
 use Rattle.raw.specs.Reader.{Out, ok, again, bad}
 use Rattle.raw.specs.Read.{mostBytes, strict, readingOut}
 use Rattle.raw.proofs.Strict.{strict-reading}

@@ -8,13 +8,13 @@ use Rattle.raw.specs.Reader.{Out}
 use Rattle.raw.specs.Read.{numberOf, startOf, endOf, readingOut, leftOut}
 use Rattle.raw.specs.declared.fault.Reading.{Reading}
 use Rattle.raw.specs.declared.fault.Reading.the-variants.{Rows, Refused}
-use Rattle.rows.specs.declared.pack.Packed.{Packed}
-use Rattle.rows.specs.declared.pack.Packed.the-variants as packed
-use Rattle.rows.specs.declared.unpack.Unpacked.{Unpacked}
-use Rattle.rows.specs.declared.unpack.Unpacked.the-variants as unpacked
-use Rattle.rows.specs.Seven as seven
-use Rattle.rows.specs.Pack.{packedOf, packedInto}
-use Rattle.rows.specs.Unpack.{unpackedOf, unpackedInto}
+use Rattle.pack.specs.declared.packing.Packed.{Packed}
+use Rattle.pack.specs.declared.packing.Packed.the-variants as packed
+use Rattle.pack.specs.declared.unpacking.Unpacked.{Unpacked}
+use Rattle.pack.specs.declared.unpacking.Unpacked.the-variants as unpacked
+use Rattle.pack.specs.Seven as seven
+use Rattle.pack.specs.Pack.{packedOf, packedInto}
+use Rattle.pack.specs.Unpack.{unpackedOf, unpackedInto}
 
 -- ---- readings: 0 and the count, or the refusal's number and place
 

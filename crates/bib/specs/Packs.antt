@@ -5,10 +5,10 @@ use mathlib.Core.Path.{_≡_}
 use mathlib.Core.Bool.{true}
 use mathlib.Core.List.{List}
 use lib.ListN.{length}
-use Rattle.raw.specs.Row.{flat}
+use Rattle.row.specs.Row.{flat}
 use Rattle.raw.specs.Read.{mostBytes}
 use Rattle.salvage.specs.Salvage.{salvageOf}
-use Rattle.rows.specs.Pack.{isPackable}
+use Rattle.pack.specs.Pack.{isPackable}
 
 abbrev pub Packs : Type 0
 Packs = (s : List ℕ) → length s ≤ mostBytes → isPackable (flat (salvageOf s)) ≡ true

@@ -3,13 +3,13 @@
 // Each answers 0, or document 01's number of the refusal. What else it has to say comes back in lent numbers: `count`, of the rows or bytes that it
 // wrote, or 0; `start` and `end`, the refusal's place, or 0. A refusal leaves what was lent for rows or bytes as it was, and what lies past an answer
 // stays as it was. include/bib.h says all this to C.
+use pack::packing;
+use pack::packing::Packed;
+use pack::unpacking;
+use pack::unpacking::Unpacked;
 use raw::fault;
 use raw::fault::Reading;
 use raw::file;
-use rows::pack;
-use rows::pack::Packed;
-use rows::unpack;
-use rows::unpack::Unpacked;
 ghost use Rattle.raw.specs.Read.{strict};
 ghost use Rattle.salvage.specs.Salvage.{salvaged};
 ghost use Rattle.bib.specs.Export.{Told, Exported, ExportedPack, ExportedUnpack};
@@ -77,7 +77,7 @@ pub extern "C" fn bib_pack(
 {
     *start = 0;
     *end = 0;
-    let packed = pack::pack(rows, bytes);
+    let packed = packing::pack(rows, bytes);
     match packed {
         Packed::Bytes(size) => {
             *count = size as u64;
@@ -85,7 +85,7 @@ pub extern "C" fn bib_pack(
         }
         Packed::Refused(f) => {
             *count = 0;
-            return rows::fault::number(f);
+            return pack::fault::number(f);
         }
     }
 }
@@ -103,7 +103,7 @@ pub extern "C" fn bib_unpack(
 {
     *start = 0;
     *end = 0;
-    let unpacked = unpack::unpack(bytes, rows);
+    let unpacked = unpacking::unpack(bytes, rows);
     match unpacked {
         Unpacked::Rows(n) => {
             *count = n as u64;
@@ -111,7 +111,7 @@ pub extern "C" fn bib_unpack(
         }
         Unpacked::Refused(bad) => {
             *count = 0;
-            return rows::fault::number(bad);
+            return pack::fault::number(bad);
         }
     }
 }

@@ -18,13 +18,13 @@ use Rattle.text.specs.declared.scanner.Seen.{Seen}
 use Rattle.text.specs.declared.scanner.Seen.the-variants.{End, Char}
 use Rattle.text.specs.declared.class.Test.the-variants as test
 use Rattle.text.proofs.Seen.{see-end}
-use Rattle.raw.specs.declared.row.Kind.{Kind}
-use Rattle.raw.specs.declared.row.Kind.the-variants as kind
+use Rattle.row.specs.declared.form.Kind.{Kind}
+use Rattle.row.specs.declared.form.Kind.the-variants as kind
 use Rattle.raw.specs.declared.entry.Form.{Form}
 use Rattle.raw.specs.declared.entry.Form.the-variants.{Strings, Preambles, Comments, Other}
 use Rattle.raw.specs.declared.fault.Fault.{Fault}
 use Rattle.raw.specs.declared.fault.Fault.the-variants.{UnexpectedEof, ExpectedIdentifier, ExpectedOpeningBrace, ExpectedClosingBrace, ExpectedComma, ExpectedQuotationMark, ExpectedEquals, UnexpectedDecimalPoint}
-use Rattle.raw.specs.Row.{Row, kindOf}
+use Rattle.row.specs.Row.{Row, kindOf}
 use Rattle.raw.specs.Reader.{Out, ok, again, bad, Reader, more, andThen, under, eaten, after, stop, turn, refuse, _then_, over, overFrom, put, when, sees, loop, many, scan}
 use Rattle.raw.specs.Grammar.{is, any, need, white, comma, atSign, opening, closing, quote, equals, escape, quotedTurn, quoted, string, stringLiteral, numberTurn, number, bracedTurn, inBraces, braced, ident, singleField, abbrElement, abbrTurn, abbrField, comment, field, fieldEnd, fieldsTurn, fields, key, formOf, strings, preamble, commented, body, lead, rest, entry, fileTurn, file}
 use Rattle.raw.specs.Read.{numberOf, startOf}

@@ -3,12 +3,12 @@
 use Prim.Native.Nat.{ℕ, _+_}
 use mathlib.Core.Path.{_≡_, refl, sym, ap, _∙_}
 use mathlib.Core.List.{List, []}
-use Rattle.raw.specs.declared.row.Kind.the-variants as kind
+use Rattle.row.specs.declared.form.Kind.the-variants as kind
 use Rattle.raw.specs.declared.fault.Fault.{Fault}
 use Rattle.raw.specs.declared.fault.Step.{Step}
 use Rattle.raw.specs.declared.fault.Step.the-variants as step
 use Rattle.raw.specs.declared.fault.Answer.the-variants as answer
-use Rattle.raw.specs.Row.{row, putRow}
+use Rattle.row.specs.Row.{row, putRow}
 use Rattle.raw.specs.Reader.{Out, ok, bad, Reader, _then_, over}
 use Rattle.raw.specs.Grammar.{quote, quoted, string}
 use Rattle.raw.specs.Says.{stepOf, Says}

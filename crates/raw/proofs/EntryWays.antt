@@ -13,7 +13,7 @@ use lib.ListN.{length}
 use Rattle.text.specs.Class.{isWhitespace}
 use Rattle.text.specs.Scan.{skip, fails, Ahead}
 use Rattle.text.specs.declared.class.Test.the-variants as test
-use Rattle.raw.specs.declared.row.Kind.the-variants as kind
+use Rattle.row.specs.declared.form.Kind.the-variants as kind
 use Rattle.raw.specs.declared.entry.Form.{Form}
 use Rattle.raw.specs.declared.entry.Form.the-variants.{Strings, Preambles, Comments, Other}
 use Rattle.raw.specs.declared.fault.Fault.{Fault}
@@ -21,7 +21,7 @@ use Rattle.raw.specs.declared.fault.Step.{Step}
 use Rattle.raw.specs.declared.fault.Step.the-variants as step
 use Rattle.raw.specs.declared.fault.Answer.{Answer}
 use Rattle.raw.specs.declared.fault.Answer.the-variants as answer
-use Rattle.raw.specs.Row.{row, putRow}
+use Rattle.row.specs.Row.{row, putRow}
 use Rattle.raw.specs.Reader.{ok, bad, andThen, under}
 use Rattle.raw.specs.Grammar.{white, comma, atSign, opening, closing, comment, key, ident, string, fields, strings, preamble, commented, body, lead, formOf, rest, entry}
 use Rattle.raw.specs.Says.{stepOf, refusedOf, Onward, Within, Says}

@@ -14,13 +14,13 @@ use Rattle.text.specs.Class.{isIdStart, holdsOf}
 use Rattle.text.specs.Scan.{see}
 use Rattle.text.specs.declared.class.Test.the-variants as test
 use Rattle.text.proofs.Moved.{see-ahead}
-use Rattle.raw.specs.declared.row.Kind.{Kind}
-use Rattle.raw.specs.declared.row.Kind.the-variants as kind
+use Rattle.row.specs.declared.form.Kind.{Kind}
+use Rattle.row.specs.declared.form.Kind.the-variants as kind
 use Rattle.raw.specs.declared.entry.Form.{Form}
 use Rattle.raw.specs.declared.entry.Form.the-variants.{Strings, Preambles, Comments, Other}
 use Rattle.raw.specs.declared.fault.Fault.{Fault}
 use Rattle.raw.specs.declared.fault.Fault.the-variants.{UnexpectedEof, ExpectedComma}
-use Rattle.raw.specs.Row.{Row}
+use Rattle.row.specs.Row.{Row}
 use Rattle.raw.specs.Reader.{Out, ok, again, bad, Reader, more, andThen, under, after, stop, turn, refuse, _then_, over, overFrom, put, when, sees, loop, many}
 use Rattle.raw.specs.Grammar.{is, any, white, comma, stringLiteral, braced, ident, singleField, abbrElement, abbrTurn, abbrField, comment, field, fieldEnd, fieldsTurn, fields, formOf, strings, preamble, body, lead, rest, entry, fileTurn, file}
 use Rattle.raw.proofs.Good.{Sound, Good, eaten-holds}

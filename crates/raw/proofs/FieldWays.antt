@@ -9,7 +9,7 @@ use borrow.Author.Tests.{eq-eqb, ne-eqb}
 use Rattle.text.specs.Class.{isWhitespace, holdsOf}
 use Rattle.text.specs.Scan.{see, skip}
 use Rattle.text.proofs.Seen.{see-at}
-use Rattle.raw.specs.declared.row.Kind.{Kind}
+use Rattle.row.specs.declared.form.Kind.{Kind}
 use Rattle.raw.specs.declared.fault.Fault.{Fault}
 use Rattle.raw.specs.declared.fault.Fault.the-variants.{UnexpectedEof, ExpectedComma}
 use Rattle.raw.specs.declared.fault.Step.{Step}
@@ -18,7 +18,7 @@ use Rattle.raw.specs.declared.fault.Answer.{Answer}
 use Rattle.raw.specs.declared.fault.Answer.the-variants as answer
 use Rattle.raw.specs.declared.fault.Turn.{Turn}
 use Rattle.raw.specs.declared.fault.Turn.the-variants as turned
-use Rattle.raw.specs.Row.{row, putRow}
+use Rattle.row.specs.Row.{row, putRow}
 use Rattle.raw.specs.Reader.{Out, ok, again, bad, more, andThen, under, eaten, sees, stop, turn, refuse, _then_}
 use Rattle.raw.specs.Grammar.{is, any, white, comma, ident, equals, abbrField, comment, field, fieldEnd, fieldsTurn}
 use Rattle.raw.specs.Says.{stepOf, Says, SaysTurn}

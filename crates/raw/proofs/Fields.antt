@@ -11,12 +11,12 @@ use borrow.Author.Tests.{eq-eqb, ne-eqb, ltb-true, ltb-false}
 use Rattle.text.specs.Class.{isWhitespace, isIdStart, holdsOf}
 use Rattle.text.specs.Scan.{see, skip, pastOne}
 use Rattle.text.specs.declared.class.Test.the-variants as test
-use Rattle.raw.specs.declared.row.Kind.the-variants as kind
+use Rattle.row.specs.declared.form.Kind.the-variants as kind
 use Rattle.raw.specs.declared.fault.Fault.{Fault}
 use Rattle.raw.specs.declared.fault.Fault.the-variants.{UnexpectedEof}
 use Rattle.raw.specs.declared.fault.Answer.the-variants as answer
 use Rattle.raw.specs.declared.fault.Turn.the-variants as turned
-use Rattle.raw.specs.Row.{row}
+use Rattle.row.specs.Row.{row}
 use Rattle.raw.specs.Reader.{Out, ok, again, bad, andThen, under, eaten, after, many, sees, when, stop, turn, refuse, over, _then_}
 use Rattle.raw.specs.Inner.{Undelimited}
 use Rattle.raw.specs.Grammar.{is, any, white, number, numberTurn, ident, braced, stringLiteral, singleField, abbrElement, abbrTurn}

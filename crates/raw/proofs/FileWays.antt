@@ -26,12 +26,12 @@ use Rattle.raw.specs.declared.fault.Answer.{Answer}
 use Rattle.raw.specs.declared.fault.Answer.the-variants as answer
 use Rattle.raw.specs.declared.fault.Reading.{Reading}
 use Rattle.raw.specs.declared.fault.Reading.the-variants as reading
-use Rattle.raw.specs.Row.{Row, moved, overlay}
+use Rattle.row.specs.Row.{Row, moved, overlay}
 use Rattle.raw.specs.Reader.{Out, ok, again, bad, andThen}
 use Rattle.raw.specs.Grammar.{is, comment, entry, fileTurn, file}
 use Rattle.raw.specs.Says.{stepOf, answerOf, Room, Says}
 use Rattle.raw.specs.Read.{mostBytes, checked, strict, readingOut, leftOut, Read}
-use Rattle.raw.proofs.Rows.{moved-none, overlay-fits}
+use Rattle.row.proofs.Rows.{moved-none, overlay-fits}
 use Rattle.raw.proofs.Bare.{then-on}
 use Rattle.raw.proofs.Saying.{says-at, said-off}
 use Rattle.raw.proofs.Steps.{scan-on, white-on, comment-on}

@@ -14,9 +14,9 @@ use Rattle.text.specs.Scan.{see}
 use Rattle.text.specs.declared.scanner.Seen.{Seen}
 use Rattle.text.specs.declared.scanner.Seen.the-variants.{End, Char}
 use Rattle.text.proofs.Moved.{see-ahead, seenUp, see-up}
-use Rattle.raw.specs.declared.row.Kind.{Kind}
+use Rattle.row.specs.declared.form.Kind.{Kind}
 use Rattle.raw.specs.declared.fault.Fault.{Fault}
-use Rattle.raw.specs.Row.{moved}
+use Rattle.row.specs.Row.{moved}
 use Rattle.raw.specs.Read.{numberOf, startOf}
 use Rattle.raw.specs.Strict.{Same, faultUp, shifted}
 use Rattle.raw.specs.Reader.{Out, ok, again, bad, Reader, eaten, stop, turn, refuse, put, when, sees}

@@ -9,11 +9,12 @@ use mathlib.Core.Bool.{Bool, true}
 use mathlib.Core.List.{List, [], _∷_, _++_}
 use lib.ListN.{length}
 use Rattle.text.specs.Scan.{see}
-use Rattle.raw.specs.declared.row.Kind.{Kind}
+use Rattle.row.specs.declared.form.Kind.{Kind}
 use Rattle.raw.specs.declared.fault.Fault.{Fault}
-use Rattle.raw.specs.Row.{Row, row, kindOf}
+use Rattle.row.specs.Row.{Row, row, kindOf}
 use Rattle.raw.specs.Reader.{Out, ok, again, bad, Reader, more, andThen, under, after, stop, turn, refuse, _then_, over, overFrom, put, when, sees, loop, many}
-use Rattle.raw.specs.Rules.{Await, next, isDetail, run}
+use Rattle.row.specs.Rules.{Await, next, isDetail, run}
+use Rattle.row.proofs.Joins.{run-append}
 use Rattle.raw.proofs.Good.{eaten-holds}
 
 -- some of the things that may be awaited
@@ -29,11 +30,6 @@ pub record Leads (P A Q : Awaits) (f : Reader) : Type 0 where
   pub leads : (s : List ℕ) (p : ℕ) → LeadsOut P A Q (f s p)
 
 -- ---- answers
-
-pub run-append : (a : Await) (rs ss : List Row) → run a (rs ++ ss) ≡ run (run a rs) ss
-unfolding run
-run-append a [] ss = refl
-run-append a (r ∷ rs) ss = run-append _ rs ss
 
 more-leads : (P A Q R : Awaits) (rs : List Row) (o : Out) → ((a : Await) → P a → Q (run a rs)) → LeadsOut Q A R o → LeadsOut P A R (more rs o)
 more-leads P A Q R rs (ok q ss) h x = λ a y. rw (run-append a rs ss) (x (run a rs) (h a y))

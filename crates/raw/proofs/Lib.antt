@@ -14,7 +14,6 @@ pub mod Rules
 pub mod Few
 pub mod Early
 pub mod Strict
-pub mod Joins
 pub mod Bare
 pub mod Bounds
 pub mod ByteTurns
@@ -25,8 +24,6 @@ pub mod Enclosed
 pub mod EntryWays
 pub mod FileWays
 pub mod Later
-pub mod Rows
-pub mod Flat
 pub mod Saying
 pub mod Spelling
 pub mod Steps
@@ -34,7 +31,4 @@ pub mod Turns
 pub mod FieldWays
 pub mod Fields
 pub mod Elements
-pub mod Numbers
-pub mod Halves
-pub mod Masks
 pub mod Unique

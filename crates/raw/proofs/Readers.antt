@@ -10,11 +10,11 @@ use lib.Dec.{eqb}
 use Rattle.text.specs.Class.{isWhitespace, isKey, isIdStart, isIdContinue, holdsOf}
 use Rattle.text.specs.Scan.{fails}
 use Rattle.text.specs.declared.class.Test.the-variants as test
-use Rattle.raw.specs.declared.row.Kind.{Kind}
-use Rattle.raw.specs.declared.row.Kind.the-variants as kind
+use Rattle.row.specs.declared.form.Kind.{Kind}
+use Rattle.row.specs.declared.form.Kind.the-variants as kind
 use Rattle.raw.specs.declared.fault.Fault.{Fault}
 use Rattle.raw.specs.declared.fault.Fault.the-variants.{UnexpectedEof, ExpectedIdentifier, ExpectedOpeningBrace, ExpectedClosingBrace, ExpectedComma, ExpectedQuotationMark, ExpectedEquals, UnexpectedDecimalPoint}
-use Rattle.raw.specs.Row.{kindOf}
+use Rattle.row.specs.Row.{kindOf}
 use Rattle.raw.specs.Reader.{refuse, scanTurn, scan}
 use Rattle.raw.specs.Grammar.{is, any, need, white, comma, atSign, opening, closing, quote, equals, escape, quotedTurn, quoted, string, stringLiteral, numberTurn, number, bracedTurn, inBraces, braced, ident, singleField, abbrElement, abbrTurn, abbrField, comment, field, fieldEnd, fieldsTurn, fields, key, strings, preamble, commented, body, lead}
 use Rattle.raw.proofs.Good.{Placed, Good, stop-good, turn-good, refuse-good, weaker, when-good, sees-good}

@@ -6,16 +6,17 @@ use mathlib.Core.Bool.{Bool, true, false}
 use mathlib.Core.List.{List}
 use Rattle.text.specs.Class.{isIdStart, holdsOf}
 use Rattle.text.specs.declared.class.Test.the-variants as test
-use Rattle.raw.specs.declared.row.Kind.{Kind}
-use Rattle.raw.specs.declared.row.Kind.the-variants as kind
+use Rattle.row.specs.declared.form.Kind.{Kind}
+use Rattle.row.specs.declared.form.Kind.the-variants as kind
 use Rattle.raw.specs.declared.entry.Form.{Form}
 use Rattle.raw.specs.declared.entry.Form.the-variants.{Strings, Preambles, Comments, Other}
 use Rattle.raw.specs.declared.fault.Fault.the-variants.{ExpectedComma}
-use Rattle.raw.specs.Row.{Row}
+use Rattle.row.specs.Row.{Row}
 use Rattle.raw.specs.Reader.{ok}
 use Rattle.raw.specs.Grammar.{is, any, atSign, stringLiteral, braced, ident, singleField, abbrElement, abbrTurn, abbrField, field, fieldEnd, fieldsTurn, fields, key, formOf, strings, preamble, body, rest, entry, fileTurn, file}
-use Rattle.raw.specs.Rules.{Await, part, type, value, chunk, chunks, next, whole, isRows}
-use Rattle.raw.specs.Rules as awaits
+use Rattle.row.specs.Rules.{Await, part, type, value, chunk, chunks, next, whole, isRows}
+use Rattle.row.specs.Rules as awaits
+use Rattle.row.proofs.Joins.{Free, none, one, free-whole}
 use Rattle.raw.proofs.Leads.{Awaits, LeadsOut, Leads, Takes, chain-leads, stop-leads, turn-leads, refuse-leads, put-leads, when-leads, sees-leads, then-leads, wider-leads, from-leads, over-leads, many-leads}
 use Rattle.raw.proofs.Quiet.{eof-leads, on-leads, white-leads, comma-leads, at-sign-leads, opening-leads, closing-leads, quote-leads, equals-leads, ident-leads, comment-leads, quoted-leads, string-leads, number-leads, in-braces-leads, key-leads, commented-leads, lead-leads}
 use Rattle.raw.proofs.Entries.{named, typed}
@@ -32,20 +33,12 @@ data Chunk (f : Bool) : Await → Type 0 where
 
 -- a part of the sequence; and where f is true, a field
 data Part : Bool → Await → Type 0 where
-  none : {f : Bool} → Part f (part f)
-  one : {f : Bool} → Part f (chunks f)
-
-pub data Free : Await → Type 0 where
-  none : (f : Bool) → Free (part f)
-  one : (f : Bool) → Free (chunks f)
+  at-part : {f : Bool} → Part f (part f)
+  at-chunks : {f : Bool} → Part f (chunks f)
 
 part-free : {f : Bool} (a : Await) → Part f a → Free a
-part-free a (none {f}) = none f
-part-free a (one {f}) = one f
-
-pub free-whole : (a : Await) → Free a → whole a ≡ true
-free-whole a (none f) = refl
-free-whole a (one f) = refl
+part-free a (at-part {f}) = none f
+part-free a (at-chunks {f}) = one f
 
 chunk-takes : (f : Bool) (a : Await) → Chunk f a → Is (chunks f) (next a 6)
 unfolding next
@@ -63,8 +56,8 @@ value-takes f a is-it = first
 
 field-takes : (a : Await) → Part true a → Is (value true) (next a 4)
 unfolding next
-field-takes a none = is-it
-field-takes a one = is-it
+field-takes a at-part = is-it
+field-takes a at-chunks = is-it
 
 definition-takes : (a : Await) → Free a → Is (value false) (next a 8)
 unfolding next
@@ -87,7 +80,7 @@ type-takes a is-it = is-it
 
 key-takes : (a : Await) → Is awaits.key a → Part true (next a 3)
 unfolding next
-key-takes a is-it = none
+key-takes a is-it = at-part
 
 -- ---- values: f says whether they are a field's
 
@@ -162,7 +155,7 @@ body-leads : {A : Awaits} → Leads (Is awaits.key) A (Part true) body
 unfolding body
 body-leads =
     then-leads (over-leads kind.Key (refl, key-takes) key-leads) (then-leads white-leads (then-leads comma-leads (then-leads white-leads
-    (then-leads comment-leads (then-leads white-leads (fields-leads kind.FieldName true (refl, field-takes) one))))))
+    (then-leads comment-leads (then-leads white-leads (fields-leads kind.FieldName true (refl, field-takes) at-chunks))))))
 
 rest-leads : (form : Form) (p a e : ℕ) → Leads Free Free Free (rest form p a e)
 unfolding rest

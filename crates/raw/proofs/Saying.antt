@@ -13,17 +13,16 @@ use mathlib.Core.List.{List, [], _∷_, _++_}
 use native.Mathlib.Omega.{arith}
 use native.Mathlib.Numerals.{add-one}
 use lib.ListN.{length, length-append}
-use Rattle.raw.specs.declared.row.Kind.{Kind}
+use Rattle.row.specs.declared.form.Kind.{Kind}
 use Rattle.raw.specs.declared.fault.Fault.{Fault}
 use Rattle.raw.specs.declared.fault.Answer.{Answer}
 use Rattle.raw.specs.declared.fault.Answer.the-variants as answer
 use Rattle.raw.specs.declared.fault.Turn.{Turn}
 use Rattle.raw.specs.declared.fault.Turn.the-variants as turn
-use Rattle.raw.specs.Row.{Row, row, rowUp, moved, putRow, overlay}
+use Rattle.row.specs.Row.{Row, row, rowUp, moved, putRow, overlay}
 use Rattle.raw.specs.Reader.{Out, ok, again, bad, Reader, more, andThen, under}
 use Rattle.raw.specs.Says.{answerOf, turnOf, Room, Says, SaysTurn}
-use Rattle.raw.proofs.Rows.{put-overlay, overlay-append, moved-length, row-up}
-use Rattle.raw.proofs.Then.{moved-append}
+use Rattle.row.proofs.Rows.{moved-append, put-overlay, overlay-append, moved-length, row-up}
 
 -- ---- answers that differ
 

@@ -16,8 +16,8 @@ use Rattle.text.specs.Scan.{see}
 use Rattle.text.specs.declared.scanner.Seen.the-variants.{Char}
 use Rattle.text.proofs.Moved.{see-ahead, see-within, see-cut}
 use Rattle.text.proofs.Boundaries.{boundaries}
-use Rattle.raw.specs.Row.{Row}
-use Rattle.raw.specs.Rules.{clean}
+use Rattle.row.specs.Row.{Row}
+use Rattle.row.specs.Rules.{clean}
 use Rattle.raw.specs.Strict.{Same, Rising, Spans}
 use Rattle.raw.proofs.Trace.{Reach, here, on, Trace, none, eats, joins, lays, trace-reach}
 

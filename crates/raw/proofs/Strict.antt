@@ -22,7 +22,7 @@ use Rattle.text.proofs.Moved.{see-front}
 use Rattle.text.proofs.Rfc3629.{rfc3629}
 use Rattle.raw.specs.declared.fault.Fault.{Fault}
 use Rattle.raw.specs.declared.fault.Fault.the-variants.{TooLong, NotUtf8}
-use Rattle.raw.specs.Row.{Row}
+use Rattle.row.specs.Row.{Row}
 use Rattle.raw.specs.Reader.{Out, ok, again, bad, more, andThen, eaten, after, stop, turn, loop, many}
 use Rattle.raw.specs.Grammar.{is, any, white, comment, entry, fileTurn, file}
 use Rattle.raw.specs.Read.{mostBytes, checked, strict}

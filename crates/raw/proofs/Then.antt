@@ -10,19 +10,15 @@ use mathlib.Core.Bool.{false}
 use mathlib.Core.List.{List, [], _∷_, _++_}
 use lib.ListN.{length}
 use lib.Dec.{eqb}
-use Rattle.raw.specs.declared.row.Kind.{Kind}
-use Rattle.raw.specs.Row.{Row, row, rowUp, kindOf, moved}
+use Rattle.row.specs.declared.form.Kind.{Kind}
+use Rattle.row.specs.Row.{Row, row, rowUp, kindOf, moved}
+use Rattle.row.proofs.Rows.{moved-append}
 use Rattle.raw.specs.Reader.{Out, ok, again, bad, Reader, more, andThen, under, _then_, over, overFrom, turn}
 use Rattle.raw.specs.Strict.{Same, shifted}
 use Rattle.raw.proofs.Good.{Stops, Sound, Shifts, Kept, Good, turn-good}
 use Rattle.raw.proofs.Trace.{chain-traced, lay-traced}
 
 -- ---- rows in front
-
-pub moved-append : (d : ℕ) (rs ss : List Row) → moved d (rs ++ ss) ≡ moved d rs ++ moved d ss
-unfolding moved
-moved-append d [] ss = refl
-moved-append d (r ∷ rs) ss = ap (λ (l : List Row). rowUp d r ∷ l) (moved-append d rs ss)
 
 pub more-none : (o : Out) → more [] o ≡ o
 more-none (ok q ss) = refl

@@ -10,9 +10,9 @@ use mathlib.Core.List.{List, [], _∷_, _++_}
 use lib.Dec.{eqb}
 use Rattle.text.specs.Scan.{see}
 use Rattle.text.specs.declared.scanner.Seen.the-variants.{Char}
-use Rattle.raw.specs.declared.row.Kind.{Kind}
+use Rattle.row.specs.declared.form.Kind.{Kind}
 use Rattle.raw.specs.declared.fault.Fault.{Fault}
-use Rattle.raw.specs.Row.{Row, row, kindOf}
+use Rattle.row.specs.Row.{Row, row, kindOf}
 use Rattle.raw.specs.Read.{numberOf, startOf}
 use Rattle.raw.specs.Reader.{Out, ok, again, bad, more, andThen, under, after}
 

@@ -10,18 +10,6 @@ use Rattle.raw.proofs.fault.start.Kinds as start-kinds
 use Rattle.raw.proofs.fault.start.Reads as start
 use Rattle.raw.proofs.fault.end.Kinds as end-kinds
 use Rattle.raw.proofs.fault.end.Reads as end
-use Rattle.raw.proofs.row.kind_number.Kinds as kind-number-kinds
-use Rattle.raw.proofs.row.kind_number.Reads as kind-number
-use Rattle.raw.proofs.check.is_detail.Kinds as is-detail-kinds
-use Rattle.raw.proofs.check.is_detail.Reads as is-detail
-use Rattle.raw.proofs.check.check.Kinds as check-kinds
-use Rattle.raw.proofs.check.check.Reads as check
-use Rattle.raw.proofs.mask.first.Kinds as first-kinds
-use Rattle.raw.proofs.mask.first.Reads as first
-use Rattle.raw.proofs.mask.step.Kinds as step-kinds
-use Rattle.raw.proofs.mask.step.Reads as step
-use Rattle.raw.proofs.mask.is_whole.Kinds as is-whole-kinds
-use Rattle.raw.proofs.mask.is_whole.Reads as is-whole
 use Rattle.raw.proofs.file.read.Kinds as read-kinds
 use Rattle.raw.proofs.file.read.Reads as read
 
@@ -34,24 +22,6 @@ one-start κs a x y s t p q = p ∙ sym q
 pub one-end : One 0 end-kinds.ps end-kinds.r end.Post
 one-end κs a x y s t p q = p ∙ sym q
 
-pub one-kind-number : One 0 kind-number-kinds.ps kind-number-kinds.r kind-number.Post
-one-kind-number κs a x y s t p q = p ∙ sym q
-
 -- the same answer, and the same rows
 pub one-read : Both 2 read-kinds.ps read-kinds.r read.Post (λ κs x s y t. (x ≡ y) × (now (s .1 .0) ≡ now (t .1 .0)))
 one-read κs a x y s t p q = (p .answer ∙ sym (q .answer), p .rows ∙ sym (q .rows))
-
-pub one-is-detail : One 0 is-detail-kinds.ps is-detail-kinds.r is-detail.Post
-one-is-detail κs a x y s t p q = p ∙ sym q
-
-pub one-first : One 0 first-kinds.ps first-kinds.r first.Post
-one-first κs a x y s t p q = p ∙ sym q
-
-pub one-step : One 0 step-kinds.ps step-kinds.r step.Post
-one-step κs a x y s t p q = p ∙ sym q
-
-pub one-is-whole : One 0 is-whole-kinds.ps is-whole-kinds.r is-whole.Post
-one-is-whole κs a x y s t p q = p ∙ sym q
-
-pub one-check : One 1 check-kinds.ps check-kinds.r check.Post
-one-check κs a x y s t p q = p ∙ sym q

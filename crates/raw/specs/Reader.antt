@@ -8,10 +8,10 @@ use lib.ListN.{length}
 use Rattle.text.specs.Scan.{see}
 use Rattle.text.specs.declared.scanner.Seen.{Seen}
 use Rattle.text.specs.declared.scanner.Seen.the-variants.{End, Char}
-use Rattle.raw.specs.declared.row.Kind.{Kind}
+use Rattle.row.specs.declared.form.Kind.{Kind}
 use Rattle.raw.specs.declared.fault.Fault.{Fault}
 use Rattle.raw.specs.declared.fault.Fault.the-variants.{UnexpectedEof}
-use Rattle.raw.specs.Row.{Row, row}
+use Rattle.row.specs.Row.{Row, row}
 
 -- a reader is done at a place; or one turn of a loop is, and the loop goes on with a number; or it refuses
 pub data Out : Type 0 where

@@ -11,7 +11,7 @@ use Rattle.raw.specs.declared.fault.Answer.{Answer}
 use Rattle.raw.specs.declared.fault.Answer.the-variants as answer
 use Rattle.raw.specs.declared.fault.Turn.{Turn}
 use Rattle.raw.specs.declared.fault.Turn.the-variants as turn
-use Rattle.raw.specs.Row.{moved, overlay}
+use Rattle.row.specs.Row.{moved, overlay}
 use Rattle.raw.specs.Reader.{Out, ok, again, bad}
 
 -- a reader without rows

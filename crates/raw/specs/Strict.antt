@@ -15,11 +15,11 @@ use Rattle.text.specs.declared.scanner.Seen.the-variants.{End, Char}
 use Rattle.text.specs.declared.class.Test.the-variants as test
 use Rattle.raw.specs.declared.fault.Fault.{Fault}
 use Rattle.raw.specs.declared.fault.Fault.the-variants.{TooLong, NotUtf8, UnexpectedEof, ExpectedIdentifier, ExpectedOpeningBrace, ExpectedClosingBrace, ExpectedComma, ExpectedQuotationMark, ExpectedEquals, UnexpectedDecimalPoint, NoRoom}
-use Rattle.raw.specs.Row.{Row, moved}
+use Rattle.row.specs.Row.{Row, moved}
 use Rattle.raw.specs.Reader.{Out, ok, again, bad, after}
 use Rattle.raw.specs.Grammar.{is, entry, fileTurn, file}
 use Rattle.raw.specs.Read.{numberOf, startOf, strict}
-use Rattle.raw.specs.Rules.{isRows, clean}
+use Rattle.row.specs.Rules.{isRows, clean}
 
 -- ---- the words
 

@@ -7,7 +7,7 @@ use Prim.Native.String.{String, [] as none, _∷_ as _and_}
 use mathlib.Core.Path.{_≡_}
 use mathlib.Core.List.{List, [], _∷_, _++_, map}
 use Rattle.text.specs.Utf8.{octets}
-use Rattle.raw.specs.Row.{Row}
+use Rattle.row.specs.Row.{Row}
 use Rattle.raw.specs.Reader.{Out, ok, again, bad}
 use Rattle.raw.specs.Read.{numberOf, startOf, endOf, strict}
 

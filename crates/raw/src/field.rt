@@ -3,10 +3,10 @@ use crate::fault::Answer;
 use crate::fault::Fault;
 use crate::fault::Step;
 use crate::fault::Turn;
-use crate::row;
-use crate::row::Kind;
 use crate::token;
 use crate::value;
+use row::form;
+use row::form::Kind;
 use text::scanner;
 ghost use mathlib.Core.Path.{_≡_};
 ghost use mathlib.Core.List.{List};
@@ -47,7 +47,7 @@ pub fn field(s: &[u8], base: usize, at: usize, rows: &mut [u32], n: usize, kind:
         return value::refused(r3);
     };
     let p4 = scanner::eat_whitespace(s, p3);
-    row::put_row(rows, n, kind, base + at, base + p1);
+    form::put_row(rows, n, kind, base + at, base + p1);
     let r5 = value::abbr_field(s, base, p4, rows, n + 1);
     let Answer::Next { at: p5, n: n5 } = r5 else {
         return r5;

@@ -3,9 +3,9 @@ use crate::fault::Answer;
 use crate::fault::Fault;
 use crate::fault::Step;
 use crate::fault::Turn;
-use crate::row;
-use crate::row::Kind;
 use crate::token;
+use row::form;
+use row::form::Kind;
 use text::block;
 use text::class::Test;
 use text::scanner;
@@ -171,7 +171,7 @@ fn string_literal(s: &[u8], base: usize, at: usize, rows: &mut [u32], n: usize) 
     let Step::At(p3) = r3 else {
         return refused(r3);
     };
-    row::put_row(rows, n, Kind::Literal, base + p1, base + p2);
+    form::put_row(rows, n, Kind::Literal, base + p1, base + p2);
     Answer::Next { at: p3, n: n + 1 }
 }
 
@@ -193,7 +193,7 @@ fn braced(s: &[u8], base: usize, at: usize, rows: &mut [u32], n: usize) -> Answe
     let Step::At(p3) = r3 else {
         return refused(r3);
     };
-    row::put_row(rows, n, Kind::Literal, base + p1, base + p2);
+    form::put_row(rows, n, Kind::Literal, base + p1, base + p2);
     Answer::Next { at: p3, n: n + 1 }
 }
 
@@ -209,7 +209,7 @@ fn bare_element(s: &[u8], base: usize, at: usize, rows: &mut [u32], n: usize) ->
         let Step::At(p1) = r1 else {
             return refused(r1);
         };
-        row::put_row(rows, n, Kind::Literal, base + at, base + p1);
+        form::put_row(rows, n, Kind::Literal, base + at, base + p1);
         return Answer::Next { at: p1, n: n + 1 };
     }
     let start = scanner::eat_if(s, at, Test::IdStart);
@@ -218,7 +218,7 @@ fn bare_element(s: &[u8], base: usize, at: usize, rows: &mut [u32], n: usize) ->
         let Step::At(p2) = r2 else {
             return refused(r2);
         };
-        row::put_row(rows, n, Kind::Name, base + at, base + p2);
+        form::put_row(rows, n, Kind::Name, base + at, base + p2);
         return Answer::Next { at: p2, n: n + 1 };
     }
     Answer::Refused(Fault::UnexpectedEof(at))
@@ -281,7 +281,7 @@ pub fn abbr_field(s: &[u8], base: usize, at: usize, rows: &mut [u32], n: usize) 
                 m = k;
             }
             Turn::Done { at: q, n: k } => {
-                row::put_row(rows, n, Kind::Value, base + at, base + q);
+                form::put_row(rows, n, Kind::Value, base + at, base + q);
                 return Answer::Next { at: q, n: k };
             }
             Turn::Refused(f) => {

@@ -19,7 +19,7 @@ use Rattle.text.specs.declared.utf8.Validity.the-variants as validity
 use Rattle.text.proofs.Rfc3629.{rfc3629}
 use Rattle.raw.specs.declared.fault.Fault.{Fault}
 use Rattle.raw.specs.declared.fault.Fault.the-variants.{TooLong, NotUtf8}
-use Rattle.raw.specs.Row.{Row}
+use Rattle.row.specs.Row.{Row}
 use Rattle.raw.specs.Reader.{ok, bad}
 use Rattle.raw.specs.Grammar.{file}
 use Rattle.raw.specs.Read.{numberOf, mostBytes, checked, strict}

@@ -11,9 +11,9 @@ use mathlib.Core.Path.{_≡_, refl, sym, ap, _∙_}
 use mathlib.Core.Bool.{Bool, true, false, cond, _&&_}
 use mathlib.Core.List.{List, [], _∷_, _++_, append-assoc}
 use lib.ListN.{length, length-append}
-use Rattle.raw.specs.Row.{Row, rowUp, moved}
+use Rattle.row.specs.Row.{Row, rowUp, moved}
 use Rattle.raw.specs.Read.{strict}
-use Rattle.raw.proofs.Then.{moved-append}
+use Rattle.row.proofs.Rows.{moved-append}
 use Rattle.salvage.specs.Salvage.{head, newline, push, cut, told, pieces, salvageOf}
 use Rattle.salvage.specs.Demand3.{lined, fresh, joined}
 

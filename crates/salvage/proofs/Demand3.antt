@@ -8,7 +8,7 @@ use mathlib.Core.Bool.{true}
 use mathlib.Core.List.{List}
 use lib.ListN.{length}
 use Rattle.raw.specs.Read.{mostBytes}
-use Rattle.raw.specs.Rules.{isRows, clean}
+use Rattle.row.specs.Rules.{isRows, clean}
 use Rattle.raw.specs.Strict.{Rising}
 use Rattle.raw.proofs.Strict.{strict-reading}
 use Rattle.salvage.specs.Salvage.{cut, salvageOf}

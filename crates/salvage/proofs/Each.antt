@@ -15,12 +15,12 @@ use Rattle.raw.specs.declared.fault.Fault.{Fault}
 use Rattle.raw.specs.declared.fault.Fault.the-variants.{NoRoom}
 use Rattle.raw.specs.declared.fault.Reading.{Reading}
 use Rattle.raw.specs.declared.fault.Reading.the-variants as reading
-use Rattle.raw.specs.Row.{Row, moved}
+use Rattle.row.specs.Row.{Row, moved}
 use Rattle.raw.specs.Reader.{Out, ok, again, bad}
 use Rattle.raw.specs.Read.{mostBytes, strict, readingOut, leftOut}
-use Rattle.raw.specs.Rules.{clean}
+use Rattle.row.specs.Rules.{clean}
 use Rattle.raw.proofs.Strict.{strict-reading}
-use Rattle.raw.proofs.Rows.{moved-length}
+use Rattle.row.proofs.Rows.{moved-length}
 use Rattle.salvage.specs.Salvage.{cut, told, pieces, salvageOf, salvaged, Salvage}
 use Rattle.salvage.specs.Demand3.{lined, fresh, Holds, joined, Piece}
 use Rattle.salvage.proofs.Scanned.{true-not-false}

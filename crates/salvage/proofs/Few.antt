@@ -14,12 +14,12 @@ use Rattle.text.specs.Class.{whiteSpace, isWhitespace, holdsOf}
 use Rattle.text.specs.Scan.{code, seeFrom}
 use Rattle.text.specs.Scan as scan
 use Rattle.raw.specs.declared.fault.Fault.{Fault}
-use Rattle.raw.specs.Row.{moved}
+use Rattle.row.specs.Row.{moved}
 use Rattle.raw.specs.Reader.{ok, bad, loop, many}
 use Rattle.raw.specs.Grammar.{white, fileTurn, file}
 use Rattle.raw.specs.Read.{strict}
 use Rattle.raw.proofs.Strict.{strict-reading}
-use Rattle.raw.proofs.Rows.{moved-length}
+use Rattle.row.proofs.Rows.{moved-length}
 use Rattle.salvage.specs.Salvage.{head, newline, push, cut, told, pieces, salvageOf}
 use Rattle.salvage.specs.Demand3.{joined}
 use Rattle.salvage.proofs.Cut.{joined-cut}

@@ -19,13 +19,13 @@ use Rattle.text.proofs.Rfc3629.{rfc3629}
 use Rattle.raw.specs.declared.fault.Fault.the-variants.{TooLong, NoRoom}
 use Rattle.raw.specs.declared.fault.Answer.{Answer}
 use Rattle.raw.specs.declared.fault.Reading.the-variants as reading
-use Rattle.raw.specs.Row.{moved, flat, overlay}
+use Rattle.row.specs.Row.{moved, flat, overlay}
 use Rattle.raw.specs.Reader.{Out, ok}
 use Rattle.raw.specs.Grammar.{file}
 use Rattle.raw.specs.Read.{mostBytes}
-use Rattle.raw.specs.Rules.{clean}
+use Rattle.row.specs.Rules.{clean}
 use Rattle.raw.specs.Says.{Room, Says}
-use Rattle.raw.proofs.Rows.{moved-none, overlay-fits}
+use Rattle.row.proofs.Rows.{moved-none, overlay-fits}
 use Rattle.salvage.specs.Salvage.{salvageOf, salvaged, Salvage}
 use Rattle.salvage.specs.Inner.{ValidTo, Counted, Fills}
 use Rattle.salvage.specs.declared.piece.Tally.{Tally}

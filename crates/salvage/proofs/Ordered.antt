@@ -9,13 +9,13 @@ use mathlib.Core.List.{List, [], _∷_, _++_}
 use lib.ListN.{length, length-append}
 use borrow.Author.Tests.{le-leb}
 use Rattle.raw.specs.declared.fault.Fault.{Fault}
-use Rattle.raw.specs.Row.{Row, moved}
+use Rattle.row.specs.Row.{Row, moved}
 use Rattle.raw.specs.Reader.{Out, ok, again, bad}
 use Rattle.raw.specs.Read.{numberOf, mostBytes, strict}
-use Rattle.raw.specs.Rules.{isRows, run, next}
+use Rattle.row.specs.Rules.{isRows, run, next}
 use Rattle.raw.specs.Strict.{Rising, Spans}
 use Rattle.raw.proofs.Strict.{strict-reading}
-use Rattle.raw.proofs.Joins.{rows-append, rows-moved}
+use Rattle.row.proofs.Joins.{rows-append, rows-moved}
 use Rattle.salvage.specs.Salvage.{damaged, told, pieces}
 use Rattle.salvage.specs.Demand3.{joined, AllFit}
 use Rattle.salvage.proofs.Checked.{strict-bad}

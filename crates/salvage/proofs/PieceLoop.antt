@@ -16,12 +16,12 @@ use lib.Dec.{eqb, leb}
 use borrow.Author.Tests.{leb-true}
 use borrow.Rule.Slice.PartMut.{putMid, same-len-mid}
 use Rattle.text.specs.Utf8.{Octets}
-use Rattle.raw.specs.Row.{Row, moved, flat}
+use Rattle.row.specs.Row.{Row, moved, flat}
 use Rattle.raw.specs.Read.{mostBytes, strict}
-use Rattle.raw.specs.Rules.{clean}
+use Rattle.row.specs.Rules.{clean}
 use Rattle.raw.specs.Strict.{Fresh}
-use Rattle.raw.proofs.Rows.{moved-length}
-use Rattle.raw.proofs.Flat.{flat-append}
+use Rattle.row.proofs.Rows.{moved-length}
+use Rattle.row.proofs.Flat.{flat-append}
 use Rattle.salvage.specs.Salvage.{cut, told, pieces, salvageOf}
 use Rattle.salvage.specs.Demand3.{fresh}
 use Rattle.salvage.specs.Inner.{Ends, Piece, tallyOf, Puts, ValidTo, Fills}

@@ -13,20 +13,20 @@ use lib.Seq.{take-at}
 use Rattle.text.specs.Utf8.{validityOf}
 use Rattle.text.specs.declared.utf8.Validity.{Validity}
 use Rattle.text.specs.declared.utf8.Validity.the-variants as validity
-use Rattle.raw.specs.declared.row.Kind.the-variants as kind
+use Rattle.row.specs.declared.form.Kind.the-variants as kind
 use Rattle.raw.specs.declared.fault.Fault.{Fault}
 use Rattle.raw.specs.declared.fault.Fault.the-variants.{NotUtf8}
 use Rattle.raw.specs.declared.fault.Answer.{Answer}
 use Rattle.raw.specs.declared.fault.Answer.the-variants as answer
-use Rattle.raw.specs.Row.{Row, rowWith, row, moved, flat, putRow, overlay}
+use Rattle.row.specs.Row.{Row, rowWith, row, moved, flat, putRow, overlay}
 use Rattle.raw.specs.Reader.{Out, ok, again, bad}
 use Rattle.raw.specs.Grammar.{file}
 use Rattle.raw.specs.Read.{numberOf, startOf, endOf, mostBytes, strict}
-use Rattle.raw.specs.Rules.{clean}
+use Rattle.row.specs.Rules.{clean}
 use Rattle.raw.specs.Says.{answerOf, Room, Says, Within}
 use Rattle.raw.proofs.Strict.{strict-reading}
-use Rattle.raw.proofs.Rows.{moved-length, overlay-fits}
-use Rattle.raw.proofs.Flat.{flat-length}
+use Rattle.row.proofs.Rows.{moved-length, overlay-fits}
+use Rattle.row.proofs.Flat.{flat-length}
 use Rattle.salvage.specs.Salvage.{damaged, told}
 use Rattle.salvage.specs.Inner.{Puts, Piece, Damage}
 use Rattle.salvage.specs.declared.piece.Tally.the-variants.{Sound, Damaged}

@@ -20,7 +20,7 @@ use Rattle.text.specs.declared.scanner.Seen.the-variants.{End, Char}
 use Rattle.text.proofs.Seen.{see-ascii}
 use Rattle.text.proofs.Grammar.{both-true}
 use Rattle.text.proofs.Moved.{see-ahead, see-front, seenUp, see-up}
-use Rattle.raw.specs.Row.{Row, moved}
+use Rattle.row.specs.Row.{Row, moved}
 use Rattle.raw.specs.Reader.{Out, ok, again, bad}
 use Rattle.raw.specs.Grammar.{white, fileTurn, file}
 use Rattle.raw.specs.Strict.{Fresh, shifted}

@@ -15,15 +15,15 @@ use Rattle.text.specs.Walk.{walkFrom}
 use Rattle.text.specs.Utf8.{Octets, validityOf}
 use Rattle.text.specs.Scan.{seeFrom}
 use Rattle.text.proofs.Octets.{octets-append}
-use Rattle.raw.specs.Row.{Row, moved}
+use Rattle.row.specs.Row.{Row, moved}
 use Rattle.raw.specs.Reader.{Out, ok, again, bad, more, loop, many}
 use Rattle.raw.specs.Grammar.{white, fileTurn, file}
 use Rattle.raw.specs.Read.{mostBytes, strict}
-use Rattle.raw.specs.Rules.{clean}
+use Rattle.row.specs.Rules.{clean}
 use Rattle.raw.specs.Strict.{shifted}
 use Rattle.raw.proofs.Entries.{file-good}
 use Rattle.raw.proofs.Strict.{strict-reading}
-use Rattle.raw.proofs.Rows.{moved-none}
+use Rattle.row.proofs.Rows.{moved-none}
 use Rattle.salvage.specs.Salvage.{head, cut, told, pieces, salvageOf}
 use Rattle.salvage.specs.Demand3.{lined, fresh, Boundary, first, line, Opens, Whole}
 use Rattle.salvage.proofs.Scanned.{true-not-false}

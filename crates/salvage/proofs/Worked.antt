@@ -9,7 +9,7 @@ use Rattle.text.specs.Scan as scan
 use Rattle.raw.specs.Reader.{loop, many}
 use Rattle.raw.specs.Grammar.{white, comma, opening, closing, quote, equals, quotedTurn, quoted, string, stringLiteral, numberTurn, number, bracedTurn, inBraces, braced, ident, singleField, abbrElement, abbrTurn, abbrField, comment, field, fieldEnd, fieldsTurn, fields, key, spells, formOf, lead, rest, atSign, strings, preamble, commented, body, entry, fileTurn, file}
 use Rattle.raw.specs.Read.{strict}
-use Rattle.raw.specs.Row.{moved}
+use Rattle.row.specs.Row.{moved}
 use Rattle.raw.specs.Worked.{utf8}
 use Rattle.salvage.specs.Salvage.{head, cut, pieces, salvageOf}
 use Rattle.salvage.specs.Worked.{Worked}

@@ -11,11 +11,11 @@ use Rattle.text.specs.declared.scanner.Seen.the-variants.{Char}
 use Rattle.raw.specs.declared.fault.Fault.{Fault}
 use Rattle.raw.specs.declared.fault.Reading.{Reading}
 use Rattle.raw.specs.declared.fault.Reading.the-variants as reading
-use Rattle.raw.specs.Row.{Row, moved, flat}
+use Rattle.row.specs.Row.{Row, moved, flat}
 use Rattle.raw.specs.Reader.{ok, again, bad}
 use Rattle.raw.specs.Grammar.{white, fileTurn}
 use Rattle.raw.specs.Read.{numberOf, startOf, mostBytes, strict}
-use Rattle.raw.specs.Rules.{isRows, clean}
+use Rattle.row.specs.Rules.{isRows, clean}
 use Rattle.raw.specs.Strict.{Rising}
 use Rattle.salvage.specs.Salvage.{head, newline, cut, damaged, told, pieces, salvageOf, Salvage}
 

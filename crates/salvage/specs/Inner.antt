@@ -7,9 +7,9 @@ use mathlib.Core.List.{List, _∷_}
 use lib.ListN.{length, take, drop}
 use Rattle.text.specs.Utf8.{Octets}
 use Rattle.raw.specs.declared.fault.Fault.{Fault}
-use Rattle.raw.specs.Row.{Row, moved, flat}
+use Rattle.row.specs.Row.{Row, moved, flat}
 use Rattle.raw.specs.Read.{startOf, mostBytes, strict}
-use Rattle.raw.specs.Rules.{clean}
+use Rattle.row.specs.Rules.{clean}
 use Rattle.salvage.specs.Salvage.{cut, told, salvageOf}
 use Rattle.salvage.specs.Demand3.{fresh}
 use Rattle.salvage.specs.declared.piece.Tally.{Tally}

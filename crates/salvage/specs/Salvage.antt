@@ -11,11 +11,11 @@ use mathlib.Core.Bool.{Bool, false, cond, _&&_}
 use mathlib.Core.List.{List, [], _∷_, _++_}
 use lib.ListN.{length}
 use lib.Dec.{eqb, leb}
-use Rattle.raw.specs.declared.row.Kind.the-variants as kind
+use Rattle.row.specs.declared.form.Kind.the-variants as kind
 use Rattle.raw.specs.declared.fault.Fault.{Fault}
 use Rattle.raw.specs.declared.fault.Fault.the-variants.{TooLong}
 use Rattle.raw.specs.declared.fault.Reading.{Reading}
-use Rattle.raw.specs.Row.{Row, rowWith, row, moved}
+use Rattle.row.specs.Row.{Row, rowWith, row, moved}
 use Rattle.raw.specs.Reader.{Out, ok, again, bad}
 use Rattle.raw.specs.Read.{numberOf, startOf, endOf, mostBytes, strict, readingOut, leftOut}
 

@@ -4,7 +4,7 @@
 use Prim.Native.String.{String}
 use mathlib.Core.Path.{_≡_}
 use mathlib.Core.List.{[], _∷_}
-use Rattle.raw.specs.Row.{Row}
+use Rattle.row.specs.Row.{Row}
 use Rattle.raw.specs.Reader.{ok}
 use Rattle.raw.specs.Read.{strict}
 use Rattle.raw.specs.Worked.{utf8, _at_to_}

@@ -10,7 +10,7 @@ ghost use mathlib.Core.Path.{_≡_};
 ghost use mathlib.Core.Bool.{true};
 ghost use Prim.Native.Nat.{_≤_, min};
 ghost use lib.ListN.{length};
-ghost use Rattle.raw.specs.Rules.{clean};
+ghost use Rattle.row.specs.Rules.{clean};
 ghost use Rattle.salvage.specs.Salvage.{salvageOf, Salvage};
 ghost use Rattle.salvage.specs.Inner.{ValidTo, Checked, Fills, Counted};
 

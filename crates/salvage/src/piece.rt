@@ -3,8 +3,8 @@ use raw::fault;
 use raw::fault::Answer;
 use raw::fault::Fault;
 use raw::file;
-use raw::row;
-use raw::row::Kind;
+use row::form;
+use row::form::Kind;
 use text::block;
 use text::utf8;
 use text::utf8::Validity;
@@ -12,7 +12,7 @@ ghost use mathlib.Core.Path.{_≡_};
 ghost use mathlib.Core.Bool.{_&&_};
 ghost use Prim.Native.Nat.{_+_, _-_, _≤_, _<_};
 ghost use lib.ListN.{length, getD, drop};
-ghost use Rattle.raw.specs.Row.{moved, overlay};
+ghost use Rattle.row.specs.Row.{moved, overlay};
 ghost use Rattle.raw.specs.Read.{strict};
 ghost use Rattle.raw.specs.Says.{Says, Within};
 ghost use Rattle.salvage.specs.Salvage.{head, newline, damaged};
@@ -104,10 +104,10 @@ fn write_damage(w: &[u8], base: usize, rows: &mut [u32], fault: Fault)
     requires { ⌜ Damage (now w) base fault ⌝ }
     ensures { λ _. ⌜ now (rows .exit) ≡ overlay (now (rows .entry)) 0 (moved base (damaged (now (w .entry)) fault)) ⌝ }
 {
-    row::put_row(rows, 0, Kind::Damage, base, base + w.len());
+    form::put_row(rows, 0, Kind::Damage, base, base + w.len());
     let start = base + fault::start(fault);
     let end = base + fault::end(fault);
-    row::write_row(rows, 1, Kind::Cause, fault::number(fault), start, end);
+    form::write_row(rows, 1, Kind::Cause, fault::number(fault), start, end);
 }
 
 // Reads a piece, whose rows then stand in front of the lent numbers where all of them fit. What a refused piece wrote before its fault is

@@ -4,8 +4,8 @@ use mathlib.Core.Path.{_≡_, refl, ap, _∙_}
 use native.Mathlib.Omega.{arith}
 use lib.ListN.{length}
 use borrow.Author.Needs.{needs}
-use Rattle.raw.specs.declared.row.Kind.the-variants as kind
-use Rattle.raw.specs.Row.{row}
+use Rattle.row.specs.declared.form.Kind.the-variants as kind
+use Rattle.row.specs.Row.{row}
 use Rattle.raw.specs.Reader.{many, under}
 use Rattle.raw.specs.Grammar.{abbrTurn, abbrField}
 use Rattle.raw.proofs.Saying.{turn-at, says-off, says-under}

@@ -1,0 +1,72 @@
+-- What strict reading gives packs without refusal: the row rules and the spans are theorems of strict reading (`strict-reading` of
+-- crate raw), and a file that it accepts has at most 16,777,215 bytes.
+--     strictly, readings     of the definition, and of the contract of `read`
+-- Assumes nothing.
+use Prim.Native.Nat.{ℕ, _*_, _/_, _≤_}
+use native.Mathlib.Omega.{arith}
+use mathlib.Core.Path.{_≡_, refl, ap, _∙_, subst}
+use mathlib.Core.Bool.{Bool, true, false, cond}
+use mathlib.Core.List.{List, [], _∷_, _++_}
+use lib.ListN.{length, take, drop}
+use lib.Seq.{take-at}
+use lib.Dec.{leb}
+use borrow.Author.Tests.{le-leb, leb-true}
+use Rattle.raw.specs.declared.fault.Fault.the-variants as fault
+use Rattle.raw.specs.declared.fault.Reading.the-variants as reading
+use Rattle.row.specs.Row.{Row, flat}
+use Rattle.raw.specs.Reader.{Out, ok, again, bad}
+use Rattle.raw.specs.Read.{strict, mostBytes, readingOut, leftOut, Read}
+use Rattle.raw.specs.Strict.{Spans}
+use Rattle.raw.proofs.Strict.{strict-reading}
+use Rattle.pack.specs.declared.packing.Packed.{Packed}
+use Rattle.pack.specs.declared.packing.Packed.the-variants as packed
+use Rattle.pack.specs.Seven.{spanFits, every}
+use Rattle.pack.specs.Pack.{isPackable, bytesFor, Pack}
+use Rattle.pack.proofs.Inverse.{flat-length, flat-packable}
+use Rattle.pack.proofs.Told.{pack-gives}
+
+strict-long : (s : List ℕ) → leb (length s) mostBytes ≡ false → strict s ≡ bad fault.TooLong
+unfolding strict
+strict-long s e = rw e
+
+strict-short : (s : List ℕ) (q : ℕ) (rs : List Row) → strict s ≡ ok q rs → length s ≤ mostBytes
+strict-short s q rs f = by (leb (length s) mostBytes) refl
+  where
+    by : (b : Bool) → leb (length s) mostBytes ≡ b → length s ≤ mostBytes
+    by true e = leb-true (length s) mostBytes e
+    by false e = let x = strict-long s e in let z : _≡_ {A = ℕ} 0 1 = cc in absurd (omega arith)
+
+spans-fit : (s : List ℕ) → length s ≤ mostBytes → (rs : List Row) → Spans s rs → every spanFits rs ≡ true
+unfolding Spans every
+spans-fit s h [] a = refl
+spans-fit s h (r ∷ rs) a =
+    let o = a .0 .order in
+    let i = a .0 .inside in
+    rw (le-leb (r .end) mostBytes (omega arith), le-leb (r .start) (r .end) o) (spans-fit s h rs (a .1))
+
+pub strictly : (s : List ℕ) (q : ℕ) (rs : List Row) → strict s ≡ ok q rs → isPackable (flat rs) ≡ true
+strictly s q rs e =
+    let a = strict-reading .accepts s q rs e in
+    flat-packable rs (a .rules) (spans-fit s (strict-short s q rs e) rs (a .spans))
+
+-- rows in front of the lent numbers
+front-packs : (rs : List Row) (c b b′ : List ℕ) (r : Packed) → isPackable (flat rs) ≡ true → Pack (take (length rs * 4) (flat rs ++ drop (length rs * 4) c)) b r b′ → length rs * 7 ≤ length b → r ≡ packed.Bytes (length rs * 7)
+front-packs rs c b b′ r k p h =
+    let x = take-at (flat rs) (drop (length rs * 4) c) (length rs * 4) (flat-length rs) in
+    let e : bytesFor (length (flat rs)) ≡ length rs * 7 = omega (arith, flat-length rs) in
+    pack-gives (flat rs) b b′ r k (omega (arith, e)) (subst (λ (l : List ℕ). Pack l b r b′) x p) .0 ∙ ap packed.Bytes e
+
+module _ (s c c′ : List ℕ) (n : ℕ) (b b′ : List ℕ) (r : Packed) (p : Pack (take (n * 4) c′) b r b′) (h : n * 7 ≤ length b) where
+  rows-packs : (q : ℕ) (rs : List Row) (y : Bool) → strict s ≡ ok q rs → reading.Rows n ≡ cond y (reading.Rows (length rs)) (reading.Refused fault.NoRoom) → c′ ≡ cond y (flat rs ++ drop (length rs * 4) c) c → r ≡ packed.Bytes (n * 7)
+  rows-packs q rs true e f g =
+      let m : n ≡ length rs = cc in
+      rw m (front-packs rs c b b′ r (strictly s q rs e) (rw (m, g) at p) (rw m at h))
+  rows-packs q rs false e f g = let z : _≡_ {A = ℕ} 0 1 = cc in absurd (omega arith)
+
+  out-packs : (o : Out) → strict s ≡ o → reading.Rows n ≡ readingOut o (length c) → c′ ≡ leftOut o c → r ≡ packed.Bytes (n * 7)
+  out-packs (ok q rs) e f g = rows-packs q rs (leb (length rs) (length c / 4)) e f g
+  out-packs (again q rs a) e f g = absurd (strict-reading .decides s q a rs e)
+  out-packs (bad x) e f g = let z : _≡_ {A = ℕ} 0 1 = cc in absurd (omega arith)
+
+pub readings : (s c c′ : List ℕ) (n : ℕ) → Read s c (reading.Rows n) c′ → (b b′ : List ℕ) (r : Packed) → Pack (take (n * 4) c′) b r b′ → n * 7 ≤ length b → r ≡ packed.Bytes (n * 7)
+readings s c c′ n d b b′ r p h = out-packs s c c′ n b b′ r p h (strict s) refl (d .answer) (d .rows)

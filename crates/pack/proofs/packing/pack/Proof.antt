@@ -1,0 +1,39 @@
+-- `pack::packing::pack` meets its contract: checked first, written second. Assumes nothing.
+use mathlib.Core.Path.{sym, _∙_}
+use native.Mathlib.Omega.{arith}
+use borrow.Author.Needs.{needs}
+use Rattle.pack.proofs.Answers.{pack-done, pack-full, pack-bad}
+use Rattle.pack.proofs.packing.pack.Statement.{statement}
+use Rattle.pack.proofs.packing.pack.Tie as tie
+
+is-packable-requires : tie.Need-is-packable-requires
+is-packable-requires c κs = search needs
+
+returns : tie.Need-returns
+returns c =
+    let a = c .before .before .before .before .before .args in
+    pack-full (a .rows .now) (a .bytes .now) (sym (c .before .before .is-packable .ensures) ∙ c .before .if1 .taken) (omega arith)
+
+put-all-requires : tie.Need-put-all-requires
+put-all-requires c κs = (sym (c .before .before .before .is-packable .ensures) ∙ c .before .before .if1 .taken, omega arith)
+
+mul-t5 : tie.Need-mul-t5
+mul-t5 c = search needs
+
+same-length : tie.Need-same-length
+same-length c = search needs
+
+returns-2 : tie.Need-returns-2
+returns-2 c =
+    let a = c .before .before .before .before .before .before .before .before .before .args in
+    pack-done (a .rows .now) (a .bytes .now) (sym (c .before .before .before .before .before .before .is-packable .ensures) ∙ c .before .before .before .before .before .if1 .taken) (omega arith) _ (c .before .before .put-all .ensures)
+
+returns-3 : tie.Need-returns-3
+returns-3 c =
+    let a = c .before .before .before .before .args in
+    pack-bad (a .rows .now) (a .bytes .now) (sym (c .before .is-packable .ensures) ∙ c .if1 .left)
+
+pub pack-spec : {M : Type 1} → statement M
+pack-spec =
+    tie.close
+    (tie.spec is-packable-requires returns put-all-requires mul-t5 same-length returns-2 returns-3)

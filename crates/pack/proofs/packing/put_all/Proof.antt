@@ -1,0 +1,118 @@
+-- `pack::packing::put_all` meets its contract: each turn of the loop writes the next row over the lent bytes. Assumes nothing.
+use Prim.Native.Nat.{ℕ, _+_, _*_, _/_, _%_, _-_, _≤_}
+use mathlib.Core.Path.{_≡_, refl, _∙_}
+use native.Mathlib.Omega.{arith}
+use lib.ListN.{length, drop}
+use borrow.Author.Needs.{needs}
+use Rattle.row.specs.Numbers.{rowsOf}
+use Rattle.pack.proofs.Stores.{at-first}
+use Rattle.pack.proofs.Checks.{packable, AllFit, packable-fit, fit-next}
+use Rattle.pack.proofs.Turns.{Packing, pack-turn, pack-end}
+use Rattle.pack.proofs.packing.put_all.Statement.{statement}
+use Rattle.pack.proofs.packing.put_all.Tie as tie
+
+abbrev Inv-loop : tie.InvT-loop
+Inv-loop rows bytes₀ i₀ p₀ bytes i p =
+    (length rows % 4 ≡ 0) × (k : ℕ) × (i ≡ k * 4) × (p ≡ k * 7) × (i ≤ length rows) × (length bytes ≡ length bytes₀) × (length rows / 4 * 7 ≤ length bytes₀) × AllFit (rowsOf (drop i rows)) × Packing rows bytes₀ i p bytes
+
+abbrev μ-loop : tie.MeasureT-loop
+μ-loop rows bytes₀ i₀ p₀ bytes i p = length rows - i
+
+loop-holds : tie.Need-loop-holds Inv-loop μ-loop
+loop-holds c =
+    let s = c .before .before in
+    let a = s .args in
+    let k = packable (a .rows .now) (s .pre .0) in
+    (k .count, 0, refl, refl, omega arith, refl, s .pre .1, packable-fit (a .rows .now) k, at-first _ _)
+
+mul-put-packed : tie.Need-mul-put-packed Inv-loop μ-loop
+mul-put-packed c = search needs
+
+shared-slice-read-put-packed : tie.Need-shared-slice-read-put-packed Inv-loop μ-loop
+shared-slice-read-put-packed c = search needs
+
+add-put-packed : tie.Need-add-put-packed Inv-loop μ-loop
+add-put-packed c = search needs
+
+mul-put-packed-2 : tie.Need-mul-put-packed-2 Inv-loop μ-loop
+mul-put-packed-2 c = search needs
+
+shared-slice-read-put-packed-2 : tie.Need-shared-slice-read-put-packed-2 Inv-loop μ-loop
+shared-slice-read-put-packed-2 c = search needs
+
+add-put-packed-2 : tie.Need-add-put-packed-2 Inv-loop μ-loop
+add-put-packed-2 c = search needs
+
+mul-put-packed-3 : tie.Need-mul-put-packed-3 Inv-loop μ-loop
+mul-put-packed-3 c = search needs
+
+shared-slice-read-put-packed-3 : tie.Need-shared-slice-read-put-packed-3 Inv-loop μ-loop
+shared-slice-read-put-packed-3 c = search needs
+
+add-put-packed-3 : tie.Need-add-put-packed-3 Inv-loop μ-loop
+add-put-packed-3 c = search needs
+
+mul-put-packed-4 : tie.Need-mul-put-packed-4 Inv-loop μ-loop
+mul-put-packed-4 c = search needs
+
+shared-slice-read-put-packed-4 : tie.Need-shared-slice-read-put-packed-4 Inv-loop μ-loop
+shared-slice-read-put-packed-4 c = search needs
+
+put-packed-requires : tie.Need-put-packed-requires Inv-loop μ-loop
+put-packed-requires c κs =
+    let l = c .before .before .before .before .before .before in
+    let a = c .before .before .before .before .before .before .before .before .before .args in
+    let m = l .loop .inv in
+    (omega arith, fit-next (a .rows .now) (l .loop .i) (omega arith) (m .7) .0)
+
+add-i : tie.Need-add-i Inv-loop μ-loop
+add-i c = search needs
+
+add-p : tie.Need-add-p Inv-loop μ-loop
+add-p c = search needs
+
+loop-less : tie.Need-loop-less Inv-loop μ-loop
+loop-less c = search needs
+
+loop-again : tie.Need-loop-again Inv-loop μ-loop
+loop-again c =
+    let l = c .before .before .before .before .before .before .before .before .before in
+    let a = c .before .before .before .before .before .before .before .before .before .before .before .before .args in
+    let m = l .loop .inv in
+    let w = c .before .before .put-packed in
+    (m .0, m .1 + 1, omega arith, omega arith, omega arith, w .kept .0 ∙ m .5, m .6, fit-next (a .rows .now) (l .loop .i) (omega arith) (m .7) .1, pack-turn (a .rows .now) (a .bytes .now) (l .loop .i) (l .loop .p) (l .loop .bytes) _ (omega arith) (w .ensures) (m .8))
+
+same-length : tie.Need-same-length Inv-loop μ-loop
+same-length c = c .before .loop .inv .5
+
+returns : tie.Need-returns Inv-loop μ-loop
+returns c =
+    let l = c .before in
+    let a = c .before .before .before .before .args in
+    pack-end (a .rows .now) (a .bytes .now) (l .loop .i) (l .loop .p) (l .loop .bytes) (length (a .rows .now) / 4 * 7) (c .loop-test .left) (omega arith) (l .loop .inv .8)
+
+pub put-all-spec : {M : Type 1} → statement M
+put-all-spec =
+    tie.close
+    (tie.spec
+    Inv-loop
+    μ-loop
+    loop-holds
+    mul-put-packed
+    shared-slice-read-put-packed
+    add-put-packed
+    mul-put-packed-2
+    shared-slice-read-put-packed-2
+    add-put-packed-2
+    mul-put-packed-3
+    shared-slice-read-put-packed-3
+    add-put-packed-3
+    mul-put-packed-4
+    shared-slice-read-put-packed-4
+    put-packed-requires
+    add-i
+    add-p
+    loop-less
+    loop-again
+    same-length
+    returns)

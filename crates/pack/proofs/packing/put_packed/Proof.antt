@@ -1,0 +1,121 @@
+-- `pack::packing::put_packed` meets its contract: the seven stores are the bytes of a row. Assumes nothing.
+use Prim.Native.Nat.{ℕ, _+_}
+use mathlib.Core.Path.{ap, _∙_}
+use mathlib.Core.List.{List, _++_}
+use native.Mathlib.Omega.{arith}
+use lib.ListN.{take, drop, length-set}
+use borrow.Author.Needs.{needs}
+use Rattle.row.specs.Row.{rowOf}
+use Rattle.pack.proofs.Stores.{set-seven}
+use Rattle.pack.proofs.Sevens.{seven-is}
+use Rattle.pack.proofs.packing.put_packed.Statement.{statement}
+use Rattle.pack.proofs.packing.put_packed.Tie as tie
+
+sub-size : tie.Need-sub-size
+sub-size c = search needs
+
+mul-bytes : tie.Need-mul-bytes
+mul-bytes c = search needs
+
+add-bytes : tie.Need-add-bytes
+add-bytes c = search needs
+
+cast-bytes : tie.Need-cast-bytes
+cast-bytes c = search needs
+
+slice-write-bytes : tie.Need-slice-write-bytes
+slice-write-bytes c = search needs
+
+cast-bytes-2 : tie.Need-cast-bytes-2
+cast-bytes-2 c = search needs
+
+add-bytes-2 : tie.Need-add-bytes-2
+add-bytes-2 c = search needs
+
+slice-write-bytes-2 : tie.Need-slice-write-bytes-2
+slice-write-bytes-2 c = simp length-set (omega arith)
+
+cast-bytes-3 : tie.Need-cast-bytes-3
+cast-bytes-3 c = search needs
+
+add-bytes-3 : tie.Need-add-bytes-3
+add-bytes-3 c = search needs
+
+slice-write-bytes-3 : tie.Need-slice-write-bytes-3
+slice-write-bytes-3 c = simp length-set (omega arith)
+
+cast-bytes-4 : tie.Need-cast-bytes-4
+cast-bytes-4 c = search needs
+
+add-bytes-4 : tie.Need-add-bytes-4
+add-bytes-4 c = search needs
+
+slice-write-bytes-4 : tie.Need-slice-write-bytes-4
+slice-write-bytes-4 c = simp length-set (omega arith)
+
+cast-bytes-5 : tie.Need-cast-bytes-5
+cast-bytes-5 c = search needs
+
+add-bytes-5 : tie.Need-add-bytes-5
+add-bytes-5 c = search needs
+
+slice-write-bytes-5 : tie.Need-slice-write-bytes-5
+slice-write-bytes-5 c = simp length-set (omega arith)
+
+cast-bytes-6 : tie.Need-cast-bytes-6
+cast-bytes-6 c = search needs
+
+add-bytes-6 : tie.Need-add-bytes-6
+add-bytes-6 c = search needs
+
+slice-write-bytes-6 : tie.Need-slice-write-bytes-6
+slice-write-bytes-6 c = simp length-set (omega arith)
+
+cast-bytes-7 : tie.Need-cast-bytes-7
+cast-bytes-7 c = search needs
+
+add-bytes-7 : tie.Need-add-bytes-7
+add-bytes-7 c = search needs
+
+slice-write-bytes-7 : tie.Need-slice-write-bytes-7
+slice-write-bytes-7 c = simp length-set (omega arith)
+
+same-length : tie.Need-same-length
+same-length c = search needs
+
+returns : tie.Need-returns
+returns c =
+    let a = c .args in
+    let f = c .pre .1 in
+    set-seven (a .bytes .now) (a .p) _ _ _ _ _ _ _ (c .pre .0)
+    ∙ ap (λ (w : List ℕ). take (a .p) (a .bytes .now) ++ w ++ drop (a .p + 7) (a .bytes .now)) (seven-is (rowOf (a .kind) (a .detail) (a .start) (a .end)) (omega arith) (omega arith) (omega arith) (omega arith) (omega arith) (omega arith) (omega arith))
+
+pub put-packed-spec : {M : Type 1} → statement M
+put-packed-spec =
+    tie.close
+    (tie.spec
+    sub-size
+    mul-bytes
+    add-bytes
+    cast-bytes
+    slice-write-bytes
+    cast-bytes-2
+    add-bytes-2
+    slice-write-bytes-2
+    cast-bytes-3
+    add-bytes-3
+    slice-write-bytes-3
+    cast-bytes-4
+    add-bytes-4
+    slice-write-bytes-4
+    cast-bytes-5
+    add-bytes-5
+    slice-write-bytes-5
+    cast-bytes-6
+    add-bytes-6
+    slice-write-bytes-6
+    cast-bytes-7
+    add-bytes-7
+    slice-write-bytes-7
+    same-length
+    returns)

@@ -1,0 +1,110 @@
+-- `pack::unpacking::is_unpackable` meets its contract: each turn of the loop judges a row. Assumes nothing.
+use Prim.Native.Nat.{_%_, _-_, _≤_}
+use mathlib.Core.Path.{_≡_}
+use native.Mathlib.Omega.{arith}
+use lib.ListN.{length, drop}
+use borrow.Author.Needs.{needs}
+use borrow.Author.Tests.{le-leb, lt-leb}
+use Rattle.pack.specs.Seven.{unpacking, unpackAt, endFits}
+use Rattle.pack.specs.Unpack.{isUnpackable}
+use Rattle.pack.proofs.Sevens.{sevens-next, sevens-end}
+use Rattle.pack.proofs.Checks.{Judging, judge-row, judge-off, judge-end, seven-count, seven-start}
+use Rattle.pack.proofs.unpacking.is_unpackable.Statement.{statement}
+use Rattle.pack.proofs.unpacking.is_unpackable.Tie as tie
+
+abbrev Inv-loop : tie.InvT-loop
+Inv-loop bytes masks₀ p₀ masks p =
+    (length bytes % 7 ≡ 0) × (p % 7 ≡ 0) × (p ≤ length bytes) × Judging endFits (isUnpackable bytes) masks (unpacking (drop p bytes))
+
+abbrev μ-loop : tie.MeasureT-loop
+μ-loop bytes masks₀ p₀ masks p = length bytes - p
+
+returns : tie.Need-returns Inv-loop μ-loop
+returns c = seven-count (c .before .before .args .bytes .now) (c .if1 .taken)
+
+first-requires : tie.Need-first-requires Inv-loop μ-loop
+first-requires c κs = search needs
+
+loop-holds : tie.Need-loop-holds Inv-loop μ-loop
+loop-holds c = (c .before .if1 .left, omega arith, omega arith, seven-start (c .before .before .before .args .bytes .now) (c .before .if1 .left) (c .first .ensures))
+
+shared-slice-read-head : tie.Need-shared-slice-read-head Inv-loop μ-loop
+shared-slice-read-head c = search needs
+
+cast-head : tie.Need-cast-head Inv-loop μ-loop
+cast-head c = omega (arith, c .shared-slice-known2 .given (c .before .before .loop .p))
+
+step-requires : tie.Need-step-requires Inv-loop μ-loop
+step-requires c κs = search needs
+
+add-three : tie.Need-add-three Inv-loop μ-loop
+add-three c = search needs
+
+three-requires : tie.Need-three-requires Inv-loop μ-loop
+three-requires c κs = search needs
+
+add-three-2 : tie.Need-add-three-2 Inv-loop μ-loop
+add-three-2 c = search needs
+
+three-requires-2 : tie.Need-three-requires-2 Inv-loop μ-loop
+three-requires-2 c κs = search needs
+
+add-if2 : tie.Need-add-if2 Inv-loop μ-loop
+add-if2 c = search needs
+
+add-p : tie.Need-add-p Inv-loop μ-loop
+add-p c = search needs
+
+loop-less : tie.Need-loop-less Inv-loop μ-loop
+loop-less c = search needs
+
+loop-again : tie.Need-loop-again Inv-loop μ-loop
+loop-again c =
+    let l = c .before .before .before .before .before .before in
+    let a = c .before .before .before .before .before .before .before .before .before .before .args in
+    let m = l .loop .inv in
+    let r = unpackAt (a .bytes .now) (l .loop .p) in
+    let e = le-leb (r .end) 16777215 (omega (arith, c .before .before .three .ensures .0, c .before .three2 .ensures .0)) in
+    (m .0, omega arith, omega arith, judge-row (m .3) (sevens-next (a .bytes .now) (l .loop .p) (omega arith)) (c .before .before .before .step .ensures) e)
+
+returns-2 : tie.Need-returns-2 Inv-loop μ-loop
+returns-2 c =
+    let l = c .before .before .before .before .before .before in
+    let a = c .before .before .before .before .before .before .before .before .before .before .args in
+    let m = l .loop .inv in
+    let r = unpackAt (a .bytes .now) (l .loop .p) in
+    let e = lt-leb (r .end) 16777215 (omega (arith, c .before .before .three .ensures .0, c .before .three2 .ensures .0)) in
+    judge-off (m .3) (sevens-next (a .bytes .now) (l .loop .p) (omega arith)) e
+
+is-whole-requires : tie.Need-is-whole-requires Inv-loop μ-loop
+is-whole-requires c κs = search needs
+
+returns-3 : tie.Need-returns-3 Inv-loop μ-loop
+returns-3 c =
+    let l = c .before .before in
+    let a = c .before .before .before .before .before .before .args in
+    judge-end (l .loop .inv .3) (sevens-end (a .bytes .now) (l .loop .p) (omega arith)) (c .is-whole .ensures)
+
+pub is-unpackable-spec : {M : Type 1} → statement M
+is-unpackable-spec =
+    tie.close
+    (tie.spec
+    Inv-loop
+    μ-loop
+    returns
+    first-requires
+    loop-holds
+    shared-slice-read-head
+    cast-head
+    step-requires
+    add-three
+    three-requires
+    add-three-2
+    three-requires-2
+    add-if2
+    add-p
+    loop-less
+    loop-again
+    returns-2
+    is-whole-requires
+    returns-3)

@@ -1,0 +1,101 @@
+-- `pack::unpacking::put_all` meets its contract: each turn of the loop lays the next row over the lent numbers. Assumes nothing.
+use Prim.Native.Nat.{_+_, _*_, _/_, _%_, _-_, _≤_}
+use mathlib.Core.Path.{_≡_, refl, _∙_}
+use native.Mathlib.Omega.{arith}
+use lib.ListN.{length, getD}
+use borrow.Author.Needs.{needs}
+use Rattle.row.specs.Row.{rowOf}
+use Rattle.pack.proofs.Turns.{Unpacking, unpack-turn, unpack-end}
+use Rattle.pack.proofs.unpacking.put_all.Statement.{statement}
+use Rattle.pack.proofs.unpacking.put_all.Tie as tie
+
+abbrev Inv-loop : tie.InvT-loop
+Inv-loop bytes rows₀ end p₀ n₀ rows p n =
+    (end ≡ length bytes / 7 * 7) × (p ≡ n * 7) × (p ≤ end) × (length rows ≡ length rows₀) × (length bytes / 7 * 4 ≤ length rows₀) × Unpacking bytes rows₀ p n rows
+
+abbrev μ-loop : tie.MeasureT-loop
+μ-loop bytes rows₀ end p₀ n₀ rows p n = end - p
+
+mul-end : tie.Need-mul-end Inv-loop μ-loop
+mul-end c = search needs
+
+loop-holds : tie.Need-loop-holds Inv-loop μ-loop
+loop-holds c = (refl, refl, omega arith, refl, c .before .before .pre, refl)
+
+shared-slice-read-head : tie.Need-shared-slice-read-head Inv-loop μ-loop
+shared-slice-read-head c = search needs
+
+cast-head : tie.Need-cast-head Inv-loop μ-loop
+cast-head c = omega (arith, c .shared-slice-known2 .given (c .before .before .loop .p))
+
+add-three : tie.Need-add-three Inv-loop μ-loop
+add-three c = search needs
+
+three-requires : tie.Need-three-requires Inv-loop μ-loop
+three-requires c κs = search needs
+
+add-three-2 : tie.Need-add-three-2 Inv-loop μ-loop
+add-three-2 c = search needs
+
+three-requires-2 : tie.Need-three-requires-2 Inv-loop μ-loop
+three-requires-2 c κs = search needs
+
+add-write-numbers : tie.Need-add-write-numbers Inv-loop μ-loop
+add-write-numbers c = search needs
+
+write-numbers-requires : tie.Need-write-numbers-requires Inv-loop μ-loop
+write-numbers-requires c κs = search needs
+
+add-p : tie.Need-add-p Inv-loop μ-loop
+add-p c = search needs
+
+add-n : tie.Need-add-n Inv-loop μ-loop
+add-n c = search needs
+
+loop-less : tie.Need-loop-less Inv-loop μ-loop
+loop-less c = search needs
+
+loop-again : tie.Need-loop-again Inv-loop μ-loop
+loop-again c =
+    let l = c .before .before .before .before .before .before .before .before in
+    let a = c .before .before .before .before .before .before .before .before .before .before .before .args in
+    let m = l .loop .inv in
+    let w = c .before .before .write-numbers in
+    let x = c .before .before .before .before .before .three in
+    let y = c .before .before .before .before .three2 in
+    let h = getD (a .bytes .now) (l .loop .p) 0 in
+    let r = rowOf (h / 16) (h % 16) (x .result) (x .result + y .result) in
+    (m .0, omega arith, omega arith, w .kept .0 ∙ m .3, m .4, unpack-turn (a .bytes .now) (a .rows .now) (l .loop .p) (l .loop .n) r (l .loop .rows) _ (omega arith) (rw (x .ensures .0, y .ensures .0)) (w .ensures) (m .5))
+
+same-length : tie.Need-same-length Inv-loop μ-loop
+same-length c = c .before .loop .inv .3
+
+returns : tie.Need-returns Inv-loop μ-loop
+returns c =
+    let l = c .before in
+    let a = c .before .before .before .before .args in
+    let m = l .loop .inv in
+    unpack-end (a .bytes .now) (a .rows .now) (l .loop .p) (l .loop .n) (l .loop .rows) (omega arith) (m .4) (m .5)
+
+pub put-all-spec : {M : Type 1} → statement M
+put-all-spec =
+    tie.close
+    (tie.spec
+    Inv-loop
+    μ-loop
+    mul-end
+    loop-holds
+    shared-slice-read-head
+    cast-head
+    add-three
+    three-requires
+    add-three-2
+    three-requires-2
+    add-write-numbers
+    write-numbers-requires
+    add-p
+    add-n
+    loop-less
+    loop-again
+    same-length
+    returns)

@@ -1,0 +1,36 @@
+-- `pack::unpacking::unpack` meets its contract: checked first, written second. Assumes nothing.
+use mathlib.Core.Path.{sym, _∙_}
+use native.Mathlib.Omega.{arith}
+use borrow.Author.Needs.{needs}
+use Rattle.pack.proofs.Answers.{unpack-done, unpack-full, unpack-bad}
+use Rattle.pack.proofs.unpacking.unpack.Statement.{statement}
+use Rattle.pack.proofs.unpacking.unpack.Tie as tie
+
+is-unpackable-requires : tie.Need-is-unpackable-requires
+is-unpackable-requires c κs = search needs
+
+returns : tie.Need-returns
+returns c =
+    let a = c .before .before .before .before .before .args in
+    unpack-full (a .bytes .now) (a .rows .now) (sym (c .before .before .is-unpackable .ensures) ∙ c .before .if1 .taken) (omega arith)
+
+put-all-requires : tie.Need-put-all-requires
+put-all-requires c κs = search needs
+
+same-length : tie.Need-same-length
+same-length c = search needs
+
+returns-2 : tie.Need-returns-2
+returns-2 c =
+    let a = c .before .before .before .before .before .before .before .before .before .args in
+    unpack-done (a .bytes .now) (a .rows .now) (sym (c .before .before .before .before .before .before .is-unpackable .ensures) ∙ c .before .before .before .before .before .if1 .taken) (omega arith) _ (c .before .before .put-all .ensures)
+
+returns-3 : tie.Need-returns-3
+returns-3 c =
+    let a = c .before .before .before .before .args in
+    unpack-bad (a .bytes .now) (a .rows .now) (sym (c .before .is-unpackable .ensures) ∙ c .if1 .left)
+
+pub unpack-spec : {M : Type 1} → statement M
+unpack-spec =
+    tie.close
+    (tie.spec is-unpackable-requires returns put-all-requires same-length returns-2 returns-3)

@@ -1,0 +1,33 @@
+-- The contract of `pack` [01:Rows and their packing]: 17 as the row check refuses, and where an end passes 16,777,215 or a start passes
+-- its end; then 16 exactly if the bytes lent are too few.
+-- Assumes nothing.
+use Prim.Native.Nat.{ℕ, _*_, _/_}
+use mathlib.Core.Path.{_≡_}
+use mathlib.Core.Bool.{Bool, cond, _&&_}
+use mathlib.Core.List.{List, _++_}
+use lib.ListN.{length, drop}
+use lib.Dec.{leb}
+use Rattle.row.specs.Numbers.{rowsOf, isSound}
+use Rattle.pack.specs.declared.fault.RowFault.the-variants.{BadRows, NoRoom}
+use Rattle.pack.specs.declared.packing.Packed.{Packed}
+use Rattle.pack.specs.declared.packing.Packed.the-variants as packed
+use Rattle.pack.specs.Seven.{packing, spanFits, every}
+
+unfoldable pub isPackable : List ℕ → Bool
+isPackable l = isSound l && every spanFits (rowsOf l)
+
+-- how many bytes the rows of n numbers take
+abbrev pub bytesFor : ℕ → ℕ
+bytesFor n = n / 4 * 7
+
+unfoldable pub packedOf : List ℕ → ℕ → Packed
+packedOf l size = cond (isPackable l) (cond (leb (bytesFor (length l)) size) (packed.Bytes (bytesFor (length l))) (packed.Refused NoRoom)) (packed.Refused BadRows)
+
+-- the lent bytes: the rows' in front of what they held, or as they were
+unfoldable pub packedInto : List ℕ → List ℕ → List ℕ
+packedInto l b = cond (isPackable l) (cond (leb (bytesFor (length l)) (length b)) (packing (rowsOf l) ++ drop (bytesFor (length l)) b) b) b
+
+-- `pack` of the numbers l over the lent bytes b answers r and leaves b′
+pub record Pack (l b : List ℕ) (r : Packed) (b′ : List ℕ) : Type 0 where
+  pub answer : r ≡ packedOf l (length b)
+  pub bytes : b′ ≡ packedInto l b

@@ -1,0 +1,81 @@
+-- Rows in seven bytes each [01:Rows and their packing]: "Packed, a row is 7 bytes, most significant bit first: kind 4 bits, detail 4,
+-- start 24, length 24."
+--     packRow, packing          the bytes of a row, and of rows
+--     unpackRow, unpacking      the row of seven bytes, and the rows of as many sevens as there are
+--     threeAt, unpackAt         by index
+--     endFits, spanFits, every  the spans that three bytes hold
+--     numberOf, startOf, endOf  01's numbers and places of the refusals
+-- Assumes nothing.
+use Prim.Native.Nat.{ℕ, _+_, _-_, _*_, _/_, _%_, _≤_}
+use mathlib.Core.Bool.{Bool, true, _&&_}
+use mathlib.Core.List.{List, [], _∷_, _++_}
+use lib.ListN.{getD}
+use lib.Dec.{leb}
+use Rattle.row.specs.Row.{Row, rowOf}
+use Rattle.raw.specs.Read.{mostBytes}
+use Rattle.pack.specs.declared.fault.RowFault.{RowFault}
+use Rattle.pack.specs.declared.fault.RowFault.the-variants.{BadRows, NoRoom}
+use Rattle.pack.specs.Big.{big, ofBig}
+
+abbrev pub packRow : Row → List ℕ
+packRow r = (r .kind * 16 + r .detail) ∷ (big 3 (r .start) ++ big 3 (r .end - r .start))
+
+unfoldable pub packing : List Row → List ℕ
+packing [] = []
+packing (r ∷ rs) = packRow r ++ packing rs
+
+abbrev pub unpackRow : ℕ → ℕ → ℕ → ℕ → ℕ → ℕ → ℕ → Row
+unpackRow h a b c d e f = rowOf (h / 16) (h % 16) (ofBig 0 (a ∷ b ∷ c ∷ [])) (ofBig 0 (a ∷ b ∷ c ∷ []) + ofBig 0 (d ∷ e ∷ f ∷ []))
+
+unfoldable pub unpacking : List ℕ → List Row
+unpacking [] = []
+unpacking (a ∷ []) = []
+unpacking (a ∷ b ∷ []) = []
+unpacking (a ∷ b ∷ c ∷ []) = []
+unpacking (a ∷ b ∷ c ∷ d ∷ []) = []
+unpacking (a ∷ b ∷ c ∷ d ∷ e ∷ []) = []
+unpacking (a ∷ b ∷ c ∷ d ∷ e ∷ f ∷ []) = []
+unpacking (h ∷ a ∷ b ∷ c ∷ d ∷ e ∷ f ∷ l) = unpackRow h a b c d e f ∷ unpacking l
+
+-- the number of the three bytes from p on, and the row of the seven
+abbrev pub threeAt : List ℕ → ℕ → ℕ
+threeAt s p = ofBig 0 (getD s p 0 ∷ getD s (p + 1) 0 ∷ getD s (p + 2) 0 ∷ [])
+
+abbrev pub unpackAt : List ℕ → ℕ → Row
+unpackAt s p = rowOf (getD s p 0 / 16) (getD s p 0 % 16) (threeAt s (p + 1)) (threeAt s (p + 1) + threeAt s (p + 4))
+
+-- ---- spans
+
+-- [01:Rows and their packing] "or an end passes 16,777,215"
+abbrev pub endFits : Row → Bool
+endFits r = leb (r .end) mostBytes
+
+-- "Packing refuses likewise, and where a start passes its end."
+abbrev pub spanFits : Row → Bool
+spanFits r = endFits r && leb (r .start) (r .end)
+
+unfoldable pub every : (Row → Bool) → List Row → Bool
+every t [] = true
+every t (r ∷ rs) = t r && every t rs
+
+-- a row that seven bytes hold
+pub record Fits (r : Row) : Type 0 where
+  pub kind : r .kind ≤ 10
+  pub detail : r .detail ≤ 10
+  pub order : r .start ≤ r .end
+  pub end : r .end ≤ mostBytes
+
+-- ---- refusals
+
+-- [01:Numbers a caller can get]
+abbrev pub numberOf : RowFault → ℕ
+numberOf NoRoom = 16
+numberOf BadRows = 17
+
+-- each at 0..0
+abbrev pub startOf : RowFault → ℕ
+startOf NoRoom = 0
+startOf BadRows = 0
+
+abbrev pub endOf : RowFault → ℕ
+endOf f = startOf f

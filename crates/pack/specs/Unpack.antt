@@ -1,0 +1,31 @@
+-- The contract of `unpack` [01:Rows and their packing]: "Unpacking refuses with 17 exactly if the length is no multiple of 7, the sequence
+-- or a detail is not the above, or an end passes 16,777,215"; then 16 exactly if the rows lent are too few; "numbers past its last whole
+-- row are no room and stay as they were".
+-- Assumes nothing.
+use Prim.Native.Nat.{ℕ, _*_, _/_, _%_}
+use mathlib.Core.Path.{_≡_}
+use mathlib.Core.Bool.{Bool, cond, _&&_}
+use mathlib.Core.List.{List, _++_}
+use lib.ListN.{length, drop}
+use lib.Dec.{eqb, leb}
+use Rattle.row.specs.Row.{flat}
+use Rattle.row.specs.Rules.{isRows}
+use Rattle.pack.specs.declared.fault.RowFault.the-variants.{BadRows, NoRoom}
+use Rattle.pack.specs.declared.unpacking.Unpacked.{Unpacked}
+use Rattle.pack.specs.declared.unpacking.Unpacked.the-variants as unpacked
+use Rattle.pack.specs.Seven.{unpacking, endFits, every}
+
+unfoldable pub isUnpackable : List ℕ → Bool
+isUnpackable s = eqb (length s % 7) 0 && (isRows (unpacking s) && every endFits (unpacking s))
+
+unfoldable pub unpackedOf : List ℕ → ℕ → Unpacked
+unpackedOf s size = cond (isUnpackable s) (cond (leb (length s / 7) (size / 4)) (unpacked.Rows (length s / 7)) (unpacked.Refused NoRoom)) (unpacked.Refused BadRows)
+
+-- the lent numbers: the rows in front of what they held, or as they were
+unfoldable pub unpackedInto : List ℕ → List ℕ → List ℕ
+unpackedInto s b = cond (isUnpackable s) (cond (leb (length s / 7) (length b / 4)) (flat (unpacking s) ++ drop (length s / 7 * 4) b) b) b
+
+-- `unpack` of the bytes s over the lent numbers b answers r and leaves b′
+pub record Unpack (s b : List ℕ) (r : Unpacked) (b′ : List ℕ) : Type 0 where
+  pub answer : r ≡ unpackedOf s (length b)
+  pub rows : b′ ≡ unpackedInto s b

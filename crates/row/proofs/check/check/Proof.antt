@@ -1,0 +1,133 @@
+-- `row::check::check` meets its contract. Assumes nothing.
+use Prim.Native.Nat.{_%_, _-_, _≤_}
+use mathlib.Core.Path.{_≡_, refl}
+use native.Mathlib.Omega.{arith}
+use lib.ListN.{length}
+use borrow.Author.Needs.{needs}
+use Rattle.row.specs.Numbers.{awaitOf}
+use Rattle.row.proofs.Numbers.{Left, turn, named-value, named-other, ended, bad-rows, bad-count}
+use Rattle.row.proofs.check.check.Statement.{statement}
+use Rattle.row.proofs.check.check.Tie as tie
+
+abbrev Inv-loop : tie.InvT-loop
+Inv-loop rows state₀ i₀ state i = (length rows % 4 ≡ 0) × (i % 4 ≡ 0) × (i ≤ length rows) × Left rows (awaitOf state) i
+
+abbrev μ-loop : tie.MeasureT-loop
+μ-loop rows state₀ i₀ state i = length rows - i
+
+returns : tie.Need-returns Inv-loop μ-loop
+returns c = bad-count (c .before .before .args .rows .now) (c .if1 .taken)
+
+loop-holds : tie.Need-loop-holds Inv-loop μ-loop
+loop-holds c = (c .if1 .left, omega arith, omega arith, refl)
+
+mul-step : tie.Need-mul-step Inv-loop μ-loop
+mul-step c = search needs
+
+shared-slice-read-step : tie.Need-shared-slice-read-step Inv-loop μ-loop
+shared-slice-read-step c = search needs
+
+add-step : tie.Need-add-step Inv-loop μ-loop
+add-step c = search needs
+
+mul-step-2 : tie.Need-mul-step-2 Inv-loop μ-loop
+mul-step-2 c = search needs
+
+shared-slice-read-step-2 : tie.Need-shared-slice-read-step-2 Inv-loop μ-loop
+shared-slice-read-step-2 c = search needs
+
+step-requires : tie.Need-step-requires Inv-loop μ-loop
+step-requires c κs = search needs
+
+add-i : tie.Need-add-i Inv-loop μ-loop
+add-i c = search needs
+
+enum-known-state : tie.Need-enum-known-state Inv-loop μ-loop
+enum-known-state c = search needs
+
+loop-less : tie.Need-loop-less Inv-loop μ-loop
+loop-less c = search needs
+
+loop-again : tie.Need-loop-again Inv-loop μ-loop
+loop-again c =
+    let l = c .before .before .before .before .before in
+    let a = c .before .before .before .before .before .before .before .before .args in
+    let m = l .loop .inv in
+    (m .0, omega arith, omega arith, turn (a .rows .now) (l .loop .i) (l .loop .state) _ (omega arith) (c .before .step .ensures) (m .3))
+
+value-row-requires : tie.Need-value-row-requires Inv-loop μ-loop
+value-row-requires c κs = search needs
+
+enum-known-next : tie.Need-enum-known-next Inv-loop μ-loop
+enum-known-next c = search needs
+
+enum-told : tie.Need-enum-told Inv-loop μ-loop
+enum-told c = search needs
+
+returns-2 : tie.Need-returns-2 Inv-loop μ-loop
+returns-2 c =
+    let l = c .before .before .before .before .before .before .before .before .before .before in
+    let a = c .before .before .before .before .before .before .before .before .before .before .before .before .before .args in
+    let m = l .loop .inv in
+    bad-rows (a .rows .now) (m .0) (named-other (a .rows .now) (l .loop .i) (l .loop .state) _ _ _ (omega arith) (c .before .before .before .before .before .before .step .ensures) (c .before .before .before .before .state .given .1) (c .before .before .value-row .ensures) (m .3) (c .enum-told .given .1))
+
+loop-less-2 : tie.Need-loop-less-2 Inv-loop μ-loop
+loop-less-2 c =
+    let l = c .before .before .before .before .before .before .before .before .before .before .before in
+    let a = c .before .before .before .before .before .before .before .before .before .before .before .before .before .before .args in
+    let m = l .loop .inv in
+    let x = named-value (a .rows .now) (l .loop .i) (l .loop .state) _ _ _ (omega arith) (c .before .before .before .before .before .before .before .step .ensures) (c .before .before .before .before .before .state .given .1) (c .before .before .before .value-row .ensures) (m .3) _ (c .before .next .given .1) in
+    omega (arith, x .0 .0, x .0 .1)
+
+loop-again-2 : tie.Need-loop-again-2 Inv-loop μ-loop
+loop-again-2 c =
+    let l = c .before .before .before .before .before .before .before .before .before .before .before in
+    let a = c .before .before .before .before .before .before .before .before .before .before .before .before .before .before .args in
+    let m = l .loop .inv in
+    let x = named-value (a .rows .now) (l .loop .i) (l .loop .state) _ _ _ (omega arith) (c .before .before .before .before .before .before .before .step .ensures) (c .before .before .before .before .before .state .given .1) (c .before .before .before .value-row .ensures) (m .3) _ (c .before .next .given .1) in
+    (m .0, omega (arith, x .0 .0), omega (arith, x .0 .0, x .0 .1), x .1)
+
+is-whole-requires : tie.Need-is-whole-requires Inv-loop μ-loop
+is-whole-requires c κs = search needs
+
+returns-3 : tie.Need-returns-3 Inv-loop μ-loop
+returns-3 c =
+    let l = c .before .before .before in
+    let a = c .before .before .before .before .before .before .args in
+    let m = l .loop .inv in
+    rw (← c .before .is-whole .ensures, c .if2 .taken) at (ended (a .rows .now) (l .loop .i) (l .loop .state) (c .before .before .loop-test .left) (m .0) (m .3))
+
+returns-4 : tie.Need-returns-4 Inv-loop μ-loop
+returns-4 c =
+    let l = c .before .before .before in
+    let a = c .before .before .before .before .before .before .args in
+    let m = l .loop .inv in
+    rw (← c .before .is-whole .ensures, c .if2 .left) at (ended (a .rows .now) (l .loop .i) (l .loop .state) (c .before .before .loop-test .left) (m .0) (m .3))
+
+pub check-spec : {M : Type 1} → statement M
+check-spec =
+    tie.close
+    (tie.spec
+    Inv-loop
+    μ-loop
+    returns
+    loop-holds
+    mul-step
+    shared-slice-read-step
+    add-step
+    mul-step-2
+    shared-slice-read-step-2
+    step-requires
+    add-i
+    enum-known-state
+    loop-less
+    loop-again
+    value-row-requires
+    enum-known-next
+    enum-told
+    returns-2
+    loop-less-2
+    loop-again-2
+    is-whole-requires
+    returns-3
+    returns-4)

@@ -1,0 +1,123 @@
+-- `row::check::next` meets its contract. Assumes nothing.
+use Prim.Native.Nat.{ℕ}
+use mathlib.Core.Path.{_∙_}
+use mathlib.Core.Bool.{Bool, true, false, _||_}
+use lib.Dec.{eqb}
+use borrow.Author.Needs.{needs}
+use Rattle.row.specs.Rules.{next, part, key, chunk, chunks}
+use Rattle.row.proofs.Numbers.{or-wrong}
+use Rattle.row.proofs.check.next.Statement.{statement}
+use Rattle.row.proofs.check.next.Tie as tie
+
+abbrev chunky : ℕ → Bool
+chunky n = eqb n 6 || eqb n 7
+
+enum-known-state : tie.Need-enum-known-state
+enum-known-state c = search needs
+
+begun-requires : tie.Need-begun-requires
+begun-requires c κs = search needs
+
+enum-told : tie.Need-enum-told
+enum-told c = search needs
+
+or-wrong-requires : tie.Need-or-wrong-requires
+or-wrong-requires c κs = search needs
+
+enum-told-2 : tie.Need-enum-told-2
+enum-told-2 c = search needs
+
+or-wrong-requires-2 : tie.Need-or-wrong-requires-2
+or-wrong-requires-2 c κs = search needs
+
+enum-known-state-2 : tie.Need-enum-known-state-2
+enum-known-state-2 c = search needs
+
+or-wrong-requires-3 : tie.Need-or-wrong-requires-3
+or-wrong-requires-3 c κs = search needs
+
+enum-known-state-3 : tie.Need-enum-known-state-3
+enum-known-state-3 c = search needs
+
+or-wrong-requires-4 : tie.Need-or-wrong-requires-4
+or-wrong-requires-4 c κs = search needs
+
+enum-known-state-4 : tie.Need-enum-known-state-4
+enum-known-state-4 c = search needs
+
+returns : tie.Need-returns
+unfolding next
+returns c = rw (c .before .before .state4 .given .1, c .if1 .taken)
+
+begun-requires-2 : tie.Need-begun-requires-2
+begun-requires-2 c κs = search needs
+
+enum-told-3 : tie.Need-enum-told-3
+enum-told-3 c = search needs
+
+or-wrong-requires-5 : tie.Need-or-wrong-requires-5
+or-wrong-requires-5 c κs = search needs
+
+enum-told-4 : tie.Need-enum-told-4
+enum-told-4 c = search needs
+
+returns-2 : tie.Need-returns-2
+unfolding next
+returns-2 c = rw (c .before .before .state .given .1) (c .begun .ensures)
+
+returns-3 : tie.Need-returns-3
+unfolding next
+returns-3 c = rw (c .before .enum-told .given .1) (c .or-wrong .ensures ∙ or-wrong (eqb (c .before .before .before .args .kind) 2) key)
+
+returns-4 : tie.Need-returns-4
+unfolding next
+returns-4 c = rw (c .before .enum-told2 .given .1) (c .or-wrong2 .ensures ∙ or-wrong (eqb (c .before .before .before .args .kind) 3) (part true))
+
+returns-5 : tie.Need-returns-5
+unfolding next
+returns-5 c = rw (c .before .before .state2 .given .1) (c .or-wrong3 .ensures ∙ or-wrong (eqb (c .before .before .before .before .args .kind) 5) (chunk (c .before .before .state2 .given .0 .0)))
+
+returns-6 : tie.Need-returns-6
+unfolding next
+returns-6 c = rw (c .before .before .state3 .given .1) (c .or-wrong4 .ensures ∙ or-wrong (chunky (c .before .before .before .before .args .kind)) (chunks (c .before .before .state3 .given .0 .0)))
+
+returns-7 : tie.Need-returns-7
+unfolding next
+returns-7 c = rw (c .before .before .before .state4 .given .1, c .before .if1 .left) (c .begun2 .ensures)
+
+returns-8 : tie.Need-returns-8
+unfolding next
+returns-8 c = rw (c .before .enum-told3 .given .1) (c .or-wrong5 .ensures ∙ or-wrong (eqb (c .before .before .before .args .kind) 10) (part false))
+
+returns-9 : tie.Need-returns-9
+unfolding next
+returns-9 c = rw (c .enum-told4 .given .1)
+
+pub next-spec : {M : Type 1} → statement M
+next-spec =
+    tie.close
+    (tie.spec
+    enum-known-state
+    begun-requires
+    enum-told
+    or-wrong-requires
+    enum-told-2
+    or-wrong-requires-2
+    enum-known-state-2
+    or-wrong-requires-3
+    enum-known-state-3
+    or-wrong-requires-4
+    enum-known-state-4
+    returns
+    begun-requires-2
+    enum-told-3
+    or-wrong-requires-5
+    enum-told-4
+    returns-2
+    returns-3
+    returns-4
+    returns-5
+    returns-6
+    returns-7
+    returns-8
+    returns-9)

@@ -1,0 +1,4 @@
+pub mod Row
+pub mod Rules
+pub mod Numbers
+pub mod Masks

@@ -1,0 +1,66 @@
+// The row form: kind, detail, start, end, four numbers to a row in lent numbers.
+ghost use mathlib.Core.Path.{_≡_};
+ghost use Prim.Native.Nat.{_≤_};
+ghost use Rattle.row.specs.Row.{kindOf, rowOf, rowWith, row, putRow};
+
+// What a row is of. Document 01 gives the numbers.
+pub enum Kind {
+    Preamble,
+    Entry,
+    EntryType,
+    Key,
+    FieldName,
+    Value,
+    Literal,
+    Name,
+    DefinitionName,
+    Damage,
+    Cause,
+}
+
+pub fn kind_number(kind: Kind) -> u32
+    ensures { λ r. ⌜ r ≡ kindOf kind ⌝ }
+{
+    match kind {
+        Kind::Preamble => 0,
+        Kind::Entry => 1,
+        Kind::EntryType => 2,
+        Kind::Key => 3,
+        Kind::FieldName => 4,
+        Kind::Value => 5,
+        Kind::Literal => 6,
+        Kind::Name => 7,
+        Kind::DefinitionName => 8,
+        Kind::Damage => 9,
+        Kind::Cause => 10,
+    }
+}
+
+// The one place that writes a row: row n of the lent numbers, where it fits whole.
+pub fn write_numbers(rows: &mut [u32], n: usize, kind: u32, detail: u32, start: u32, end: u32)
+    ensures { λ _. ⌜ now (rows .exit) ≡ putRow (now (rows .entry)) n (rowOf kind detail start end) ⌝ }
+{
+    if n < rows.len() / 4 {
+        let i = n * 4;
+        rows[i] = kind;
+        rows[i + 1] = detail;
+        rows[i + 2] = start;
+        rows[i + 3] = end;
+    }
+}
+
+// A row of a kind, from a reader's places.
+pub fn write_row(rows: &mut [u32], n: usize, kind: Kind, detail: u32, start: usize, end: usize)
+    requires { ⌜ (start ≤ 16777215) × (end ≤ 16777215) ⌝ }
+    ensures { λ _. ⌜ now (rows .exit) ≡ putRow (now (rows .entry)) n (rowWith kind detail start end) ⌝ }
+{
+    write_numbers(rows, n, kind_number(kind), detail, start as u32, end as u32)
+}
+
+// A row with detail 0.
+pub fn put_row(rows: &mut [u32], n: usize, kind: Kind, start: usize, end: usize)
+    requires { ⌜ (start ≤ 16777215) × (end ≤ 16777215) ⌝ }
+    ensures { λ _. ⌜ now (rows .exit) ≡ putRow (now (rows .entry)) n (row kind start end) ⌝ }
+{
+    write_row(rows, n, kind, 0, start, end)
+}

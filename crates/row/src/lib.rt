@@ -1,0 +1,5 @@
+// Rows, the form in which everything that is read is handed over [01:Rows and their packing]: how a row is written, and which sequences of
+// rows are right.
+pub mod check;
+pub mod form;
+pub mod mask;
