@@ -1,5 +1,6 @@
 // Rows into bytes: checked first, written second.
-use crate::fault::RowFault;
+use row::fault::Fault;
+use row::fault::Reason;
 use row::mask;
 ghost use mathlib.Core.Path.{_≡_};
 ghost use mathlib.Core.Bool.{true};
@@ -14,7 +15,7 @@ ghost use Rattle.pack.specs.Pack.{isPackable, Pack};
 // The number of bytes, which then stand in the lent ones.
 pub enum Packed {
     Bytes(usize),
-    Refused(RowFault),
+    Refused(Fault),
 }
 
 // Whether the rows pass the row check, and each span is a span of a file.
@@ -77,10 +78,18 @@ pub fn pack(rows: &[u32], bytes: &mut [u8]) -> Packed
     if is_packable(rows) {
         let n = rows.len() / 4;
         if bytes.len() / 7 < n {
-            return Packed::Refused(RowFault::NoRoom);
+            return Packed::Refused(Fault {
+                reason: Reason::NoRoom,
+                start: 0,
+                end: 0,
+            });
         }
         put_all(rows, bytes);
         return Packed::Bytes(n * 7);
     }
-    Packed::Refused(RowFault::BadRows)
+    Packed::Refused(Fault {
+        reason: Reason::BadRows,
+        start: 0,
+        end: 0,
+    })
 }

@@ -1,5 +1,6 @@
 // Bytes into rows: checked first, written second.
-use crate::fault::RowFault;
+use row::fault::Fault;
+use row::fault::Reason;
 use row::form;
 use row::mask;
 ghost use mathlib.Core.Path.{_≡_};
@@ -13,7 +14,7 @@ ghost use Rattle.pack.specs.Unpack.{isUnpackable, Unpack};
 // The number of rows, which then stand in the lent numbers.
 pub enum Unpacked {
     Rows(usize),
-    Refused(RowFault),
+    Refused(Fault),
 }
 
 // The number of the three bytes from p on, most significant first.
@@ -75,10 +76,18 @@ pub fn unpack(bytes: &[u8], rows: &mut [u32]) -> Unpacked
     if is_unpackable(bytes) {
         let n = bytes.len() / 7;
         if rows.len() / 4 < n {
-            return Unpacked::Refused(RowFault::NoRoom);
+            return Unpacked::Refused(Fault {
+                reason: Reason::NoRoom,
+                start: 0,
+                end: 0,
+            });
         }
         put_all(bytes, rows);
         return Unpacked::Rows(n);
     }
-    Unpacked::Refused(RowFault::BadRows)
+    Unpacked::Refused(Fault {
+        reason: Reason::BadRows,
+        start: 0,
+        end: 0,
+    })
 }

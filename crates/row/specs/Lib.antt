@@ -1,3 +1,4 @@
+pub mod Fault
 pub mod Row
 pub mod Rules
 pub mod Numbers

@@ -1,5 +1,6 @@
 // Rows, the form in which everything that is read is handed over [01:Rows and their packing]: how a row is written, and which sequences of
-// rows are right.
+// rows are right; and refusals, which all calls have in common.
 pub mod check;
+pub mod fault;
 pub mod form;
 pub mod mask;
