@@ -16,7 +16,8 @@ use Rattle.row.specs.Fault.{nowhere}
 use Rattle.raw.specs.declared.answer.Reading.the-variants as reading
 use Rattle.row.specs.Row.{Row, flat}
 use Rattle.raw.specs.Reader.{Out, ok, again, bad}
-use Rattle.raw.specs.Read.{strict, mostBytes, readingOut, leftOut, Read}
+use Rattle.row.specs.Limits.{mostBytes}
+use Rattle.raw.specs.Read.{strict, readingOut, leftOut, Read}
 use Rattle.raw.specs.Strict.{Spans}
 use Rattle.raw.proofs.Strict.{strict-reading}
 use Rattle.pack.specs.declared.packing.Packed.{Packed}

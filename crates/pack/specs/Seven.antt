@@ -11,7 +11,7 @@ use mathlib.Core.List.{List, [], _∷_, _++_}
 use lib.ListN.{getD}
 use lib.Dec.{leb}
 use Rattle.row.specs.Row.{Row, rowOf}
-use Rattle.raw.specs.Read.{mostBytes}
+use Rattle.row.specs.Limits.{mostBytes}
 use Rattle.pack.specs.Big.{big, ofBig}
 
 abbrev pub packRow : Row → List ℕ

@@ -1,6 +1,7 @@
 // Rows into bytes: checked first, written second.
 use row::fault::Fault;
 use row::fault::Reason;
+use row::limits::LAST_PLACE;
 use row::mask;
 ghost use mathlib.Core.Path.{_≡_};
 ghost use mathlib.Core.Bool.{true};
@@ -33,7 +34,7 @@ fn is_packable(rows: &[u32]) -> bool
         let start = rows[i + 2];
         let end = rows[i + 3];
         masks = mask::step(masks, kind, detail);
-        if (end <= 16_777_215) & (start <= end) {
+        if (end <= LAST_PLACE) & (start <= end) {
             i += 4;
         } else {
             return false;

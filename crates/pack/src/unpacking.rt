@@ -2,11 +2,13 @@
 use row::fault::Fault;
 use row::fault::Reason;
 use row::form;
+use row::limits::LAST_PLACE;
 use row::mask;
 ghost use mathlib.Core.Path.{_≡_};
 ghost use mathlib.Core.List.{_++_};
 ghost use Prim.Native.Nat.{_+_, _*_, _/_, _≤_};
 ghost use lib.ListN.{length, drop};
+ghost use Rattle.row.specs.Limits.{mostBytes};
 ghost use Rattle.row.specs.Row.{flat};
 ghost use Rattle.pack.specs.Seven.{unpacking, threeAt};
 ghost use Rattle.pack.specs.Unpack.{isUnpackable, Unpack};
@@ -20,7 +22,7 @@ pub enum Unpacked {
 // The number of the three bytes from p on, most significant first.
 fn three(bytes: &[u8], p: usize) -> u32
     requires { ⌜ p + 3 ≤ length (now bytes) ⌝ }
-    ensures { λ r. ⌜ (r ≡ threeAt (now (bytes .entry)) p) × (r ≤ 16777215) ⌝ }
+    ensures { λ r. ⌜ (r ≡ threeAt (now (bytes .entry)) p) × (r ≤ mostBytes) ⌝ }
 {
     let a = bytes[p] as u32;
     let b = bytes[p + 1] as u32;
@@ -42,7 +44,7 @@ fn is_unpackable(bytes: &[u8]) -> bool
         masks = mask::step(masks, head / 16, head % 16);
         let start = three(bytes, p + 1);
         let size = three(bytes, p + 4);
-        if start + size <= 16_777_215 {
+        if start + size <= LAST_PLACE {
             p += 7;
         } else {
             return false;

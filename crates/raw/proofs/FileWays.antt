@@ -31,7 +31,8 @@ use Rattle.row.specs.Row.{Row, moved, overlay}
 use Rattle.raw.specs.Reader.{Out, ok, again, bad, andThen}
 use Rattle.raw.specs.Grammar.{is, comment, entry, fileTurn, file}
 use Rattle.raw.specs.Says.{stepOf, answerOf, Room, Says}
-use Rattle.raw.specs.Read.{mostBytes, checked, strict, readingOut, leftOut, Read}
+use Rattle.row.specs.Limits.{mostBytes}
+use Rattle.raw.specs.Read.{checked, strict, readingOut, leftOut, Read}
 use Rattle.row.proofs.Rows.{moved-none, overlay-fits}
 use Rattle.raw.proofs.Bare.{then-on}
 use Rattle.raw.proofs.Saying.{says-at, said-off}

@@ -26,7 +26,8 @@ use Rattle.row.specs.Fault.{faultAt, nowhere}
 use Rattle.row.specs.Row.{Row}
 use Rattle.raw.specs.Reader.{Out, ok, again, bad, more, andThen, eaten, after, stop, turn, loop, many}
 use Rattle.raw.specs.Grammar.{is, any, white, comment, entry, fileTurn, file}
-use Rattle.raw.specs.Read.{mostBytes, checked, strict}
+use Rattle.row.specs.Limits.{mostBytes}
+use Rattle.raw.specs.Read.{checked, strict}
 use Rattle.raw.specs.Strict.{Same, Fresh, Accepted, Refusal, Strict}
 use Rattle.raw.proofs.Trace.{Trace, Refused, Traced, trace-reach}
 use Rattle.raw.proofs.Spans.{reach-inside, reach-same, trace-rising, trace-spans, trace-clean}

@@ -13,13 +13,10 @@ use Rattle.row.specs.declared.fault.Reason.the-variants.{TooLong, NotUtf8, NoRo
 use Rattle.row.specs.Fault.{faultAt, nowhere}
 use Rattle.raw.specs.declared.answer.Reading.{Reading}
 use Rattle.raw.specs.declared.answer.Reading.the-variants as reading
+use Rattle.row.specs.Limits.{mostBytes}
 use Rattle.row.specs.Row.{flat}
 use Rattle.raw.specs.Reader.{Out, ok, again, bad}
 use Rattle.raw.specs.Grammar.{file}
-
--- [01:From file to field] a file has at most 16,777,215 bytes
-abbrev pub mostBytes : ℕ
-mostBytes = 16777215
 
 abbrev pub checked : List ℕ → Validity → Out
 checked s validity.Valid = file s 0

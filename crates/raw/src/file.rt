@@ -6,6 +6,7 @@ use crate::entry;
 use crate::token;
 use row::fault::Fault;
 use row::fault::Reason;
+use row::limits::MOST_BYTES;
 use text::scanner;
 use text::utf8;
 use text::utf8::Validity;
@@ -75,7 +76,7 @@ pub fn parse(s: &[u8], base: usize, rows: &mut [u32], n: usize) -> Answer
 pub fn read(s: &[u8], rows: &mut [u32]) -> Reading
     ensures { λ r. ⌜ Read (now (s .entry)) (now (rows .entry)) r (now (rows .exit)) ⌝ }
 {
-    if 16_777_215 < s.len() {
+    if MOST_BYTES < s.len() {
         return Reading::Refused(Fault {
             reason: Reason::TooLong,
             start: 0,

@@ -23,7 +23,8 @@ use Rattle.row.specs.Fault.{numberOf, faultAt, nowhere}
 use Rattle.row.specs.Row.{Row}
 use Rattle.raw.specs.Reader.{ok, bad}
 use Rattle.raw.specs.Grammar.{file}
-use Rattle.raw.specs.Read.{mostBytes, checked, strict}
+use Rattle.row.specs.Limits.{mostBytes}
+use Rattle.raw.specs.Read.{checked, strict}
 use Rattle.raw.specs.Strict.{Fresh}
 use Rattle.raw.proofs.Trace.{Refused, Traced}
 use Rattle.raw.proofs.Entries.{file-good}

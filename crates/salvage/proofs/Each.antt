@@ -18,7 +18,8 @@ use Rattle.raw.specs.declared.answer.Reading.{Reading}
 use Rattle.raw.specs.declared.answer.Reading.the-variants as reading
 use Rattle.row.specs.Row.{Row, moved}
 use Rattle.raw.specs.Reader.{Out, ok, again, bad}
-use Rattle.raw.specs.Read.{mostBytes, strict, readingOut, leftOut}
+use Rattle.row.specs.Limits.{mostBytes}
+use Rattle.raw.specs.Read.{strict, readingOut, leftOut}
 use Rattle.row.specs.Rules.{clean}
 use Rattle.raw.proofs.Strict.{strict-reading}
 use Rattle.row.proofs.Rows.{moved-length}
@@ -60,7 +61,7 @@ module _ (s : List ℕ) (ws : List (List ℕ)) (w : List ℕ) (vs : List (List �
       record {
         rows = piece-rows;
         sound = told-sound w;
-        refused = λ f d. (ap (told w) d, strict-bad w (omega (arith, piece-length)) f d, strict-reading .refuses w f d .number .1, strict-reading .refuses w f d .place);
+        refused = λ f d. (ap (told w) d, strict-bad w (omega (arith, piece-length)) f d, strict-reading .refuses w f d .number .1, strict-reading .refuses w f d .place, strict-reading .refuses w f d .empty);
         exactly = told-damaged w;
       }
 

@@ -23,7 +23,7 @@ use Rattle.raw.specs.declared.answer.Reading.the-variants as reading
 use Rattle.row.specs.Row.{moved, flat, overlay}
 use Rattle.raw.specs.Reader.{Out, ok}
 use Rattle.raw.specs.Grammar.{file}
-use Rattle.raw.specs.Read.{mostBytes}
+use Rattle.row.specs.Limits.{mostBytes}
 use Rattle.row.specs.Rules.{clean}
 use Rattle.raw.specs.Says.{Room, Says}
 use Rattle.row.proofs.Rows.{moved-none, overlay-fits}

@@ -22,7 +22,8 @@ use Rattle.raw.specs.declared.answer.Answer.the-variants as answer
 use Rattle.row.specs.Row.{Row, rowWith, row, moved, flat, putRow, overlay}
 use Rattle.raw.specs.Reader.{Out, ok, again, bad}
 use Rattle.raw.specs.Grammar.{file}
-use Rattle.raw.specs.Read.{mostBytes, strict}
+use Rattle.row.specs.Limits.{mostBytes}
+use Rattle.raw.specs.Read.{strict}
 use Rattle.row.specs.Rules.{clean}
 use Rattle.raw.specs.Says.{answerOf, Room, Says, Within}
 use Rattle.raw.proofs.Strict.{strict-reading}

@@ -12,7 +12,8 @@ use Rattle.row.specs.declared.fault.Fault.{Fault}
 use Rattle.row.specs.Fault.{nowhere}
 use Rattle.raw.specs.declared.answer.Reading.the-variants.{Rows, Refused}
 use Rattle.raw.specs.Reader.{ok, bad}
-use Rattle.raw.specs.Read.{mostBytes, readingOut}
+use Rattle.row.specs.Limits.{mostBytes}
+use Rattle.raw.specs.Read.{readingOut}
 use Rattle.salvage.specs.Salvage.{salvageOf, salvaged}
 use Rattle.salvage.specs.Refusals.{SalvageFault, long, full, Refusals}
 

@@ -8,7 +8,8 @@ use lib.ListN.{length, take, drop}
 use Rattle.text.specs.Utf8.{Octets}
 use Rattle.row.specs.declared.fault.Fault.{Fault}
 use Rattle.row.specs.Row.{Row, moved, flat}
-use Rattle.raw.specs.Read.{mostBytes, strict}
+use Rattle.row.specs.Limits.{mostBytes}
+use Rattle.raw.specs.Read.{strict}
 use Rattle.row.specs.Rules.{clean}
 use Rattle.salvage.specs.Salvage.{cut, told, salvageOf}
 use Rattle.salvage.specs.Demand3.{fresh}

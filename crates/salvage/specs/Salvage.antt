@@ -18,7 +18,8 @@ use Rattle.row.specs.Fault.{numberOf, nowhere}
 use Rattle.raw.specs.declared.answer.Reading.{Reading}
 use Rattle.row.specs.Row.{Row, rowWith, row, moved}
 use Rattle.raw.specs.Reader.{Out, ok, again, bad}
-use Rattle.raw.specs.Read.{mostBytes, strict, readingOut, leftOut}
+use Rattle.row.specs.Limits.{mostBytes}
+use Rattle.raw.specs.Read.{strict, readingOut, leftOut}
 
 -- ---- boundaries
 

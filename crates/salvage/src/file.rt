@@ -5,6 +5,7 @@ use raw::answer::Reading;
 use raw::file;
 use row::fault::Fault;
 use row::fault::Reason;
+use row::limits::MOST_BYTES;
 use text::utf8;
 use text::utf8::Validity;
 ghost use mathlib.Core.Path.{_≡_};
@@ -99,7 +100,7 @@ fn write_damaged(s: &[u8], rows: &mut [u32], n: usize, valid: usize) -> Reading
 pub fn salvage(s: &[u8], rows: &mut [u32]) -> Reading
     ensures { λ r. ⌜ Salvage (now (s .entry)) (now (rows .entry)) r (now (rows .exit)) ⌝ }
 {
-    if 16_777_215 < s.len() {
+    if MOST_BYTES < s.len() {
         return Reading::Refused(Fault {
             reason: Reason::TooLong,
             start: 0,
