@@ -7,7 +7,7 @@ use mathlib.Core.Bool.{true}
 use mathlib.Core.List.{List, [], _∷_}
 use borrow.Author.Tests.{le-leb}
 use Rattle.row.specs.Row.{Row}
-use Rattle.raw.specs.Read.{mostBytes}
+use Rattle.row.specs.Limits.{mostBytes}
 use Rattle.pack.specs.Seven.{spanFits, every}
 use Rattle.pack.proofs.Inverse.{flat-packable}
 use Rattle.salvage.specs.Salvage.{salvageOf}

@@ -8,12 +8,14 @@ use mathlib.Core.List.{List}
 use lib.ListN.{length}
 use lib.Dec.{leb}
 use borrow.Author.Tests.{le-leb}
-use Rattle.raw.specs.declared.fault.Fault.the-variants.{TooLong, NoRoom}
-use Rattle.raw.specs.declared.fault.Reading.{Reading}
-use Rattle.raw.specs.declared.fault.Reading.the-variants.{Refused}
+use Rattle.row.specs.declared.fault.Reason.the-variants.{TooLong, NoRoom}
+use Rattle.row.specs.Fault.{nowhere}
+use Rattle.raw.specs.declared.answer.Reading.{Reading}
+use Rattle.raw.specs.declared.answer.Reading.the-variants.{Refused}
 use Rattle.row.specs.Row.{Row}
 use Rattle.raw.specs.Reader.{Out, ok, again, bad}
-use Rattle.raw.specs.Read.{mostBytes, strict, readingOut}
+use Rattle.row.specs.Limits.{mostBytes}
+use Rattle.raw.specs.Read.{strict, readingOut}
 use Rattle.raw.proofs.Strict.{strict-reading}
 use Rattle.salvage.specs.Salvage.{salvageOf, salvaged}
 use Rattle.salvage.proofs.Demand3.{demand3}
@@ -37,11 +39,11 @@ module _ (s b : List ℕ) (h : Enough s b) where
   unfolding salvaged
   salvage-status = by (leb (length s) mostBytes)
     where
-      by : (x : Bool) → statusOf (readingOut (cond x (ok (length s) (salvageOf s)) (bad TooLong)) (length b)) ≤ 10
+      by : (x : Bool) → statusOf (readingOut (cond x (ok (length s) (salvageOf s)) (bad (nowhere TooLong))) (length b)) ≤ 10
       by true = let k = demand3 .few s in rows-status (length s) (salvageOf s) (length b) (omega arith)
       by false = omega arith
 
-not-room : (r : Reading) → statusOf r ≤ 10 → r ≡ Refused NoRoom → ⊥
+not-room : (r : Reading) → statusOf r ≤ 10 → r ≡ Refused (nowhere NoRoom) → ⊥
 not-room r h e = let z : statusOf r ≡ 16 = ap statusOf e in omega arith
 
 pub room : Room

@@ -4,15 +4,15 @@ use Prim.Native.Nat.{ℕ}
 use mathlib.Core.Path.{_≡_}
 use mathlib.Core.List.{List}
 use lib.ListN.{length}
+use Rattle.row.specs.Fault.{numberOf}
 use Rattle.raw.specs.Reader.{Out}
-use Rattle.raw.specs.Read.{numberOf, startOf, endOf, readingOut, leftOut}
-use Rattle.raw.specs.declared.fault.Reading.{Reading}
-use Rattle.raw.specs.declared.fault.Reading.the-variants.{Rows, Refused}
+use Rattle.raw.specs.Read.{readingOut, leftOut}
+use Rattle.raw.specs.declared.answer.Reading.{Reading}
+use Rattle.raw.specs.declared.answer.Reading.the-variants.{Rows, Refused}
 use Rattle.pack.specs.declared.packing.Packed.{Packed}
 use Rattle.pack.specs.declared.packing.Packed.the-variants as packed
 use Rattle.pack.specs.declared.unpacking.Unpacked.{Unpacked}
 use Rattle.pack.specs.declared.unpacking.Unpacked.the-variants as unpacked
-use Rattle.pack.specs.Seven as seven
 use Rattle.pack.specs.Pack.{packedOf, packedInto}
 use Rattle.pack.specs.Unpack.{unpackedOf, unpackedInto}
 
@@ -20,7 +20,7 @@ use Rattle.pack.specs.Unpack.{unpackedOf, unpackedInto}
 
 abbrev pub statusOf : Reading → ℕ
 statusOf (Rows n) = 0
-statusOf (Refused f) = numberOf f
+statusOf (Refused f) = numberOf (f .reason)
 
 abbrev pub countOf : Reading → ℕ
 countOf (Rows n) = n
@@ -28,11 +28,11 @@ countOf (Refused f) = 0
 
 abbrev pub placeStart : Reading → ℕ
 placeStart (Rows n) = 0
-placeStart (Refused f) = startOf f
+placeStart (Refused f) = f .start
 
 abbrev pub placeEnd : Reading → ℕ
 placeEnd (Rows n) = 0
-placeEnd (Refused f) = endOf f
+placeEnd (Refused f) = f .end
 
 -- a reading in lent numbers
 pub record Told (g : Reading) (r count start end : ℕ) : Type 0 where
@@ -51,7 +51,7 @@ pub record Exported (o : Out) (b : List ℕ) (r count start end : ℕ) (b′ : L
 
 abbrev pub packStatus : Packed → ℕ
 packStatus (packed.Bytes n) = 0
-packStatus (packed.Refused f) = seven.numberOf f
+packStatus (packed.Refused f) = numberOf (f .reason)
 
 abbrev pub packCount : Packed → ℕ
 packCount (packed.Bytes n) = n
@@ -59,7 +59,7 @@ packCount (packed.Refused f) = 0
 
 abbrev pub unpackStatus : Unpacked → ℕ
 unpackStatus (unpacked.Rows n) = 0
-unpackStatus (unpacked.Refused f) = seven.numberOf f
+unpackStatus (unpacked.Refused f) = numberOf (f .reason)
 
 abbrev pub unpackCount : Unpacked → ℕ
 unpackCount (unpacked.Rows n) = n

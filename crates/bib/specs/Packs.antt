@@ -6,7 +6,7 @@ use mathlib.Core.Bool.{true}
 use mathlib.Core.List.{List}
 use lib.ListN.{length}
 use Rattle.row.specs.Row.{flat}
-use Rattle.raw.specs.Read.{mostBytes}
+use Rattle.row.specs.Limits.{mostBytes}
 use Rattle.salvage.specs.Salvage.{salvageOf}
 use Rattle.pack.specs.Pack.{isPackable}
 

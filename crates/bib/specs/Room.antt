@@ -4,8 +4,9 @@ use Prim.Native.Nat.{ℕ, _+_, _*_, _≤_}
 use mathlib.Core.Path.{_≡_}
 use mathlib.Core.List.{List}
 use lib.ListN.{length}
-use Rattle.raw.specs.declared.fault.Fault.the-variants.{NoRoom}
-use Rattle.raw.specs.declared.fault.Reading.the-variants.{Refused}
+use Rattle.row.specs.declared.fault.Reason.the-variants.{NoRoom}
+use Rattle.row.specs.Fault.{nowhere}
+use Rattle.raw.specs.declared.answer.Reading.the-variants.{Refused}
 use Rattle.raw.specs.Read.{strict, readingOut}
 use Rattle.salvage.specs.Salvage.{salvaged}
 use Rattle.bib.specs.Export.{Exported}
@@ -16,8 +17,8 @@ Enough s b = 4 * (length s + 1) ≤ length b
 
 pub record Room : Type 0 where
   -- neither strict reading nor salvage is then refused for want of room
-  pub reading : (s b : List ℕ) → Enough s b → readingOut (strict s) (length b) ≡ Refused NoRoom → ⊥
-  pub salvaging : (s b : List ℕ) → Enough s b → readingOut (salvaged s) (length b) ≡ Refused NoRoom → ⊥
+  pub reading : (s b : List ℕ) → Enough s b → readingOut (strict s) (length b) ≡ Refused (nowhere NoRoom) → ⊥
+  pub salvaging : (s b : List ℕ) → Enough s b → readingOut (salvaged s) (length b) ≡ Refused (nowhere NoRoom) → ⊥
   -- so neither call answers 16
   pub read : (s b b′ : List ℕ) (r count start end : ℕ) → Enough s b → Exported (strict s) b r count start end b′ → r ≡ 16 → ⊥
   pub salvage : (s b b′ : List ℕ) (r count start end : ℕ) → Enough s b → Exported (salvaged s) b r count start end b′ → r ≡ 16 → ⊥

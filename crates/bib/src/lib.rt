@@ -7,9 +7,9 @@ use pack::packing;
 use pack::packing::Packed;
 use pack::unpacking;
 use pack::unpacking::Unpacked;
-use raw::fault;
-use raw::fault::Reading;
+use raw::answer::Reading;
 use raw::file;
+use row::fault;
 ghost use Rattle.raw.specs.Read.{strict};
 ghost use Rattle.salvage.specs.Salvage.{salvaged};
 ghost use Rattle.bib.specs.Export.{Told, Exported, ExportedPack, ExportedUnpack};
@@ -26,10 +26,13 @@ fn tell(reading: Reading, count: &mut u64, start: &mut u64, end: &mut u64) -> u3
             return 0;
         }
         Reading::Refused(f) => {
+            let from = f.start;
+            let to = f.end;
+            let reason = f.reason;
             *count = 0;
-            *start = fault::start(f) as u64;
-            *end = fault::end(f) as u64;
-            return fault::number(f);
+            *start = from as u64;
+            *end = to as u64;
+            return fault::number(reason);
         }
     }
 }
@@ -84,8 +87,9 @@ pub extern "C" fn bib_pack(
             return 0;
         }
         Packed::Refused(f) => {
+            let reason = f.reason;
             *count = 0;
-            return pack::fault::number(f);
+            return fault::number(reason);
         }
     }
 }
@@ -109,9 +113,10 @@ pub extern "C" fn bib_unpack(
             *count = n as u64;
             return 0;
         }
-        Unpacked::Refused(bad) => {
+        Unpacked::Refused(f) => {
+            let bad = f.reason;
             *count = 0;
-            return pack::fault::number(bad);
+            return fault::number(bad);
         }
     }
 }

@@ -10,7 +10,8 @@ use lib.ListN.{length, drop}
 use borrow.Author.Tests.{le-leb, lt-leb}
 use Rattle.row.specs.Row.{flat}
 use Rattle.row.specs.Numbers.{rowsOf}
-use Rattle.pack.specs.declared.fault.RowFault.the-variants.{BadRows, NoRoom}
+use Rattle.row.specs.declared.fault.Reason.the-variants.{BadRows, NoRoom}
+use Rattle.row.specs.Fault.{nowhere}
 use Rattle.pack.specs.declared.packing.Packed.the-variants as packed
 use Rattle.pack.specs.declared.unpacking.Unpacked.the-variants as unpacked
 use Rattle.pack.specs.Seven.{packing, unpacking}
@@ -22,11 +23,11 @@ module _ (l b : List ℕ) where
   unfolding packedOf packedInto
   pack-done p h b′ e = let t = le-leb (bytesFor (length l)) (length b) h in record { answer = rw (p, t); bytes = rw (p, t) e }
 
-  pub pack-full : isPackable l ≡ true → length b < bytesFor (length l) → Pack l b (packed.Refused NoRoom) b
+  pub pack-full : isPackable l ≡ true → length b < bytesFor (length l) → Pack l b (packed.Refused (nowhere NoRoom)) b
   unfolding packedOf packedInto
   pack-full p h = let t = lt-leb (bytesFor (length l)) (length b) h in record { answer = rw (p, t); bytes = rw (p, t) }
 
-  pub pack-bad : isPackable l ≡ false → Pack l b (packed.Refused BadRows) b
+  pub pack-bad : isPackable l ≡ false → Pack l b (packed.Refused (nowhere BadRows)) b
   unfolding packedOf packedInto
   pack-bad p = record { answer = rw p; bytes = rw p }
 
@@ -35,10 +36,10 @@ module _ (s b : List ℕ) where
   unfolding unpackedOf unpackedInto
   unpack-done p h b′ e = let t = le-leb (length s / 7) (length b / 4) h in record { answer = rw (p, t); rows = rw (p, t) e }
 
-  pub unpack-full : isUnpackable s ≡ true → length b / 4 < length s / 7 → Unpack s b (unpacked.Refused NoRoom) b
+  pub unpack-full : isUnpackable s ≡ true → length b / 4 < length s / 7 → Unpack s b (unpacked.Refused (nowhere NoRoom)) b
   unfolding unpackedOf unpackedInto
   unpack-full p h = let t = lt-leb (length s / 7) (length b / 4) h in record { answer = rw (p, t); rows = rw (p, t) }
 
-  pub unpack-bad : isUnpackable s ≡ false → Unpack s b (unpacked.Refused BadRows) b
+  pub unpack-bad : isUnpackable s ≡ false → Unpack s b (unpacked.Refused (nowhere BadRows)) b
   unfolding unpackedOf unpackedInto
   unpack-bad p = record { answer = rw p; rows = rw p }

@@ -14,7 +14,7 @@ use lib.Dec.{eqb, leb}
 use borrow.Author.Tests.{leb-true, eqb-true, ne-eqb}
 use Rattle.row.specs.declared.mask.Masks.{Masks}
 use Rattle.row.specs.Row.{Row}
-use Rattle.raw.specs.Read.{mostBytes}
+use Rattle.row.specs.Limits.{mostBytes}
 use Rattle.row.specs.Rules.{Await, part, run, whole, isRows}
 use Rattle.row.specs.Numbers.{rowsOf, isSound}
 use Rattle.row.specs.Masks.{masksOf, stepOf, endsOf}

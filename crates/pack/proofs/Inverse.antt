@@ -15,7 +15,7 @@ use lib.ListN.{length}
 use lib.Dec.{eqb, leb}
 use borrow.Author.Tests.{le-leb, eqb-true}
 use Rattle.row.specs.Row.{Row, flat}
-use Rattle.raw.specs.Read.{mostBytes}
+use Rattle.row.specs.Limits.{mostBytes}
 use Rattle.row.specs.Rules.{isRows}
 use Rattle.row.specs.Numbers.{rowsOf, isSound}
 use Rattle.pack.specs.Big.{big, ofBig, span, Bytes}

@@ -8,4 +8,5 @@ pub mod Inverse
 pub mod Told
 pub mod Readings
 pub mod RoundTrip
+pub mod Refusals
 pub mod Unique

@@ -11,11 +11,13 @@ use lib.ListN.{length, take, drop}
 use lib.Seq.{take-at}
 use lib.Dec.{leb}
 use borrow.Author.Tests.{le-leb, leb-true}
-use Rattle.raw.specs.declared.fault.Fault.the-variants as fault
-use Rattle.raw.specs.declared.fault.Reading.the-variants as reading
+use Rattle.row.specs.declared.fault.Reason.the-variants as fault
+use Rattle.row.specs.Fault.{nowhere}
+use Rattle.raw.specs.declared.answer.Reading.the-variants as reading
 use Rattle.row.specs.Row.{Row, flat}
 use Rattle.raw.specs.Reader.{Out, ok, again, bad}
-use Rattle.raw.specs.Read.{strict, mostBytes, readingOut, leftOut, Read}
+use Rattle.row.specs.Limits.{mostBytes}
+use Rattle.raw.specs.Read.{strict, readingOut, leftOut, Read}
 use Rattle.raw.specs.Strict.{Spans}
 use Rattle.raw.proofs.Strict.{strict-reading}
 use Rattle.pack.specs.declared.packing.Packed.{Packed}
@@ -25,7 +27,7 @@ use Rattle.pack.specs.Pack.{isPackable, bytesFor, Pack}
 use Rattle.pack.proofs.Inverse.{flat-length, flat-packable}
 use Rattle.pack.proofs.Told.{pack-gives}
 
-strict-long : (s : List ℕ) → leb (length s) mostBytes ≡ false → strict s ≡ bad fault.TooLong
+strict-long : (s : List ℕ) → leb (length s) mostBytes ≡ false → strict s ≡ bad (nowhere fault.TooLong)
 unfolding strict
 strict-long s e = rw e
 
@@ -57,7 +59,7 @@ front-packs rs c b b′ r k p h =
     pack-gives (flat rs) b b′ r k (omega (arith, e)) (subst (λ (l : List ℕ). Pack l b r b′) x p) .0 ∙ ap packed.Bytes e
 
 module _ (s c c′ : List ℕ) (n : ℕ) (b b′ : List ℕ) (r : Packed) (p : Pack (take (n * 4) c′) b r b′) (h : n * 7 ≤ length b) where
-  rows-packs : (q : ℕ) (rs : List Row) (y : Bool) → strict s ≡ ok q rs → reading.Rows n ≡ cond y (reading.Rows (length rs)) (reading.Refused fault.NoRoom) → c′ ≡ cond y (flat rs ++ drop (length rs * 4) c) c → r ≡ packed.Bytes (n * 7)
+  rows-packs : (q : ℕ) (rs : List Row) (y : Bool) → strict s ≡ ok q rs → reading.Rows n ≡ cond y (reading.Rows (length rs)) (reading.Refused (nowhere fault.NoRoom)) → c′ ≡ cond y (flat rs ++ drop (length rs * 4) c) c → r ≡ packed.Bytes (n * 7)
   rows-packs q rs true e f g =
       let m : n ≡ length rs = cc in
       rw m (front-packs rs c b b′ r (strictly s q rs e) (rw (m, g) at p) (rw m at h))

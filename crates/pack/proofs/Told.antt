@@ -12,7 +12,8 @@ use lib.Dec.{leb}
 use borrow.Author.Tests.{leb-true}
 use Rattle.row.specs.Row.{flat}
 use Rattle.row.specs.Numbers.{rowsOf}
-use Rattle.pack.specs.declared.fault.RowFault.the-variants.{BadRows, NoRoom}
+use Rattle.row.specs.declared.fault.Reason.the-variants.{BadRows, NoRoom}
+use Rattle.row.specs.Fault.{nowhere}
 use Rattle.pack.specs.declared.packing.Packed.{Packed}
 use Rattle.pack.specs.declared.packing.Packed.the-variants as packed
 use Rattle.pack.specs.declared.unpacking.Unpacked.{Unpacked}
@@ -32,7 +33,7 @@ pub pack-told : (l b b′ : List ℕ) (n : ℕ) → Pack l b (packed.Bytes n) b�
 unfolding packedOf packedInto
 pack-told l b b′ n p = by (isPackable l) (leb (bytesFor (length l)) (length b)) refl refl (p .answer) (p .bytes)
   where
-    by : (x y : Bool) → isPackable l ≡ x → leb (bytesFor (length l)) (length b) ≡ y → packed.Bytes n ≡ cond x (cond y (packed.Bytes (bytesFor (length l))) (packed.Refused NoRoom)) (packed.Refused BadRows) → b′ ≡ cond x (cond y (packing (rowsOf l) ++ drop (bytesFor (length l)) b) b) b → PackTold l b n b′
+    by : (x y : Bool) → isPackable l ≡ x → leb (bytesFor (length l)) (length b) ≡ y → packed.Bytes n ≡ cond x (cond y (packed.Bytes (bytesFor (length l))) (packed.Refused (nowhere NoRoom))) (packed.Refused (nowhere BadRows)) → b′ ≡ cond x (cond y (packing (rowsOf l) ++ drop (bytesFor (length l)) b) b) b → PackTold l b n b′
     by true true e f g h =
         let s : n ≡ bytesFor (length l) = cc in
         record { fits = e; size = s; room = leb-true (bytesFor (length l)) (length b) f; left = rw s h }
@@ -52,7 +53,7 @@ pub unpack-told : (s b b′ : List ℕ) (n : ℕ) → Unpack s b (unpacked.Rows 
 unfolding unpackedOf unpackedInto
 unpack-told s b b′ n p = by (isUnpackable s) (leb (length s / 7) (length b / 4)) refl refl (p .answer) (p .rows)
   where
-    by : (x y : Bool) → isUnpackable s ≡ x → leb (length s / 7) (length b / 4) ≡ y → unpacked.Rows n ≡ cond x (cond y (unpacked.Rows (length s / 7)) (unpacked.Refused NoRoom)) (unpacked.Refused BadRows) → b′ ≡ cond x (cond y (flat (unpacking s) ++ drop (length s / 7 * 4) b) b) b → UnpackTold s b n b′
+    by : (x y : Bool) → isUnpackable s ≡ x → leb (length s / 7) (length b / 4) ≡ y → unpacked.Rows n ≡ cond x (cond y (unpacked.Rows (length s / 7)) (unpacked.Refused (nowhere NoRoom))) (unpacked.Refused (nowhere BadRows)) → b′ ≡ cond x (cond y (flat (unpacking s) ++ drop (length s / 7 * 4) b) b) b → UnpackTold s b n b′
     by true true e f g h =
         let k : n ≡ length s / 7 = cc in
         record { fits = e; size = k; room = leb-true (length s / 7) (length b / 4) f; left = rw k h }

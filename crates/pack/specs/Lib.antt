@@ -3,3 +3,4 @@ pub mod Seven
 pub mod Pack
 pub mod Unpack
 pub mod RoundTrip
+pub mod Refusals

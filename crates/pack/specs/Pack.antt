@@ -8,7 +8,8 @@ use mathlib.Core.List.{List, _++_}
 use lib.ListN.{length, drop}
 use lib.Dec.{leb}
 use Rattle.row.specs.Numbers.{rowsOf, isSound}
-use Rattle.pack.specs.declared.fault.RowFault.the-variants.{BadRows, NoRoom}
+use Rattle.row.specs.declared.fault.Reason.the-variants.{BadRows, NoRoom}
+use Rattle.row.specs.Fault.{nowhere}
 use Rattle.pack.specs.declared.packing.Packed.{Packed}
 use Rattle.pack.specs.declared.packing.Packed.the-variants as packed
 use Rattle.pack.specs.Seven.{packing, spanFits, every}
@@ -21,7 +22,7 @@ abbrev pub bytesFor : ℕ → ℕ
 bytesFor n = n / 4 * 7
 
 unfoldable pub packedOf : List ℕ → ℕ → Packed
-packedOf l size = cond (isPackable l) (cond (leb (bytesFor (length l)) size) (packed.Bytes (bytesFor (length l))) (packed.Refused NoRoom)) (packed.Refused BadRows)
+packedOf l size = cond (isPackable l) (cond (leb (bytesFor (length l)) size) (packed.Bytes (bytesFor (length l))) (packed.Refused (nowhere NoRoom))) (packed.Refused (nowhere BadRows))
 
 -- the lent bytes: the rows' in front of what they held, or as they were
 unfoldable pub packedInto : List ℕ → List ℕ → List ℕ

@@ -6,7 +6,7 @@ use mathlib.Core.Path.{_≡_}
 use mathlib.Core.Bool.{true}
 use mathlib.Core.List.{List, [], _∷_, _++_}
 use lib.ListN.{length, take, drop}
-use Rattle.raw.specs.declared.fault.Reading.the-variants as reading
+use Rattle.raw.specs.declared.answer.Reading.the-variants as reading
 use Rattle.row.specs.Row.{Row, flat}
 use Rattle.raw.specs.Reader.{ok}
 use Rattle.raw.specs.Read.{strict, Read}

@@ -4,7 +4,6 @@
 --     unpackRow, unpacking      the row of seven bytes, and the rows of as many sevens as there are
 --     threeAt, unpackAt         by index
 --     endFits, spanFits, every  the spans that three bytes hold
---     numberOf, startOf, endOf  01's numbers and places of the refusals
 -- Assumes nothing.
 use Prim.Native.Nat.{ℕ, _+_, _-_, _*_, _/_, _%_, _≤_}
 use mathlib.Core.Bool.{Bool, true, _&&_}
@@ -12,9 +11,7 @@ use mathlib.Core.List.{List, [], _∷_, _++_}
 use lib.ListN.{getD}
 use lib.Dec.{leb}
 use Rattle.row.specs.Row.{Row, rowOf}
-use Rattle.raw.specs.Read.{mostBytes}
-use Rattle.pack.specs.declared.fault.RowFault.{RowFault}
-use Rattle.pack.specs.declared.fault.RowFault.the-variants.{BadRows, NoRoom}
+use Rattle.row.specs.Limits.{mostBytes}
 use Rattle.pack.specs.Big.{big, ofBig}
 
 abbrev pub packRow : Row → List ℕ
@@ -64,18 +61,3 @@ pub record Fits (r : Row) : Type 0 where
   pub detail : r .detail ≤ 10
   pub order : r .start ≤ r .end
   pub end : r .end ≤ mostBytes
-
--- ---- refusals
-
--- [01:Numbers a caller can get]
-abbrev pub numberOf : RowFault → ℕ
-numberOf NoRoom = 16
-numberOf BadRows = 17
-
--- each at 0..0
-abbrev pub startOf : RowFault → ℕ
-startOf NoRoom = 0
-startOf BadRows = 0
-
-abbrev pub endOf : RowFault → ℕ
-endOf f = startOf f

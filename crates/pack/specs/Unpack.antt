@@ -10,7 +10,8 @@ use lib.ListN.{length, drop}
 use lib.Dec.{eqb, leb}
 use Rattle.row.specs.Row.{flat}
 use Rattle.row.specs.Rules.{isRows}
-use Rattle.pack.specs.declared.fault.RowFault.the-variants.{BadRows, NoRoom}
+use Rattle.row.specs.declared.fault.Reason.the-variants.{BadRows, NoRoom}
+use Rattle.row.specs.Fault.{nowhere}
 use Rattle.pack.specs.declared.unpacking.Unpacked.{Unpacked}
 use Rattle.pack.specs.declared.unpacking.Unpacked.the-variants as unpacked
 use Rattle.pack.specs.Seven.{unpacking, endFits, every}
@@ -19,7 +20,7 @@ unfoldable pub isUnpackable : List ℕ → Bool
 isUnpackable s = eqb (length s % 7) 0 && (isRows (unpacking s) && every endFits (unpacking s))
 
 unfoldable pub unpackedOf : List ℕ → ℕ → Unpacked
-unpackedOf s size = cond (isUnpackable s) (cond (leb (length s / 7) (size / 4)) (unpacked.Rows (length s / 7)) (unpacked.Refused NoRoom)) (unpacked.Refused BadRows)
+unpackedOf s size = cond (isUnpackable s) (cond (leb (length s / 7) (size / 4)) (unpacked.Rows (length s / 7)) (unpacked.Refused (nowhere NoRoom))) (unpacked.Refused (nowhere BadRows))
 
 -- the lent numbers: the rows in front of what they held, or as they were
 unfoldable pub unpackedInto : List ℕ → List ℕ → List ℕ

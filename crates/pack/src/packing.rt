@@ -1,5 +1,7 @@
 // Rows into bytes: checked first, written second.
-use crate::fault::RowFault;
+use row::fault::Fault;
+use row::fault::Reason;
+use row::limits::LAST_PLACE;
 use row::mask;
 ghost use mathlib.Core.Path.{_≡_};
 ghost use mathlib.Core.Bool.{true};
@@ -14,7 +16,7 @@ ghost use Rattle.pack.specs.Pack.{isPackable, Pack};
 // The number of bytes, which then stand in the lent ones.
 pub enum Packed {
     Bytes(usize),
-    Refused(RowFault),
+    Refused(Fault),
 }
 
 // Whether the rows pass the row check, and each span is a span of a file.
@@ -32,7 +34,7 @@ fn is_packable(rows: &[u32]) -> bool
         let start = rows[i + 2];
         let end = rows[i + 3];
         masks = mask::step(masks, kind, detail);
-        if (end <= 16_777_215) & (start <= end) {
+        if (end <= LAST_PLACE) & (start <= end) {
             i += 4;
         } else {
             return false;
@@ -77,10 +79,18 @@ pub fn pack(rows: &[u32], bytes: &mut [u8]) -> Packed
     if is_packable(rows) {
         let n = rows.len() / 4;
         if bytes.len() / 7 < n {
-            return Packed::Refused(RowFault::NoRoom);
+            return Packed::Refused(Fault {
+                reason: Reason::NoRoom,
+                start: 0,
+                end: 0,
+            });
         }
         put_all(rows, bytes);
         return Packed::Bytes(n * 7);
     }
-    Packed::Refused(RowFault::BadRows)
+    Packed::Refused(Fault {
+        reason: Reason::BadRows,
+        start: 0,
+        end: 0,
+    })
 }

@@ -1,11 +1,14 @@
 // Bytes into rows: checked first, written second.
-use crate::fault::RowFault;
+use row::fault::Fault;
+use row::fault::Reason;
 use row::form;
+use row::limits::LAST_PLACE;
 use row::mask;
 ghost use mathlib.Core.Path.{_≡_};
 ghost use mathlib.Core.List.{_++_};
 ghost use Prim.Native.Nat.{_+_, _*_, _/_, _≤_};
 ghost use lib.ListN.{length, drop};
+ghost use Rattle.row.specs.Limits.{mostBytes};
 ghost use Rattle.row.specs.Row.{flat};
 ghost use Rattle.pack.specs.Seven.{unpacking, threeAt};
 ghost use Rattle.pack.specs.Unpack.{isUnpackable, Unpack};
@@ -13,13 +16,13 @@ ghost use Rattle.pack.specs.Unpack.{isUnpackable, Unpack};
 // The number of rows, which then stand in the lent numbers.
 pub enum Unpacked {
     Rows(usize),
-    Refused(RowFault),
+    Refused(Fault),
 }
 
 // The number of the three bytes from p on, most significant first.
 fn three(bytes: &[u8], p: usize) -> u32
     requires { ⌜ p + 3 ≤ length (now bytes) ⌝ }
-    ensures { λ r. ⌜ (r ≡ threeAt (now (bytes .entry)) p) × (r ≤ 16777215) ⌝ }
+    ensures { λ r. ⌜ (r ≡ threeAt (now (bytes .entry)) p) × (r ≤ mostBytes) ⌝ }
 {
     let a = bytes[p] as u32;
     let b = bytes[p + 1] as u32;
@@ -41,7 +44,7 @@ fn is_unpackable(bytes: &[u8]) -> bool
         masks = mask::step(masks, head / 16, head % 16);
         let start = three(bytes, p + 1);
         let size = three(bytes, p + 4);
-        if start + size <= 16_777_215 {
+        if start + size <= LAST_PLACE {
             p += 7;
         } else {
             return false;
@@ -75,10 +78,18 @@ pub fn unpack(bytes: &[u8], rows: &mut [u32]) -> Unpacked
     if is_unpackable(bytes) {
         let n = bytes.len() / 7;
         if rows.len() / 4 < n {
-            return Unpacked::Refused(RowFault::NoRoom);
+            return Unpacked::Refused(Fault {
+                reason: Reason::NoRoom,
+                start: 0,
+                end: 0,
+            });
         }
         put_all(bytes, rows);
         return Unpacked::Rows(n);
     }
-    Unpacked::Refused(RowFault::BadRows)
+    Unpacked::Refused(Fault {
+        reason: Reason::BadRows,
+        start: 0,
+        end: 0,
+    })
 }

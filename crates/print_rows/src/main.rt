@@ -1,8 +1,9 @@
 // Prints the rows of a .bib file that it reads from standard input, or the refusal, as document 01 says.
-use raw::fault;
-use raw::fault::Fault;
-use raw::fault::Reading;
+use raw::answer::Reading;
 use raw::file;
+use row::fault;
+use row::fault::Fault;
+use row::fault::Reason;
 ghost use Prim.Native.Nat.{_<_};
 
 fn number_at(rows: &[u32], i: usize) -> u64 {
@@ -53,12 +54,11 @@ fn print_rows(rows: &[u32], n: usize) {
 }
 
 fn print_refusal(f: Fault) {
+    let reason = f.reason;
+    let start = f.start;
+    let end = f.end;
     say(b"refused ");
-    print_numbers(
-        fault::number(f) as u64,
-        fault::start(f) as u64,
-        fault::end(f) as u64,
-    );
+    print_numbers(fault::number(reason) as u64, start as u64, end as u64);
     say(b"\n");
 }
 
@@ -66,7 +66,11 @@ fn main() {
     let mut text = [0u8; 65537];
     let n = io::read_full(0, &mut text);
     if 65536 < n {
-        print_refusal(Fault::TooLong);
+        print_refusal(Fault {
+            reason: Reason::TooLong,
+            start: 0,
+            end: 0,
+        });
         return;
     }
     let mut rows = [0u32; 16384];

@@ -8,9 +8,9 @@ use Prim.Native.Nat.{ℕ, zero, suc}
 use mathlib.Core.Path.{_≡_, refl, sym, ap, _∙_}
 use mathlib.Core.List.{List, []}
 use native.Mathlib.Omega.{arith}
-use Rattle.raw.specs.declared.fault.Fault.{Fault}
-use Rattle.raw.specs.declared.fault.Step.{Step}
-use Rattle.raw.specs.declared.fault.Step.the-variants as step
+use Rattle.row.specs.declared.fault.Fault.{Fault}
+use Rattle.raw.specs.declared.answer.Step.{Step}
+use Rattle.raw.specs.declared.answer.Step.the-variants as step
 use lib.ListN.{length}
 use Rattle.raw.specs.Reader.{Out, ok, again, bad, Reader, more, andThen, after, loop, many}
 use Rattle.raw.specs.Says.{stepOf}

@@ -7,13 +7,13 @@ use Prim.Native.Nat.{ℕ, _+_, _*_, _≤_, _<_, max}
 use mathlib.Core.Path.{_≡_, refl, sym, ap, _∙_, subst}
 use mathlib.Core.List.{List}
 use native.Mathlib.Omega.{arith}
-use Rattle.raw.specs.declared.fault.Fault.{Fault}
-use Rattle.raw.specs.declared.fault.Step.{Step}
-use Rattle.raw.specs.declared.fault.Step.the-variants as step
-use Rattle.raw.specs.declared.fault.Answer.{Answer}
-use Rattle.raw.specs.declared.fault.Answer.the-variants as answer
-use Rattle.raw.specs.declared.fault.Turn.{Turn}
-use Rattle.raw.specs.declared.fault.Turn.the-variants as turn
+use Rattle.row.specs.declared.fault.Fault.{Fault}
+use Rattle.raw.specs.declared.answer.Step.{Step}
+use Rattle.raw.specs.declared.answer.Step.the-variants as step
+use Rattle.raw.specs.declared.answer.Answer.{Answer}
+use Rattle.raw.specs.declared.answer.Answer.the-variants as answer
+use Rattle.raw.specs.declared.answer.Turn.{Turn}
+use Rattle.raw.specs.declared.answer.Turn.the-variants as turn
 use Rattle.raw.specs.Reader.{Out, ok, again, bad}
 use Rattle.raw.specs.Says.{stepOf, Onward, Within, WithinTurn, refusedOf, Says}
 use Rattle.raw.proofs.Saying.{says-off, says-at}

@@ -18,9 +18,10 @@ use Rattle.text.specs.Scan.{see}
 use Rattle.text.specs.declared.scanner.Seen.the-variants.{End, Char}
 use Rattle.text.proofs.Grammar.{within-true}
 use Rattle.text.proofs.Seen.{see-end, see-ascii}
-use Rattle.raw.specs.declared.fault.Fault.the-variants.{UnexpectedEof, UnexpectedDecimalPoint}
-use Rattle.raw.specs.declared.fault.Step.{Step}
-use Rattle.raw.specs.declared.fault.Step.the-variants as step
+use Rattle.row.specs.declared.fault.Reason.the-variants.{UnexpectedEof, UnexpectedDecimalPoint}
+use Rattle.row.specs.Fault.{faultAt}
+use Rattle.raw.specs.declared.answer.Step.{Step}
+use Rattle.raw.specs.declared.answer.Step.the-variants as step
 use Rattle.raw.specs.Reader.{Reader, ok, again, bad}
 use Rattle.raw.specs.Grammar.{is, escape, quotedTurn, quoted, numberTurn, number, bracedTurn, inBraces}
 use Rattle.raw.specs.Says.{stepOf, Onward}
@@ -46,7 +47,7 @@ quoted-wide : Wide quotedTurn
 quoted-wide a s i c n e h = quoted-other a s i c n e (narrow-is 0x22 (omega arith) c h) (narrow-is 0x5C (omega arith) c h)
 
 module _ {s : List ℕ} {at i : ℕ} (r : Reached quotedTurn s at 0 i) where
-  pub quoted-end : length s ≤ i → Answers quoted s at (step.Refused (UnexpectedEof i))
+  pub quoted-end : length s ≤ i → Answers quoted s at (step.Refused (faultAt UnexpectedEof i))
   unfolding quotedTurn quoted
   quoted-end h = at-bad quoted-un r (rw (see-end s i h))
 
@@ -90,7 +91,7 @@ unfolding numberTurn
 number-none true s i c n e t q = rw (e, t, q)
 number-none false s i c n e t q = rw (e, t, q)
 
-number-cut : (d : Bool) (s : List ℕ) (i : ℕ) → see s i ≡ End → numberTurn (dotted d) s i ≡ bad (UnexpectedEof i)
+number-cut : (d : Bool) (s : List ℕ) (i : ℕ) → see s i ≡ End → numberTurn (dotted d) s i ≡ bad (faultAt UnexpectedEof i)
 unfolding numberTurn
 number-cut true s i e = rw e
 number-cut false s i e = rw e
@@ -100,7 +101,7 @@ unfolding holdsOf
 digit-narrow c h = rw (lt-leb c 0x39 (omega arith), and-false (leb 0x30 c))
 
 module _ {s : List ℕ} {at i : ℕ} (d : Bool) (r : Reached numberTurn s at (dotted d) i) where
-  pub number-end : length s ≤ i → Answers number s at (step.Refused (UnexpectedEof i))
+  pub number-end : length s ≤ i → Answers number s at (step.Refused (faultAt UnexpectedEof i))
   unfolding number
   number-end h = at-bad number-un r (number-cut d s i (see-end s i h))
 
@@ -122,7 +123,7 @@ module _ {s : List ℕ} {at i : ℕ} (h : i < length s) (e : getD s i 0 ≡ 0x2E
   unfolding numberTurn holdsOf
   number-point d r q = on-turn number-un (rw q at r) (rw (seen-key s i h 0x2E e (omega arith))) (omega arith) (omega arith)
 
-  pub number-again : (d : Bool) → Reached numberTurn s at (dotted d) i → d ≡ true → Answers number s at (step.Refused (UnexpectedDecimalPoint i))
+  pub number-again : (d : Bool) → Reached numberTurn s at (dotted d) i → d ≡ true → Answers number s at (step.Refused (faultAt UnexpectedDecimalPoint i))
   unfolding numberTurn number holdsOf
   number-again d r q = at-bad number-un (rw q at r) (rw (seen-key s i h 0x2E e (omega arith)))
 
@@ -151,7 +152,7 @@ unfolding bracedTurn
 close-stop zero s i n e z = rw e
 close-stop (suc d) s i n e z = absurd (omega arith)
 
-braces-cut-off : (d : ℕ) (s : List ℕ) (i : ℕ) → see s i ≡ End → bracedTurn d s i ≡ bad (UnexpectedEof i)
+braces-cut-off : (d : ℕ) (s : List ℕ) (i : ℕ) → see s i ≡ End → bracedTurn d s i ≡ bad (faultAt UnexpectedEof i)
 unfolding bracedTurn
 braces-cut-off zero s i e = rw e
 braces-cut-off (suc d) s i e = rw e
@@ -166,7 +167,7 @@ braces-wide a s i c n e h =
     braces-other a s i c n e (narrow-is 0x7B (omega arith) c h) (narrow-is 0x7D (omega arith) c h) (narrow-is 0x5C (omega arith) c h)
 
 module _ {s : List ℕ} {at d i : ℕ} (r : Reached bracedTurn s at d i) where
-  pub braces-end : length s ≤ i → Answers inBraces s at (step.Refused (UnexpectedEof i))
+  pub braces-end : length s ≤ i → Answers inBraces s at (step.Refused (faultAt UnexpectedEof i))
   unfolding inBraces
   braces-end h = at-bad braces-un r (braces-cut-off d s i (see-end s i h))
 

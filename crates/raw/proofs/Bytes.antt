@@ -27,8 +27,8 @@ use Rattle.text.proofs.Shape.{char-further, width-tail}
 use Rattle.text.proofs.Places.{drop-next}
 use Rattle.text.proofs.Seen.{see-end, see-at, see-inside, see-ascii}
 use Rattle.text.proofs.Skip.{code-wide}
-use Rattle.raw.specs.declared.fault.Fault.{Fault}
-use Rattle.raw.specs.declared.fault.Step.the-variants as step
+use Rattle.row.specs.declared.fault.Fault.{Fault}
+use Rattle.raw.specs.declared.answer.Step.the-variants as step
 use Rattle.raw.specs.Reader.{ok, again, bad, Reader, after, many}
 use Rattle.raw.specs.Grammar.{escape}
 use Rattle.raw.specs.Says.{stepOf, Onward}

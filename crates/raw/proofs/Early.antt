@@ -22,12 +22,13 @@ use Rattle.row.specs.declared.form.Kind.{Kind}
 use Rattle.row.specs.declared.form.Kind.the-variants as kind
 use Rattle.raw.specs.declared.entry.Form.{Form}
 use Rattle.raw.specs.declared.entry.Form.the-variants.{Strings, Preambles, Comments, Other}
-use Rattle.raw.specs.declared.fault.Fault.{Fault}
-use Rattle.raw.specs.declared.fault.Fault.the-variants.{UnexpectedEof, ExpectedIdentifier, ExpectedOpeningBrace, ExpectedClosingBrace, ExpectedComma, ExpectedQuotationMark, ExpectedEquals, UnexpectedDecimalPoint}
+use Rattle.row.specs.declared.fault.Fault.{Fault}
+use Rattle.row.specs.declared.fault.Reason.the-variants.{UnexpectedEof, ExpectedIdentifier, ExpectedOpeningBrace, ExpectedClosingBrace, ExpectedComma, ExpectedQuotationMark, ExpectedEquals, UnexpectedDecimalPoint}
+use Rattle.row.specs.declared.fault.Reason.{Reason}
+use Rattle.row.specs.Fault.{numberOf, faultAt}
 use Rattle.row.specs.Row.{Row, kindOf}
 use Rattle.raw.specs.Reader.{Out, ok, again, bad, Reader, more, andThen, under, eaten, after, stop, turn, refuse, _then_, over, overFrom, put, when, sees, loop, many, scan}
 use Rattle.raw.specs.Grammar.{is, any, need, white, comma, atSign, opening, closing, quote, equals, escape, quotedTurn, quoted, string, stringLiteral, numberTurn, number, bracedTurn, inBraces, braced, ident, singleField, abbrElement, abbrTurn, abbrField, comment, field, fieldEnd, fieldsTurn, fields, key, formOf, strings, preamble, commented, body, lead, rest, entry, fileTurn, file}
-use Rattle.raw.specs.Read.{numberOf, startOf}
 use Rattle.raw.specs.Strict.{beginsValue}
 use Rattle.raw.proofs.Good.{Sound, Good, eaten-holds}
 use Rattle.raw.proofs.Scans.{scan-skip}
@@ -40,7 +41,7 @@ use Rattle.raw.proofs.Entries.{named, typed, file-turn-good}
 abbrev EarlyOut : List ℕ → Out → Type 0
 EarlyOut s (ok q rs) = Unit {0}
 EarlyOut s (again q rs a) = Unit {0}
-EarlyOut s (bad f) = numberOf f ≡ 3 → beginsValue (see s (startOf f)) ≡ false
+EarlyOut s (bad f) = numberOf (f .reason) ≡ 3 → beginsValue (see s (f .start)) ≡ false
 
 record Early (f : Reader) : Type 0 where
   early : (s : List ℕ) (p : ℕ) → EarlyOut s (f s p)
@@ -87,8 +88,8 @@ no-value : (x : Seen) → hits (holdsOf test.Digit) x ≡ false → hits isIdSta
 no-value End d i b q = refl
 no-value (Char c n) d i b q = rw (d, i, b, q)
 
-any-early : (s : List ℕ) (p : ℕ) (f : ℕ → Out) → ((n : ℕ) → EarlyOut s (f n)) → EarlyOut s (eaten any (see s p) f (bad (UnexpectedEof p)))
-any-early s p f F = eaten-else (EarlyOut s) any (see s p) f (bad (UnexpectedEof p)) F (λ e x. none-begins (see s p) e)
+any-early : (s : List ℕ) (p : ℕ) (f : ℕ → Out) → ((n : ℕ) → EarlyOut s (f n)) → EarlyOut s (eaten any (see s p) f (bad (faultAt UnexpectedEof p)))
+any-early s p f F = eaten-else (EarlyOut s) any (see s p) f (bad (faultAt UnexpectedEof p)) F (λ e x. none-begins (see s p) e)
 
 -- ---- readers
 
@@ -102,8 +103,8 @@ put-early : (k : Kind) (a e : ℕ) → Early (put k a e)
 put-early k a e = record { early = λ s p. tt }
 
 -- by another number than 3
-refuse-early : (fault : ℕ → Fault) → ((p : ℕ) → numberOf (fault p) ≡ 3 → ⊥) → Early (refuse fault)
-refuse-early fault h = record { early = λ s p x. absurd (h p x) }
+refuse-early : (reason : Reason) → (numberOf reason ≡ 3 → ⊥) → Early (refuse reason)
+refuse-early reason h = record { early = λ s p x. absurd (h x) }
 
 when-early : (t : ℕ → Bool) {f g : Reader} → Early f → Early g → Early (when t f g)
 when-early t {f} {g} F G =
@@ -150,8 +151,8 @@ module _ {w l : ℕ} {f : ℕ → Reader} (G : (a : ℕ) → Good 1 w l (f a)) (
 
 -- ---- tokens
 
-need-early : (t : ℕ → Bool) (fault : ℕ → Fault) → ((p : ℕ) → numberOf (fault p) ≡ 3 → ⊥) → Early (need t fault)
-need-early t fault h = when-early t stop-early (refuse-early fault h)
+need-early : (t : ℕ → Bool) (reason : Reason) → (numberOf reason ≡ 3 → ⊥) → Early (need t reason)
+need-early t reason h = when-early t stop-early (refuse-early reason h)
 
 white-early : Early white
 unfolding white
@@ -159,31 +160,31 @@ white-early = scan-early isWhitespace
 
 comma-early : Early comma
 unfolding comma
-comma-early = need-early (holdsOf test.Comma) ExpectedComma (λ p x. omega arith)
+comma-early = need-early (holdsOf test.Comma) ExpectedComma (λ x. omega arith)
 
 at-sign-early : Early atSign
 unfolding atSign
-at-sign-early = need-early (is 0x40) ExpectedIdentifier (λ p x. omega arith)
+at-sign-early = need-early (is 0x40) ExpectedIdentifier (λ x. omega arith)
 
 opening-early : Early opening
 unfolding opening
-opening-early = need-early _ ExpectedOpeningBrace (λ p x. omega arith)
+opening-early = need-early _ ExpectedOpeningBrace (λ x. omega arith)
 
 closing-early : Early closing
 unfolding closing
-closing-early = need-early _ ExpectedClosingBrace (λ p x. omega arith)
+closing-early = need-early _ ExpectedClosingBrace (λ x. omega arith)
 
 quote-early : Early quote
 unfolding quote
-quote-early = need-early (holdsOf test.QuotationMark) ExpectedQuotationMark (λ p x. omega arith)
+quote-early = need-early (holdsOf test.QuotationMark) ExpectedQuotationMark (λ x. omega arith)
 
 equals-early : Early equals
 unfolding equals
-equals-early = need-early (holdsOf test.Equals) ExpectedEquals (λ p x. omega arith)
+equals-early = need-early (holdsOf test.Equals) ExpectedEquals (λ x. omega arith)
 
 ident-early : Early ident
 unfolding ident
-ident-early = when-early isIdStart (scan-early isIdContinue) (refuse-early ExpectedIdentifier (λ p x. omega arith))
+ident-early = when-early isIdStart (scan-early isIdContinue) (refuse-early ExpectedIdentifier (λ x. omega arith))
 
 comment-early : Early comment
 unfolding comment
@@ -215,7 +216,7 @@ unfolding numberTurn
 number-turn-early zero = when-early (holdsOf test.Digit) (turn-early 0) (when-early (is 0x2E) (turn-early 1) (look-early stop-early))
 number-turn-early (suc a) =
     when-early (holdsOf test.Digit) (turn-early 1)
-    (sees-early (is 0x2E) (refuse-early UnexpectedDecimalPoint (λ p x. omega arith)) (look-early stop-early))
+    (sees-early (is 0x2E) (refuse-early UnexpectedDecimalPoint (λ x. omega arith)) (look-early stop-early))
 
 number-early : Early number
 unfolding number
@@ -268,7 +269,7 @@ unfolding fieldEnd
 field-end-early =
     then-early white-early
     (sees-early (is 0x2C) (then-early comma-early (then-early white-early (then-early comment-early (turn-early 0))))
-    (sees-early (is 0x7D) stop-early (refuse-early ExpectedComma (λ p x. omega arith))))
+    (sees-early (is 0x7D) stop-early (refuse-early ExpectedComma (λ x. omega arith))))
 
 module _ (k : Kind) (d : eqb (kindOf k) 9 ≡ false) where
   field-early : Early (field k)
@@ -323,6 +324,6 @@ file-turn-early a =
     (sees-early (is 0x40) (then-early entry-early (turn-early 0))
     (sees-early (holdsOf test.Percent) (then-early comment-early (turn-early 0)) (when-early any (turn-early 0) stop-early)))
 
-pub file-early : (s : List ℕ) (p : ℕ) (f : Fault) → file s p ≡ bad f → numberOf f ≡ 3 → beginsValue (see s (startOf f)) ≡ false
+pub file-early : (s : List ℕ) (p : ℕ) (f : Fault) → file s p ≡ bad f → numberOf (f .reason) ≡ 3 → beginsValue (see s (f .start)) ≡ false
 unfolding file
 file-early s p f e = subst (EarlyOut s) e (many-early file-turn-good file-turn-early 0 .early s p)

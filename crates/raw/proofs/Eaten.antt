@@ -17,8 +17,9 @@ use Rattle.text.specs.declared.scanner.Seen.the-variants.{End, Char}
 use Rattle.text.proofs.Places.{drop-next}
 use Rattle.text.proofs.Seen.{see-inside, see-end, see-at, see-ascii}
 use Rattle.text.proofs.Skip.{code-wide}
-use Rattle.raw.specs.declared.fault.Fault.{Fault}
-use Rattle.raw.specs.declared.fault.Step.the-variants as step
+use Rattle.row.specs.declared.fault.Reason.{Reason}
+use Rattle.row.specs.Fault.{faultAt}
+use Rattle.raw.specs.declared.answer.Step.the-variants as step
 use Rattle.raw.specs.Reader.{Out, ok, bad, eaten}
 use Rattle.raw.specs.Grammar.{need}
 use Rattle.raw.specs.Says.{stepOf, Onward}
@@ -88,32 +89,32 @@ module _ (t : ℕ → Bool) (s : List ℕ) (i : ℕ) (f : ℕ → Out) (o : Out)
 
 -- ---- one character, or a refusal
 
-pub need-bare : (t : ℕ → Bool) (fault : ℕ → Fault) (s : List ℕ) (i : ℕ) → Bare (need t fault s i)
-need-bare t fault s i = eaten-holds Bare t (see s i) (λ n. ok n []) (bad (fault i)) (λ k n x. bare-ok) bare-bad
+pub need-bare : (t : ℕ → Bool) (reason : Reason) (s : List ℕ) (i : ℕ) → Bare (need t reason s i)
+need-bare t reason s i = eaten-holds Bare t (see s i) (λ n. ok n []) (bad (faultAt reason i)) (λ k n x. bare-ok) bare-bad
 
-module _ (t : ℕ → Bool) (fault : ℕ → Fault) (s : List ℕ) (i : ℕ) where
-  off-told : need t fault s i ≡ bad (fault i) → (step.Refused (fault i) ≡ stepOf (need t fault s i)) × Unit {0}
+module _ (t : ℕ → Bool) (reason : Reason) (s : List ℕ) (i : ℕ) where
+  off-told : need t reason s i ≡ bad (faultAt reason i) → (step.Refused (faultAt reason i) ≡ stepOf (need t reason s i)) × Unit {0}
   off-told e = (sym (ap stepOf e), tt)
 
-  on-told : {r : ℕ} → need t fault s i ≡ ok r [] → i + 1 ≤ r → r ≤ max i (length s) → (step.At r ≡ stepOf (need t fault s i)) × Onward (length s) 1 i (step.At r)
+  on-told : {r : ℕ} → need t reason s i ≡ ok r [] → i + 1 ≤ r → r ≤ max i (length s) → (step.At r ≡ stepOf (need t reason s i)) × Onward (length s) 1 i (step.At r)
   on-told e h l = (sym (ap stepOf e), (h, l))
 
   -- by `eat_if`
   module _ {r : ℕ} (e : r ≡ pastOne t i (see s i)) where
-    pub need-off : r ≡ i → (step.Refused (fault i) ≡ stepOf (need t fault s i)) × Unit {0}
-    need-off h = off-told (eaten-off t s i (λ n. ok n []) (bad (fault i)) e h)
+    pub need-off : r ≡ i → (step.Refused (faultAt reason i) ≡ stepOf (need t reason s i)) × Unit {0}
+    need-off h = off-told (eaten-off t s i (λ n. ok n []) (bad (faultAt reason i)) e h)
 
-    pub need-on : Ahead s i r → (r ≡ i → ⊥) → (step.At r ≡ stepOf (need t fault s i)) × Onward (length s) 1 i (step.At r)
+    pub need-on : Ahead s i r → (r ≡ i → ⊥) → (step.At r ≡ stepOf (need t reason s i)) × Onward (length s) 1 i (step.At r)
     need-on a h =
-        let l : i + 1 ≤ r = not-at (a .from) h in on-told (eaten-on t s i (λ n. ok n []) (bad (fault i)) e h) l (a .to)
+        let l : i + 1 ≤ r = not-at (a .from) h in on-told (eaten-on t s i (λ n. ok n []) (bad (faultAt reason i)) e h) l (a .to)
 
   -- by the byte
-  pub need-end : length s ≤ i → (step.Refused (fault i) ≡ stepOf (need t fault s i)) × Unit {0}
-  need-end h = off-told (byte-end t s i (λ n. ok n []) (bad (fault i)) h)
+  pub need-end : length s ≤ i → (step.Refused (faultAt reason i) ≡ stepOf (need t reason s i)) × Unit {0}
+  need-end h = off-told (byte-end t s i (λ n. ok n []) (bad (faultAt reason i)) h)
 
   module _ (narrow : (c : ℕ) → 0x80 ≤ c → t c ≡ false) (h : i < length s) where
-    pub need-other : t (getD s i 0) ≡ false → (step.Refused (fault i) ≡ stepOf (need t fault s i)) × Unit {0}
-    need-other q = off-told (byte-off t s i (λ n. ok n []) (bad (fault i)) narrow h q)
+    pub need-other : t (getD s i 0) ≡ false → (step.Refused (faultAt reason i) ≡ stepOf (need t reason s i)) × Unit {0}
+    need-other q = off-told (byte-off t s i (λ n. ok n []) (bad (faultAt reason i)) narrow h q)
 
-    pub need-byte : t (getD s i 0) ≡ true → (step.At (i + 1) ≡ stepOf (need t fault s i)) × Onward (length s) 1 i (step.At (i + 1))
-    need-byte q = on-told (byte-on t s i (λ n. ok n []) (bad (fault i)) narrow h q) (omega arith) (omega arith)
+    pub need-byte : t (getD s i 0) ≡ true → (step.At (i + 1) ≡ stepOf (need t reason s i)) × Onward (length s) 1 i (step.At (i + 1))
+    need-byte q = on-told (byte-on t s i (λ n. ok n []) (bad (faultAt reason i)) narrow h q) (omega arith) (omega arith)

@@ -4,10 +4,10 @@ use Prim.Native.Nat.{ℕ, _+_}
 use mathlib.Core.Path.{_≡_, refl, sym, ap, _∙_}
 use mathlib.Core.List.{List, []}
 use Rattle.row.specs.declared.form.Kind.the-variants as kind
-use Rattle.raw.specs.declared.fault.Fault.{Fault}
-use Rattle.raw.specs.declared.fault.Step.{Step}
-use Rattle.raw.specs.declared.fault.Step.the-variants as step
-use Rattle.raw.specs.declared.fault.Answer.the-variants as answer
+use Rattle.row.specs.declared.fault.Fault.{Fault}
+use Rattle.raw.specs.declared.answer.Step.{Step}
+use Rattle.raw.specs.declared.answer.Step.the-variants as step
+use Rattle.raw.specs.declared.answer.Answer.the-variants as answer
 use Rattle.row.specs.Row.{row, putRow}
 use Rattle.raw.specs.Reader.{Out, ok, bad, Reader, _then_, over}
 use Rattle.raw.specs.Grammar.{quote, quoted, string}

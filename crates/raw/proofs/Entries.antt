@@ -15,7 +15,7 @@ use Rattle.text.specs.declared.class.Test.the-variants as test
 use Rattle.row.specs.declared.form.Kind.the-variants as kind
 use Rattle.raw.specs.declared.entry.Form.{Form}
 use Rattle.raw.specs.declared.entry.Form.the-variants.{Strings, Preambles, Comments, Other}
-use Rattle.raw.specs.declared.fault.Fault.the-variants.{UnexpectedEof}
+use Rattle.row.specs.declared.fault.Reason.the-variants.{UnexpectedEof}
 use Rattle.raw.specs.Reader.{Out, ok, again, bad, Reader, andThen, eaten, _then_, put, when, sees, refuse, turn, scan}
 use Rattle.raw.specs.Grammar.{is, any, white, closing, ident, comment, formOf, body, lead, rest, atSign, entry, fileTurn, file}
 use Rattle.raw.specs.Strict.{shifted}
@@ -25,7 +25,7 @@ use Rattle.raw.proofs.Loop.{many-good}
 use Rattle.raw.proofs.Trace.{Reach, here, lays, joins, Traced, reach-on, trace-reach, reach-trace, joined, back-traced, chain-traced, lay-traced}
 use Rattle.raw.proofs.Scans.{scan-skip}
 use Rattle.raw.proofs.Spells.{form-same, form-up}
-use Rattle.raw.proofs.Readers.{eof-placed, scan-good, white-good, closing-good, at-sign-good, ident-good, strings-good, preamble-good, commented-good, body-good, lead-good}
+use Rattle.raw.proofs.Readers.{scan-good, white-good, closing-good, at-sign-good, ident-good, strings-good, preamble-good, commented-good, body-good, lead-good}
 
 -- ---- after an entry's type
 
@@ -171,7 +171,7 @@ comment-on-good {k} K =
     let c = holdsOf test.Percent in
     let f = scan (fails test.Newline) in
     good-same _
-    (sees-good c (then-turn 0 (when-good c (scan-good (fails test.Newline)) (refuse-good UnexpectedEof eof-placed) (omega arith))) K (omega arith))
+    (sees-good c (then-turn 0 (when-good c (scan-good (fails test.Newline)) (refuse-good UnexpectedEof (omega arith, omega arith)) (omega arith))) K (omega arith))
     (seen-eaten c f (refuse UnexpectedEof) _ (turn 0) k)
 
 pub file-turn-good : (a : ℕ) → Good 1 0 1 (fileTurn a)

@@ -18,8 +18,8 @@ use Rattle.row.specs.declared.form.Kind.{Kind}
 use Rattle.row.specs.declared.form.Kind.the-variants as kind
 use Rattle.raw.specs.declared.entry.Form.{Form}
 use Rattle.raw.specs.declared.entry.Form.the-variants.{Strings, Preambles, Comments, Other}
-use Rattle.raw.specs.declared.fault.Fault.{Fault}
-use Rattle.raw.specs.declared.fault.Fault.the-variants.{UnexpectedEof, ExpectedComma}
+use Rattle.row.specs.declared.fault.Reason.the-variants.{UnexpectedEof, ExpectedComma}
+use Rattle.row.specs.declared.fault.Reason.{Reason}
 use Rattle.row.specs.Row.{Row}
 use Rattle.raw.specs.Reader.{Out, ok, again, bad, Reader, more, andThen, under, after, stop, turn, refuse, _then_, over, overFrom, put, when, sees, loop, many}
 use Rattle.raw.specs.Grammar.{is, any, white, comma, stringLiteral, braced, ident, singleField, abbrElement, abbrTurn, abbrField, comment, field, fieldEnd, fieldsTurn, fields, formOf, strings, preamble, body, lead, rest, entry, fileTurn, file}
@@ -86,8 +86,8 @@ put-few : {v : ℕ} (k : Kind) (a e : ℕ) → Few v 0 1 (put k a e)
 put-few k a e = record { few = λ s p. omega arith }
 
 module _ {v w c : ℕ} where
-  refuse-few : (fault : ℕ → Fault) → Few v w c (refuse fault)
-  refuse-few fault = record { few = λ s p. tt }
+  refuse-few : (reason : Reason) → Few v w c (refuse reason)
+  refuse-few reason = record { few = λ s p. tt }
 
   less-few : {v₁ w₁ c₁ : ℕ} {f : Reader} → Few v₁ w₁ c₁ f → (v + c₁ ≤ v₁ + c) × (w + c₁ ≤ w₁ + c) → Few v w c f
   less-few {v₁} {w₁} {c₁} {f} F m = record { few = λ s p. out-from v₁ w₁ c₁ v w c p p (f s p) (omega arith) (omega arith) (F .few s p) }

@@ -10,14 +10,15 @@ use Rattle.text.specs.Class.{isWhitespace, holdsOf}
 use Rattle.text.specs.Scan.{see, skip}
 use Rattle.text.proofs.Seen.{see-at}
 use Rattle.row.specs.declared.form.Kind.{Kind}
-use Rattle.raw.specs.declared.fault.Fault.{Fault}
-use Rattle.raw.specs.declared.fault.Fault.the-variants.{UnexpectedEof, ExpectedComma}
-use Rattle.raw.specs.declared.fault.Step.{Step}
-use Rattle.raw.specs.declared.fault.Step.the-variants as step
-use Rattle.raw.specs.declared.fault.Answer.{Answer}
-use Rattle.raw.specs.declared.fault.Answer.the-variants as answer
-use Rattle.raw.specs.declared.fault.Turn.{Turn}
-use Rattle.raw.specs.declared.fault.Turn.the-variants as turned
+use Rattle.row.specs.declared.fault.Fault.{Fault}
+use Rattle.row.specs.declared.fault.Reason.the-variants.{UnexpectedEof, ExpectedComma}
+use Rattle.row.specs.Fault.{faultAt}
+use Rattle.raw.specs.declared.answer.Step.{Step}
+use Rattle.raw.specs.declared.answer.Step.the-variants as step
+use Rattle.raw.specs.declared.answer.Answer.{Answer}
+use Rattle.raw.specs.declared.answer.Answer.the-variants as answer
+use Rattle.raw.specs.declared.answer.Turn.{Turn}
+use Rattle.raw.specs.declared.answer.Turn.the-variants as turned
 use Rattle.row.specs.Row.{row, putRow}
 use Rattle.raw.specs.Reader.{Out, ok, again, bad, more, andThen, under, eaten, sees, stop, turn, refuse, _then_}
 use Rattle.raw.specs.Grammar.{is, any, white, comma, ident, equals, abbrField, comment, field, fieldEnd, fieldsTurn}
@@ -65,14 +66,14 @@ module _ (s : List ℕ) (i : ℕ) {p : ℕ} (w : p ≡ skip isWhitespace s i) wh
   unfolding fieldEnd
   after-field = then-on _ (white-on s i w)
 
-  pub end-end : length s ≤ p → fieldEnd s i ≡ bad (ExpectedComma p)
+  pub end-end : length s ≤ p → fieldEnd s i ≡ bad (faultAt ExpectedComma p)
   end-end h =
-      after-field ∙ byte-end (is 0x2C) s p (λ n. onComma) braceOr h ∙ byte-end (is 0x7D) s p (λ n. ok p []) (bad (ExpectedComma p)) h
+      after-field ∙ byte-end (is 0x2C) s p (λ n. onComma) braceOr h ∙ byte-end (is 0x7D) s p (λ n. ok p []) (bad (faultAt ExpectedComma p)) h
 
   module _ (h : p < length s) where
     comma-eaten : getD s p 0 ≡ 0x2C → comma s p ≡ ok (p + 1) []
     unfolding comma holdsOf
-    comma-eaten e = byte-on (is 0x2C) s p (λ n. ok n []) (bad (ExpectedComma p)) (narrow-is 0x2C (omega arith)) h (eq-eqb _ _ e)
+    comma-eaten e = byte-on (is 0x2C) s p (λ n. ok n []) (bad (faultAt ExpectedComma p)) (narrow-is 0x2C (omega arith)) h (eq-eqb _ _ e)
 
     pub end-comma : {p₂ p₃ : ℕ} → getD s p 0 ≡ 0x2C → p₂ ≡ skip isWhitespace s (p + 1) → step.At p₃ ≡ stepOf (comment s p₂) → fieldEnd s i ≡ again p₃ [] 0
     end-comma {p₂} e v d =
@@ -85,17 +86,17 @@ module _ (s : List ℕ) (i : ℕ) {p : ℕ} (w : p ≡ skip isWhitespace s i) wh
       no-comma = after-field ∙ byte-off (is 0x2C) s p (λ n. onComma) braceOr (narrow-is 0x2C (omega arith)) h (ne-eqb _ _ d)
 
       pub end-brace : getD s p 0 ≡ 0x7D → fieldEnd s i ≡ ok p []
-      end-brace e = no-comma ∙ byte-on (is 0x7D) s p (λ n. ok p []) (bad (ExpectedComma p)) (narrow-is 0x7D (omega arith)) h (eq-eqb _ _ e)
+      end-brace e = no-comma ∙ byte-on (is 0x7D) s p (λ n. ok p []) (bad (faultAt ExpectedComma p)) (narrow-is 0x7D (omega arith)) h (eq-eqb _ _ e)
 
-      pub end-off : (getD s p 0 ≡ 0x7D → ⊥) → fieldEnd s i ≡ bad (ExpectedComma p)
-      end-off e = no-comma ∙ byte-off (is 0x7D) s p (λ n. ok p []) (bad (ExpectedComma p)) (narrow-is 0x7D (omega arith)) h (ne-eqb _ _ e)
+      pub end-off : (getD s p 0 ≡ 0x7D → ⊥) → fieldEnd s i ≡ bad (faultAt ExpectedComma p)
+      end-off e = no-comma ∙ byte-off (is 0x7D) s p (λ n. ok p []) (bad (faultAt ExpectedComma p)) (narrow-is 0x7D (omega arith)) h (ne-eqb _ _ e)
 
 -- ---- `fields_turn`
 
 module _ (k : Kind) (s : List ℕ) (i : ℕ) where
-  pub fields-eof : length s ≤ i → fieldsTurn k 0 s i ≡ bad (UnexpectedEof i)
+  pub fields-eof : length s ≤ i → fieldsTurn k 0 s i ≡ bad (faultAt UnexpectedEof i)
   unfolding fieldsTurn
-  fields-eof h = byte-end any s i (λ n. (white then sees (is 0x7D) stop (field k then fieldEnd)) s i) (bad (UnexpectedEof i)) h
+  fields-eof h = byte-end any s i (λ n. (white then sees (is 0x7D) stop (field k then fieldEnd)) s i) (bad (faultAt UnexpectedEof i)) h
 
   module _ (h : i < length s) {p : ℕ} (w : p ≡ skip isWhitespace s i) where
     at-field : fieldsTurn k 0 s i ≡ sees (is 0x7D) stop (field k then fieldEnd) s p

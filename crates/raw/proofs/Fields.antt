@@ -12,10 +12,11 @@ use Rattle.text.specs.Class.{isWhitespace, isIdStart, holdsOf}
 use Rattle.text.specs.Scan.{see, skip, pastOne}
 use Rattle.text.specs.declared.class.Test.the-variants as test
 use Rattle.row.specs.declared.form.Kind.the-variants as kind
-use Rattle.raw.specs.declared.fault.Fault.{Fault}
-use Rattle.raw.specs.declared.fault.Fault.the-variants.{UnexpectedEof}
-use Rattle.raw.specs.declared.fault.Answer.the-variants as answer
-use Rattle.raw.specs.declared.fault.Turn.the-variants as turned
+use Rattle.row.specs.declared.fault.Fault.{Fault}
+use Rattle.row.specs.declared.fault.Reason.the-variants.{UnexpectedEof}
+use Rattle.row.specs.Fault.{faultAt}
+use Rattle.raw.specs.declared.answer.Answer.the-variants as answer
+use Rattle.raw.specs.declared.answer.Turn.the-variants as turned
 use Rattle.row.specs.Row.{row}
 use Rattle.raw.specs.Reader.{Out, ok, again, bad, andThen, under, eaten, after, many, sees, when, stop, turn, refuse, over, _then_}
 use Rattle.raw.specs.Inner.{Undelimited}
@@ -35,10 +36,10 @@ module _ (s : List ℕ) (i : ℕ) where
   abbrev quotedOr : Out
   quotedOr = sees (is 0x22) stringLiteral (refuse UnexpectedEof) s i
 
-  single-end : length s ≤ i → singleField s i ≡ bad (UnexpectedEof i)
+  single-end : length s ≤ i → singleField s i ≡ bad (faultAt UnexpectedEof i)
   unfolding singleField
   single-end h =
-      byte-end (is 0x7B) s i (λ n. braced s i) quotedOr h ∙ byte-end (is 0x22) s i (λ n. stringLiteral s i) (bad (UnexpectedEof i)) h
+      byte-end (is 0x7B) s i (λ n. braced s i) quotedOr h ∙ byte-end (is 0x22) s i (λ n. stringLiteral s i) (bad (faultAt UnexpectedEof i)) h
 
   module _ (h : i < length s) where
     pub single-braced : getD s i 0 ≡ 0x7B → singleField s i ≡ braced s i
@@ -52,16 +53,16 @@ module _ (s : List ℕ) (i : ℕ) where
 
       pub single-quoted : getD s i 0 ≡ 0x22 → singleField s i ≡ stringLiteral s i
       single-quoted e =
-          no-brace ∙ byte-on (is 0x22) s i (λ n. stringLiteral s i) (bad (UnexpectedEof i)) (narrow-is 0x22 (omega arith)) h (eq-eqb _ _ e)
+          no-brace ∙ byte-on (is 0x22) s i (λ n. stringLiteral s i) (bad (faultAt UnexpectedEof i)) (narrow-is 0x22 (omega arith)) h (eq-eqb _ _ e)
 
-      single-off : (getD s i 0 ≡ 0x22 → ⊥) → singleField s i ≡ bad (UnexpectedEof i)
+      single-off : (getD s i 0 ≡ 0x22 → ⊥) → singleField s i ≡ bad (faultAt UnexpectedEof i)
       single-off e =
-          no-brace ∙ byte-off (is 0x22) s i (λ n. stringLiteral s i) (bad (UnexpectedEof i)) (narrow-is 0x22 (omega arith)) h (ne-eqb _ _ e)
+          no-brace ∙ byte-off (is 0x22) s i (λ n. stringLiteral s i) (bad (faultAt UnexpectedEof i)) (narrow-is 0x22 (omega arith)) h (ne-eqb _ _ e)
 
-  pub single-none : Undelimited s i → singleField s i ≡ bad (UnexpectedEof i)
+  pub single-none : Undelimited s i → singleField s i ≡ bad (faultAt UnexpectedEof i)
   single-none u = go (ltb i (length s)) refl
     where
-      go : (t : Bool) → ltb i (length s) ≡ t → singleField s i ≡ bad (UnexpectedEof i)
+      go : (t : Bool) → ltb i (length s) ≡ t → singleField s i ≡ bad (faultAt UnexpectedEof i)
       go true e = let h = ltb-true _ _ e in single-off h (u .no-brace h) (u .no-quote h)
       go false e = single-end (ltb-false _ _ e)
 

@@ -19,18 +19,20 @@ use Rattle.text.specs.declared.utf8.Validity.{Validity}
 use Rattle.text.specs.declared.utf8.Validity.the-variants as validity
 use Rattle.text.proofs.Seen.{see-end, see-inside}
 use Rattle.text.proofs.Skip.{skip-ahead}
-use Rattle.raw.specs.declared.fault.Fault.{Fault}
-use Rattle.raw.specs.declared.fault.Fault.the-variants.{TooLong, NotUtf8, NoRoom}
-use Rattle.raw.specs.declared.fault.Step.the-variants as step
-use Rattle.raw.specs.declared.fault.Answer.{Answer}
-use Rattle.raw.specs.declared.fault.Answer.the-variants as answer
-use Rattle.raw.specs.declared.fault.Reading.{Reading}
-use Rattle.raw.specs.declared.fault.Reading.the-variants as reading
+use Rattle.row.specs.declared.fault.Fault.{Fault}
+use Rattle.row.specs.declared.fault.Reason.the-variants.{TooLong, NotUtf8, NoRoom}
+use Rattle.row.specs.Fault.{faultAt, nowhere}
+use Rattle.raw.specs.declared.answer.Step.the-variants as step
+use Rattle.raw.specs.declared.answer.Answer.{Answer}
+use Rattle.raw.specs.declared.answer.Answer.the-variants as answer
+use Rattle.raw.specs.declared.answer.Reading.{Reading}
+use Rattle.raw.specs.declared.answer.Reading.the-variants as reading
 use Rattle.row.specs.Row.{Row, moved, overlay}
 use Rattle.raw.specs.Reader.{Out, ok, again, bad, andThen}
 use Rattle.raw.specs.Grammar.{is, comment, entry, fileTurn, file}
 use Rattle.raw.specs.Says.{stepOf, answerOf, Room, Says}
-use Rattle.raw.specs.Read.{mostBytes, checked, strict, readingOut, leftOut, Read}
+use Rattle.row.specs.Limits.{mostBytes}
+use Rattle.raw.specs.Read.{checked, strict, readingOut, leftOut, Read}
 use Rattle.row.proofs.Rows.{moved-none, overlay-fits}
 use Rattle.raw.proofs.Bare.{then-on}
 use Rattle.raw.proofs.Saying.{says-at, said-off}
@@ -77,7 +79,7 @@ comment-further s p {r} h q d =
 full-rows : (b : List ℕ) {q n : ℕ} (p : ℕ) (rs : List Row) → answer.Next q n ≡ answer.Next p (0 + length rs) → length b / 4 < n → leb (length rs) (length b / 4) ≡ false
 full-rows b {n = n} p rs e l = let k : n ≡ 0 + length rs = cc in lt-leb (length rs) (length b / 4) (omega arith)
 
-full : (o : Out) (b : List ℕ) (q n : ℕ) → answer.Next q n ≡ answerOf o 0 → length b / 4 < n → (reading.Refused NoRoom ≡ readingOut o (length b)) × (b ≡ leftOut o b)
+full : (o : Out) (b : List ℕ) (q n : ℕ) → answer.Next q n ≡ answerOf o 0 → length b / 4 < n → (reading.Refused (nowhere NoRoom) ≡ readingOut o (length b)) × (b ≡ leftOut o b)
 full (ok p rs) b q n e l = let t = full-rows b p rs e l in (rw t, rw t)
 full (again p rs a) b q n e l = let t = full-rows b p rs e l in (rw t, rw t)
 full (bad f) b q n e l = let z : _≡_ {A = ℕ} 0 1 = cc in absurd (omega arith)
@@ -94,7 +96,7 @@ fits (ok p rs) b {b′} q n e l r = fits-rows b b′ p rs e l r
 fits (again p rs a) b {b′} q n e l r = fits-rows b b′ p rs e l r
 fits (bad f) b q n e l r = let z : _≡_ {A = ℕ} 0 1 = cc in absurd (omega arith)
 
-pub read-long : (s b : List ℕ) → mostBytes < length s → Read s b (reading.Refused TooLong) b
+pub read-long : (s b : List ℕ) → mostBytes < length s → Read s b (reading.Refused (nowhere TooLong)) b
 unfolding strict
 read-long s b h = let t = lt-leb (length s) mostBytes h in record { answer = rw t; rows = rw t }
 
@@ -103,7 +105,7 @@ module _ (s b : List ℕ) (h : length s ≤ mostBytes) {v : Validity} (d : v ≡
   unfolding strict
   strict-by q = rw (le-leb (length s) mostBytes h, sym d ∙ q)
 
-  pub read-ill : {i : ℕ} → v ≡ validity.IllFormed i → Read s b (reading.Refused (NotUtf8 i)) b
+  pub read-ill : {i : ℕ} → v ≡ validity.IllFormed i → Read s b (reading.Refused (faultAt NotUtf8 i)) b
   read-ill q = let t = strict-by q in record { answer = ap (λ (o : Out). readingOut o (length b)) (sym t); rows = ap (λ (o : Out). leftOut o b) (sym t) }
 
   module _ (q : v ≡ validity.Valid) {y y′ : List ℕ} {r : Answer} (w : Says 0 (file s 0) 0 y r y′) where
@@ -117,7 +119,7 @@ module _ (s b : List ℕ) (h : length s ≤ mostBytes) {v : Validity} (d : v ≡
     read-off z = let t = said-off (says-at z w) in as-file (ap (λ (o : Out). readingOut o (length b)) (sym t), ap (λ (o : Out). leftOut o b) (sym t))
 
     module _ {p n : ℕ} (z : r ≡ answer.Next p n) where
-      pub read-full : length b / 4 < n → Read s b (reading.Refused NoRoom) b
+      pub read-full : length b / 4 < n → Read s b (reading.Refused (nowhere NoRoom)) b
       read-full l = as-file (full (file s 0) b p n (sym z ∙ w .told) l)
 
       pub read-fits : {x : Answer} {b′ : List ℕ} → n ≤ length b / 4 → Says 0 (file s 0) 0 b x b′ → Read s b (reading.Rows n) b′

@@ -15,9 +15,9 @@ use Rattle.text.specs.declared.scanner.Seen.{Seen}
 use Rattle.text.specs.declared.scanner.Seen.the-variants.{End, Char}
 use Rattle.text.proofs.Moved.{see-ahead, seenUp, see-up}
 use Rattle.row.specs.declared.form.Kind.{Kind}
-use Rattle.raw.specs.declared.fault.Fault.{Fault}
 use Rattle.row.specs.Row.{moved}
-use Rattle.raw.specs.Read.{numberOf, startOf}
+use Rattle.row.specs.declared.fault.Reason.{Reason}
+use Rattle.row.specs.Fault.{numberOf}
 use Rattle.raw.specs.Strict.{Same, faultUp, shifted}
 use Rattle.raw.specs.Reader.{Out, ok, again, bad, Reader, eaten, stop, turn, refuse, put, when, sees}
 use Rattle.raw.proofs.Trace.{here, none, Traced, eat-traced}
@@ -72,18 +72,16 @@ turn-good a =
       shift = λ a. record { moves = λ s p. refl };
     }
 
--- refusals that hold their place, with the numbers 3 to 10
-pub record Placed (fault : ℕ → Fault) : Type 0 where
-  pub up : (d p : ℕ) → fault (p + d) ≡ faultUp d (fault p)
-  pub start : (p : ℕ) → startOf (fault p) ≡ p
-  pub number : (p : ℕ) → (3 ≤ numberOf (fault p)) × (numberOf (fault p) ≤ 10)
+-- a reason that the readers meet: 01's numbers 3 to 10
+abbrev pub Met : Reason → Type 0
+Met reason = (3 ≤ numberOf reason) × (numberOf reason ≤ 10)
 
-pub refuse-good : {v w l : ℕ} (fault : ℕ → Fault) → Placed fault → Good v w l (refuse fault)
-refuse-good fault u =
+pub refuse-good : {v w l : ℕ} (reason : Reason) → Met reason → Good v w l (refuse reason)
+refuse-good reason m =
     record {
       kept = record { sound = λ s p. tt; local = λ s t p q h i e. refl };
-      traced = λ s p. record { place = rw (u .start p) here; least = u .number p .0; most = u .number p .1 };
-      shift = λ a. record { moves = λ s p. ap bad (u .up (length a) p) };
+      traced = λ s p. record { place = here; empty = refl; least = m .0; most = m .1 };
+      shift = λ a. record { moves = λ s p. refl };
     }
 
 pub put-kept : {v l : ℕ} (k : Kind) (a e : ℕ) → Kept v 0 l (put k a e)

@@ -4,8 +4,8 @@
 -- Assumes nothing.
 use Prim.Native.Nat.{ℕ, _+_, _*_, _≤_, max}
 use native.Mathlib.Omega.{arith}
-use Rattle.raw.specs.declared.fault.Answer.{Answer}
-use Rattle.raw.specs.declared.fault.Answer.the-variants as answer
+use Rattle.raw.specs.declared.answer.Answer.{Answer}
+use Rattle.raw.specs.declared.answer.Answer.the-variants as answer
 use Rattle.raw.specs.Says.{Within, Ready}
 
 pub within-later : (len w p n w′ p′ n′ : ℕ) (r : Answer) → p′ + w′ ≤ p + w → p ≤ max p′ len → n + 8 * p′ ≤ n′ + 8 * p → Within len w p n r → Within len w′ p′ n′ r

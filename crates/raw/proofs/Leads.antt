@@ -10,8 +10,8 @@ use mathlib.Core.List.{List, [], _∷_, _++_}
 use lib.ListN.{length}
 use Rattle.text.specs.Scan.{see}
 use Rattle.row.specs.declared.form.Kind.{Kind}
-use Rattle.raw.specs.declared.fault.Fault.{Fault}
 use Rattle.row.specs.Row.{Row, row, kindOf}
+use Rattle.row.specs.declared.fault.Reason.{Reason}
 use Rattle.raw.specs.Reader.{Out, ok, again, bad, Reader, more, andThen, under, after, stop, turn, refuse, _then_, over, overFrom, put, when, sees, loop, many}
 use Rattle.row.specs.Rules.{Await, next, isDetail, run}
 use Rattle.row.proofs.Joins.{run-append}
@@ -70,8 +70,8 @@ module _ {P A Q : Awaits} where
   unfolding run
   turn-leads n h = record { leads = λ s p. h }
 
-  pub refuse-leads : (fault : ℕ → Fault) → Leads P A Q (refuse fault)
-  refuse-leads fault = record { leads = λ s p. tt }
+  pub refuse-leads : (reason : Reason) → Leads P A Q (refuse reason)
+  refuse-leads reason = record { leads = λ s p. tt }
 
   pub put-leads : (k : Kind) (a e : ℕ) → Takes k P Q → Leads P A Q (put k a e)
   unfolding run

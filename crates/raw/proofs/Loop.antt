@@ -71,7 +71,7 @@ module _ {w l : ℕ} {f : ℕ → Reader} (F : (a : ℕ) → Good 1 w l (f a)) w
 
   loop-traced : (s : List ℕ) (n a p : ℕ) → Traced s p (loop f n a s p)
   unfolding loop
-  loop-traced s zero a p = record { place = here; least = omega arith; most = omega arith }
+  loop-traced s zero a p = record { place = here; empty = refl; least = omega arith; most = omega arith }
   loop-traced s (suc n) a p = after-traced s p (f a s p) (on n s) (F a .traced s p) (loop-traced s n)
 
   module _ (s t : List ℕ) (r : ℕ) (i : r ≤ length t) where

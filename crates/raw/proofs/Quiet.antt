@@ -6,8 +6,8 @@ use lib.Dec.{eqb}
 use Rattle.text.specs.Class.{isWhitespace, isKey, isIdStart, isIdContinue, holdsOf}
 use Rattle.text.specs.Scan.{fails}
 use Rattle.text.specs.declared.class.Test.the-variants as test
-use Rattle.raw.specs.declared.fault.Fault.{Fault}
-use Rattle.raw.specs.declared.fault.Fault.the-variants.{UnexpectedEof, ExpectedIdentifier, ExpectedOpeningBrace, ExpectedClosingBrace, ExpectedComma, ExpectedQuotationMark, ExpectedEquals, UnexpectedDecimalPoint}
+use Rattle.row.specs.declared.fault.Reason.the-variants.{UnexpectedEof, ExpectedIdentifier, ExpectedOpeningBrace, ExpectedClosingBrace, ExpectedComma, ExpectedQuotationMark, ExpectedEquals, UnexpectedDecimalPoint}
+use Rattle.row.specs.declared.fault.Reason.{Reason}
 use Rattle.raw.specs.Reader.{refuse, turn, scan}
 use Rattle.raw.specs.Grammar.{is, any, need, white, comma, atSign, opening, closing, quote, equals, escape, quotedTurn, quoted, string, numberTurn, number, bracedTurn, inBraces, ident, comment, key, commented, lead}
 use Rattle.raw.proofs.Leads.{Awaits, Leads, stop-leads, turn-leads, refuse-leads, when-leads, sees-leads, then-leads, many-leads}
@@ -16,8 +16,8 @@ module _ {P A : Awaits} where
   scan-leads : (t : ℕ → Bool) → Leads P A P (scan t)
   scan-leads t = many-leads (λ a. when-leads t (turn-leads a (λ a x. x)) (stop-leads (λ a x. x))) 0
 
-  need-leads : (t : ℕ → Bool) (fault : ℕ → Fault) → Leads P A P (need t fault)
-  need-leads t fault = when-leads t (stop-leads (λ a x. x)) (refuse-leads fault)
+  need-leads : (t : ℕ → Bool) (reason : Reason) → Leads P A P (need t reason)
+  need-leads t reason = when-leads t (stop-leads (λ a x. x)) (refuse-leads reason)
 
   pub white-leads : Leads P A P white
   unfolding white

@@ -12,40 +12,14 @@ use Rattle.text.specs.Scan.{fails}
 use Rattle.text.specs.declared.class.Test.the-variants as test
 use Rattle.row.specs.declared.form.Kind.{Kind}
 use Rattle.row.specs.declared.form.Kind.the-variants as kind
-use Rattle.raw.specs.declared.fault.Fault.{Fault}
-use Rattle.raw.specs.declared.fault.Fault.the-variants.{UnexpectedEof, ExpectedIdentifier, ExpectedOpeningBrace, ExpectedClosingBrace, ExpectedComma, ExpectedQuotationMark, ExpectedEquals, UnexpectedDecimalPoint}
+use Rattle.row.specs.declared.fault.Reason.the-variants.{UnexpectedEof, ExpectedIdentifier, ExpectedOpeningBrace, ExpectedClosingBrace, ExpectedComma, ExpectedQuotationMark, ExpectedEquals, UnexpectedDecimalPoint}
+use Rattle.row.specs.declared.fault.Reason.{Reason}
 use Rattle.row.specs.Row.{kindOf}
 use Rattle.raw.specs.Reader.{refuse, scanTurn, scan}
 use Rattle.raw.specs.Grammar.{is, any, need, white, comma, atSign, opening, closing, quote, equals, escape, quotedTurn, quoted, string, stringLiteral, numberTurn, number, bracedTurn, inBraces, braced, ident, singleField, abbrElement, abbrTurn, abbrField, comment, field, fieldEnd, fieldsTurn, fields, key, strings, preamble, commented, body, lead}
-use Rattle.raw.proofs.Good.{Placed, Good, stop-good, turn-good, refuse-good, weaker, when-good, sees-good}
+use Rattle.raw.proofs.Good.{Met, Good, stop-good, turn-good, refuse-good, weaker, when-good, sees-good}
 use Rattle.raw.proofs.Then.{then-good, then-by, over-good}
 use Rattle.raw.proofs.Loop.{many-good}
-
--- ---- refusals
-
-pub comma-placed : Placed ExpectedComma
-comma-placed = record { up = λ d p. refl; start = λ p. refl; number = λ p. (omega arith, omega arith) }
-
-pub identifier-placed : Placed ExpectedIdentifier
-identifier-placed = record { up = λ d p. refl; start = λ p. refl; number = λ p. (omega arith, omega arith) }
-
-pub opening-placed : Placed ExpectedOpeningBrace
-opening-placed = record { up = λ d p. refl; start = λ p. refl; number = λ p. (omega arith, omega arith) }
-
-pub closing-placed : Placed ExpectedClosingBrace
-closing-placed = record { up = λ d p. refl; start = λ p. refl; number = λ p. (omega arith, omega arith) }
-
-pub quotation-placed : Placed ExpectedQuotationMark
-quotation-placed = record { up = λ d p. refl; start = λ p. refl; number = λ p. (omega arith, omega arith) }
-
-pub equals-placed : Placed ExpectedEquals
-equals-placed = record { up = λ d p. refl; start = λ p. refl; number = λ p. (omega arith, omega arith) }
-
-pub eof-placed : Placed UnexpectedEof
-eof-placed = record { up = λ d p. refl; start = λ p. refl; number = λ p. (omega arith, omega arith) }
-
-pub point-placed : Placed UnexpectedDecimalPoint
-point-placed = record { up = λ d p. refl; start = λ p. refl; number = λ p. (omega arith, omega arith) }
 
 -- ---- tokens
 
@@ -55,8 +29,8 @@ scan-turn-good t a = when-good t (turn-good {w = 0} a) stop-good (omega arith)
 pub scan-good : (t : ℕ → Bool) → Good 0 0 1 (scan t)
 scan-good t = many-good (scan-turn-good t) 0
 
-pub need-good : {l : ℕ} (t : ℕ → Bool) (fault : ℕ → Fault) → Placed fault → Good 1 1 l (need t fault)
-need-good t fault u = when-good t (stop-good {v = 0}) (refuse-good fault u) (omega arith)
+pub need-good : {l : ℕ} (t : ℕ → Bool) (reason : Reason) → Met reason → Good 1 1 l (need t reason)
+need-good t reason m = when-good t (stop-good {v = 0}) (refuse-good reason m) (omega arith)
 
 pub white-good : Good 0 0 1 white
 unfolding white
@@ -64,32 +38,32 @@ white-good = scan-good isWhitespace
 
 pub comma-good : Good 1 1 0 comma
 unfolding comma
-comma-good = need-good (holdsOf test.Comma) ExpectedComma comma-placed
+comma-good = need-good (holdsOf test.Comma) ExpectedComma (omega arith, omega arith)
 
 pub at-sign-good : Good 1 1 0 atSign
 unfolding atSign
-at-sign-good = need-good (is 0x40) ExpectedIdentifier identifier-placed
+at-sign-good = need-good (is 0x40) ExpectedIdentifier (omega arith, omega arith)
 
 pub opening-good : Good 1 1 0 opening
 unfolding opening
-opening-good = need-good (λ c. eqb c 0x7B || eqb c 0x22) ExpectedOpeningBrace opening-placed
+opening-good = need-good (λ c. eqb c 0x7B || eqb c 0x22) ExpectedOpeningBrace (omega arith, omega arith)
 
 pub closing-good : Good 1 1 0 closing
 unfolding closing
-closing-good = need-good (λ c. eqb c 0x7D || eqb c 0x22) ExpectedClosingBrace closing-placed
+closing-good = need-good (λ c. eqb c 0x7D || eqb c 0x22) ExpectedClosingBrace (omega arith, omega arith)
 
 pub quote-good : Good 1 1 0 quote
 unfolding quote
-quote-good = need-good (holdsOf test.QuotationMark) ExpectedQuotationMark quotation-placed
+quote-good = need-good (holdsOf test.QuotationMark) ExpectedQuotationMark (omega arith, omega arith)
 
 pub equals-good : Good 1 1 0 equals
 unfolding equals
-equals-good = need-good (holdsOf test.Equals) ExpectedEquals equals-placed
+equals-good = need-good (holdsOf test.Equals) ExpectedEquals (omega arith, omega arith)
 
 -- ---- values
 
 eof-good : {v w l : ℕ} → Good v w l (refuse UnexpectedEof)
-eof-good = refuse-good UnexpectedEof eof-placed
+eof-good = refuse-good UnexpectedEof (omega arith, omega arith)
 
 escape-good : (a : ℕ) → Good 0 0 1 (escape a)
 escape-good a = when-good any (turn-good {w = 0} a) (turn-good a) (omega arith)
@@ -119,7 +93,7 @@ number-turn-good zero =
     (when-good (is 0x2E) (turn-good {w = 0} 1) (sees-good any stop-good eof-good (omega arith)) (omega arith)) (omega arith)
 number-turn-good (suc a) =
     when-good (holdsOf test.Digit) (turn-good {w = 0} 1)
-    (sees-good (is 0x2E) (refuse-good UnexpectedDecimalPoint point-placed) (sees-good any stop-good eof-good (omega arith)) (omega arith)) (omega arith)
+    (sees-good (is 0x2E) (refuse-good UnexpectedDecimalPoint (omega arith, omega arith)) (sees-good any stop-good eof-good (omega arith)) (omega arith)) (omega arith)
 
 pub number-good : Good 0 0 1 number
 unfolding number
@@ -146,7 +120,7 @@ braced-good = then-good opening-good (then-good (over-good kind.Literal refl in-
 
 pub ident-good : Good 1 1 1 ident
 unfolding ident
-ident-good = when-good isIdStart (scan-good isIdContinue) (refuse-good ExpectedIdentifier identifier-placed) (omega arith)
+ident-good = when-good isIdStart (scan-good isIdContinue) (refuse-good ExpectedIdentifier (omega arith, omega arith)) (omega arith)
 
 pub single-field-good : Good 1 1 0 singleField
 unfolding singleField
@@ -180,7 +154,7 @@ unfolding fieldEnd
 field-end-good =
     then-good white-good
     (sees-good (is 0x2C) (then-by comma-good (then-good white-good (then-good comment-good (turn-good {w = 0} 0) (omega arith)) (omega arith)) (omega arith))
-    (sees-good (is 0x7D) stop-good (refuse-good ExpectedComma comma-placed) (omega arith)) (omega arith)) (omega arith)
+    (sees-good (is 0x7D) stop-good (refuse-good ExpectedComma (omega arith, omega arith)) (omega arith)) (omega arith)) (omega arith)
 
 module _ (k : Kind) (d : eqb (kindOf k) 9 ≡ false) where
   pub field-good : Good 0 0 1 (field k)

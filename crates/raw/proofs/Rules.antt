@@ -10,7 +10,7 @@ use Rattle.row.specs.declared.form.Kind.{Kind}
 use Rattle.row.specs.declared.form.Kind.the-variants as kind
 use Rattle.raw.specs.declared.entry.Form.{Form}
 use Rattle.raw.specs.declared.entry.Form.the-variants.{Strings, Preambles, Comments, Other}
-use Rattle.raw.specs.declared.fault.Fault.the-variants.{ExpectedComma}
+use Rattle.row.specs.declared.fault.Reason.the-variants.{ExpectedComma}
 use Rattle.row.specs.Row.{Row}
 use Rattle.raw.specs.Reader.{ok}
 use Rattle.raw.specs.Grammar.{is, any, atSign, stringLiteral, braced, ident, singleField, abbrElement, abbrTurn, abbrField, field, fieldEnd, fieldsTurn, fields, key, formOf, strings, preamble, body, rest, entry, fileTurn, file}

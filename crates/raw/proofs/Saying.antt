@@ -14,11 +14,11 @@ use native.Mathlib.Omega.{arith}
 use native.Mathlib.Numerals.{add-one}
 use lib.ListN.{length, length-append}
 use Rattle.row.specs.declared.form.Kind.{Kind}
-use Rattle.raw.specs.declared.fault.Fault.{Fault}
-use Rattle.raw.specs.declared.fault.Answer.{Answer}
-use Rattle.raw.specs.declared.fault.Answer.the-variants as answer
-use Rattle.raw.specs.declared.fault.Turn.{Turn}
-use Rattle.raw.specs.declared.fault.Turn.the-variants as turn
+use Rattle.row.specs.declared.fault.Fault.{Fault}
+use Rattle.raw.specs.declared.answer.Answer.{Answer}
+use Rattle.raw.specs.declared.answer.Answer.the-variants as answer
+use Rattle.raw.specs.declared.answer.Turn.{Turn}
+use Rattle.raw.specs.declared.answer.Turn.the-variants as turn
 use Rattle.row.specs.Row.{Row, row, rowUp, moved, putRow, overlay}
 use Rattle.raw.specs.Reader.{Out, ok, again, bad, Reader, more, andThen, under}
 use Rattle.raw.specs.Says.{answerOf, turnOf, Room, Says, SaysTurn}

@@ -15,9 +15,10 @@ use Rattle.text.specs.Scan.{see, skip, pastOne, fails, Ahead}
 use Rattle.text.specs.Inner.{Letters}
 use Rattle.text.specs.declared.class.Test.the-variants as test
 use Rattle.text.proofs.AsciiTurns.{letters-id}
-use Rattle.raw.specs.declared.fault.Fault.the-variants.{UnexpectedEof, ExpectedIdentifier, ExpectedOpeningBrace, ExpectedClosingBrace, ExpectedComma, ExpectedQuotationMark, ExpectedEquals, UnexpectedDecimalPoint}
-use Rattle.raw.specs.declared.fault.Step.{Step}
-use Rattle.raw.specs.declared.fault.Step.the-variants as step
+use Rattle.row.specs.declared.fault.Reason.the-variants.{UnexpectedEof, ExpectedIdentifier, ExpectedOpeningBrace, ExpectedClosingBrace, ExpectedComma, ExpectedQuotationMark, ExpectedEquals, UnexpectedDecimalPoint}
+use Rattle.row.specs.Fault.{faultAt}
+use Rattle.raw.specs.declared.answer.Step.{Step}
+use Rattle.raw.specs.declared.answer.Step.the-variants as step
 use Rattle.raw.specs.Reader.{Out, ok, again, bad, Reader, eaten, scan}
 use Rattle.raw.specs.Grammar.{is, any, white, comma, atSign, opening, closing, quote, equals, comment, key, ident, escape, quotedTurn, quoted, numberTurn, number, bracedTurn, inBraces, string, lead, commented}
 use Rattle.raw.specs.Says.{stepOf, Onward}
@@ -60,7 +61,7 @@ module _ (s : List ℕ) (i : ℕ) where
   pub ident-bare : Bare (ident s i)
   unfolding ident
   ident-bare =
-      eaten-holds Bare isIdStart (see s i) (scan isIdContinue s) (bad (ExpectedIdentifier i)) (λ k n x. scan-bare isIdContinue s n) bare-bad
+      eaten-holds Bare isIdStart (see s i) (scan isIdContinue s) (bad (faultAt ExpectedIdentifier i)) (λ k n x. scan-bare isIdContinue s n) bare-bad
 
   -- ---- one character
 
@@ -162,15 +163,15 @@ module _ (s : List ℕ) (i : ℕ) where
         (sym (ap stepOf (eaten-on (holdsOf test.Percent) s i (scan (fails test.Newline) s) (ok i []) e h ∙ scan-on (fails test.Newline) s r d)), omega arith, omega arith)
 
   module _ {r : ℕ} (e : r ≡ pastOne isIdStart i (see s i)) where
-    pub ident-off : r ≡ i → (step.Refused (ExpectedIdentifier i) ≡ stepOf (ident s i)) × Unit {0}
+    pub ident-off : r ≡ i → (step.Refused (faultAt ExpectedIdentifier i) ≡ stepOf (ident s i)) × Unit {0}
     unfolding ident
-    ident-off h = (sym (ap stepOf (eaten-off isIdStart s i (scan isIdContinue s) (bad (ExpectedIdentifier i)) e h)), tt)
+    ident-off h = (sym (ap stepOf (eaten-off isIdStart s i (scan isIdContinue s) (bad (faultAt ExpectedIdentifier i)) e h)), tt)
 
     pub ident-line : {q : ℕ} → (r ≡ i → ⊥) → Ahead s i r → q ≡ skip isIdContinue s r → Ahead s r q → (step.At q ≡ stepOf (ident s i)) × Onward (length s) 1 i (step.At q)
     unfolding ident
     ident-line h a d b =
         let l : i + 1 ≤ r = not-at (a .from) h in
-        (sym (ap stepOf (eaten-on isIdStart s i (scan isIdContinue s) (bad (ExpectedIdentifier i)) e h ∙ scan-on isIdContinue s r d)), (omega arith, omega arith))
+        (sym (ap stepOf (eaten-on isIdStart s i (scan isIdContinue s) (bad (faultAt ExpectedIdentifier i)) e h ∙ scan-on isIdContinue s r d)), (omega arith, omega arith))
 
   -- by letters alone
   pub ident-letters : {r : ℕ} → Letters s i r → i < r → r < length s → (eqb (getD s r 0) 0x20 || eqb (getD s r 0) 0x3D) ≡ true → (step.At r ≡ stepOf (ident s i)) × Onward (length s) 1 i (step.At r)

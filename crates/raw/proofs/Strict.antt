@@ -20,12 +20,14 @@ use Rattle.text.specs.declared.utf8.Validity.the-variants as validity
 use Rattle.text.proofs.Seen.{see-inside}
 use Rattle.text.proofs.Moved.{see-front}
 use Rattle.text.proofs.Rfc3629.{rfc3629}
-use Rattle.raw.specs.declared.fault.Fault.{Fault}
-use Rattle.raw.specs.declared.fault.Fault.the-variants.{TooLong, NotUtf8}
+use Rattle.row.specs.declared.fault.Fault.{Fault}
+use Rattle.row.specs.declared.fault.Reason.the-variants.{TooLong, NotUtf8}
+use Rattle.row.specs.Fault.{faultAt, nowhere}
 use Rattle.row.specs.Row.{Row}
 use Rattle.raw.specs.Reader.{Out, ok, again, bad, more, andThen, eaten, after, stop, turn, loop, many}
 use Rattle.raw.specs.Grammar.{is, any, white, comment, entry, fileTurn, file}
-use Rattle.raw.specs.Read.{mostBytes, checked, strict}
+use Rattle.row.specs.Limits.{mostBytes}
+use Rattle.raw.specs.Read.{checked, strict}
 use Rattle.raw.specs.Strict.{Same, Fresh, Accepted, Refusal, Strict}
 use Rattle.raw.proofs.Trace.{Trace, Refused, Traced, trace-reach}
 use Rattle.raw.proofs.Spans.{reach-inside, reach-same, trace-rising, trace-spans, trace-clean}
@@ -155,26 +157,27 @@ file-accepts s q rs o e =
       few = omega (arith, file-few s 0 q rs e, file-ends s 0 q rs e (omega arith));
     }
 
-file-refuses : (s : List ℕ) (f : Fault) → file s 0 ≡ bad f → Refusal s f
+pub file-refuses : (s : List ℕ) (f : Fault) → file s 0 ≡ bad f → Refusal s f
 file-refuses s f e =
     let r : Refused s 0 f = subst (Traced s 0) e (file-good .traced s 0) in
     record {
       number = (omega (arith, r .least), r .most);
       place = reach-inside (r .place) (omega arith);
+      empty = r .empty;
       early = file-early s 0 f e;
     }
 
 -- by what strict reading is: a text too long, one that is not UTF-8, or the file
-module _ (s : List ℕ) (P : Out → Type 0) (long : P (bad TooLong)) (ill : (n : ℕ) → n < length s → P (bad (NotUtf8 n))) (read : Octets s → P (file s 0)) where
+module _ (s : List ℕ) (P : Out → Type 0) (long : P (bad (nowhere TooLong))) (ill : (n : ℕ) → n < length s → P (bad (faultAt NotUtf8 n))) (read : Octets s → P (file s 0)) where
   checked-by : (v : Validity) → validityOf s ≡ v → P (checked s v)
   checked-by validity.Valid e = read (rfc3629 .accepts s .0 e)
   checked-by (validity.IllFormed n) e = ill n (rfc3629 .refuses s n .0 e .inside)
 
-  strict-by : P (strict s)
+  pub strict-by : P (strict s)
   unfolding strict
   strict-by = by (leb (length s) mostBytes)
     where
-      by : (b : Bool) → P (cond b (checked s (validityOf s)) (bad TooLong))
+      by : (b : Bool) → P (cond b (checked s (validityOf s)) (bad (nowhere TooLong)))
       by true = checked-by (validityOf s) refl
       by false = long
 
@@ -191,8 +194,8 @@ made s g f e r = let q : g ≡ f = cc in subst (Refusal s) q r
 refuses : (s : List ℕ) (f : Fault) → strict s ≡ bad f → Refusal s f
 refuses s f =
     strict-by s (λ o. o ≡ bad f → Refusal s f)
-    (λ e. made s TooLong f e (record { number = (omega arith, omega arith); place = omega arith; early = λ x. absurd (omega arith) }))
-    (λ n h e. made s (NotUtf8 n) f e (record { number = (omega arith, omega arith); place = omega arith; early = λ x. absurd (omega arith) }))
+    (λ e. made s (nowhere TooLong) f e (record { number = (omega arith, omega arith); place = omega arith; empty = refl; early = λ x. absurd (omega arith) }))
+    (λ n h e. made s (faultAt NotUtf8 n) f e (record { number = (omega arith, omega arith); place = omega arith; empty = refl; early = λ x. absurd (omega arith) }))
     (λ o. file-refuses s f)
 
 decides : (s : List ℕ) (q a : ℕ) (rs : List Row) → strict s ≡ again q rs a → ⊥

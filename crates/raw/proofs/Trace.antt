@@ -11,9 +11,9 @@ use lib.Dec.{eqb}
 use Rattle.text.specs.Scan.{see}
 use Rattle.text.specs.declared.scanner.Seen.the-variants.{Char}
 use Rattle.row.specs.declared.form.Kind.{Kind}
-use Rattle.raw.specs.declared.fault.Fault.{Fault}
+use Rattle.row.specs.declared.fault.Fault.{Fault}
+use Rattle.row.specs.Fault.{numberOf}
 use Rattle.row.specs.Row.{Row, row, kindOf}
-use Rattle.raw.specs.Read.{numberOf, startOf}
 use Rattle.raw.specs.Reader.{Out, ok, again, bad, more, andThen, under, after}
 
 -- ---- the words
@@ -30,11 +30,12 @@ pub data Trace (s : List ℕ) : ℕ → List Row → ℕ → Type 0 where
   joins : {p q r : ℕ} {rs ss : List Row} → Trace s p rs q → Trace s q ss r → Trace s p (rs ++ ss) r
   lays : {p q : ℕ} {rs : List Row} (k : Kind) → eqb (kindOf k) 9 ≡ false → Trace s p rs q → Trace s p (row k p q ∷ rs) q
 
--- a refusal by one of the numbers 3 to 10, at a place that was reached
+-- a refusal by one of the numbers 3 to 10, at an empty place that was reached
 pub record Refused (s : List ℕ) (p : ℕ) (f : Fault) : Type 0 where
-  pub place : Reach s p (startOf f)
-  pub least : 3 ≤ numberOf f
-  pub most : numberOf f ≤ 10
+  pub place : Reach s p (f .start)
+  pub empty : f .end ≡ f .start
+  pub least : 3 ≤ numberOf (f .reason)
+  pub most : numberOf (f .reason) ≤ 10
 
 abbrev pub Traced : List ℕ → ℕ → Out → Type 0
 Traced s p (ok q rs) = Trace s p rs q
@@ -59,7 +60,7 @@ module _ {s : List ℕ} where
   reach-trace (on e x) = eats e (reach-trace x)
 
   refused-from : {p q : ℕ} {f : Fault} → Reach s p q → Refused s q f → Refused s p f
-  refused-from x r = record { place = reach-on x (r .place); least = r .least; most = r .most }
+  refused-from x r = record { place = reach-on x (r .place); empty = r .empty; least = r .least; most = r .most }
 
   pub joined : {p q : ℕ} {rs : List Row} (o : Out) → Trace s p rs q → Traced s q o → Traced s p (more rs o)
   joined (ok r ss) t u = joins t u

@@ -7,11 +7,11 @@ use mathlib.Core.Path.{_≡_, refl, sym, ap, _∙_}
 use mathlib.Core.List.{List, [], _∷_, _++_}
 use native.Mathlib.Omega.{arith}
 use lib.ListN.{length}
-use Rattle.raw.specs.declared.fault.Fault.{Fault}
-use Rattle.raw.specs.declared.fault.Answer.{Answer}
-use Rattle.raw.specs.declared.fault.Answer.the-variants as answer
-use Rattle.raw.specs.declared.fault.Turn.{Turn}
-use Rattle.raw.specs.declared.fault.Turn.the-variants as turn
+use Rattle.row.specs.declared.fault.Fault.{Fault}
+use Rattle.raw.specs.declared.answer.Answer.{Answer}
+use Rattle.raw.specs.declared.answer.Answer.the-variants as answer
+use Rattle.raw.specs.declared.answer.Turn.{Turn}
+use Rattle.raw.specs.declared.answer.Turn.the-variants as turn
 use Rattle.raw.specs.Reader.{Out, ok, again, bad, Reader, after, loop, many}
 use Rattle.raw.specs.Says.{turnOf, Room, Says, SaysTurn}
 use Rattle.raw.proofs.Saying.{says-of, says-more, says-off, said-off}

@@ -16,9 +16,10 @@ use lib.ListN.{length, getD}
 use Rattle.text.specs.declared.block.Set.{Set}
 use Rattle.text.specs.Block.{inSet, braces, quotes, Clear}
 use Rattle.text.proofs.Clear.{clear-not}
-use Rattle.raw.specs.declared.fault.Fault.the-variants.{UnexpectedEof}
-use Rattle.raw.specs.declared.fault.Step.{Step}
-use Rattle.raw.specs.declared.fault.Step.the-variants as step
+use Rattle.row.specs.declared.fault.Reason.the-variants.{UnexpectedEof}
+use Rattle.row.specs.Fault.{faultAt}
+use Rattle.raw.specs.declared.answer.Step.{Step}
+use Rattle.raw.specs.declared.answer.Step.the-variants as step
 use Rattle.raw.specs.Reader.{Reader}
 use Rattle.raw.specs.Says.{stepOf, Onward}
 use Rattle.raw.specs.Grammar.{quotedTurn, quoted, bracedTurn, inBraces}
@@ -52,7 +53,7 @@ module _ {s : List ℕ} {at d : ℕ} where
     pub braces-far : i + 1 < length s → Reached bracedTurn s at d (i + 2)
     braces-far l = let q : i + 1 + 1 ≡ i + 2 = omega arith in subst (Reached bracedTurn s at d) q (braces-escape r h e l)
 
-    pub braces-eof : length s ≤ i + 1 → (step.Refused (UnexpectedEof (i + 1)) ≡ stepOf (inBraces s at)) × Onward (length s) 0 at (step.Refused (UnexpectedEof (i + 1)))
+    pub braces-eof : length s ≤ i + 1 → (step.Refused (faultAt UnexpectedEof (i + 1)) ≡ stepOf (inBraces s at)) × Onward (length s) 0 at (step.Refused (faultAt UnexpectedEof (i + 1)))
     braces-eof l = braces-end (braces-cut r h e l) l
 
 module _ {s : List ℕ} {at : ℕ} where

@@ -13,8 +13,8 @@ use Rattle.row.specs.declared.form.Kind.{Kind}
 use Rattle.row.specs.declared.form.Kind.the-variants as kind
 use Rattle.raw.specs.declared.entry.Form.{Form}
 use Rattle.raw.specs.declared.entry.Form.the-variants.{Strings, Preambles, Comments, Other}
-use Rattle.raw.specs.declared.fault.Fault.{Fault}
-use Rattle.raw.specs.declared.fault.Fault.the-variants.{UnexpectedEof, ExpectedIdentifier, ExpectedOpeningBrace, ExpectedClosingBrace, ExpectedComma, ExpectedQuotationMark, ExpectedEquals, UnexpectedDecimalPoint}
+use Rattle.row.specs.declared.fault.Reason.the-variants.{UnexpectedEof, ExpectedIdentifier, ExpectedOpeningBrace, ExpectedClosingBrace, ExpectedComma, ExpectedQuotationMark, ExpectedEquals, UnexpectedDecimalPoint}
+use Rattle.row.specs.declared.fault.Reason.{Reason}
 use Rattle.raw.specs.Reader.{Out, ok, Reader, andThen, stop, turn, refuse, _then_, over, overFrom, put, when, sees, many, scan}
 
 -- the character c
@@ -25,8 +25,8 @@ abbrev pub any : ℕ → Bool
 any c = true
 
 -- the character of class t, or the refusal
-abbrev pub need : (ℕ → Bool) → (ℕ → Fault) → Reader
-need t fault = when t stop (refuse fault)
+abbrev pub need : (ℕ → Bool) → Reason → Reader
+need t reason = when t stop (refuse reason)
 
 unfoldable pub white : Reader
 white = scan isWhitespace

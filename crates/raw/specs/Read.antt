@@ -9,61 +9,27 @@ use lib.Dec.{leb}
 use Rattle.text.specs.Utf8.{validityOf}
 use Rattle.text.specs.declared.utf8.Validity.{Validity}
 use Rattle.text.specs.declared.utf8.Validity.the-variants as validity
-use Rattle.raw.specs.declared.fault.Fault.{Fault}
-use Rattle.raw.specs.declared.fault.Fault.the-variants.{TooLong, NotUtf8, UnexpectedEof, ExpectedIdentifier, ExpectedOpeningBrace, ExpectedClosingBrace, ExpectedComma, ExpectedQuotationMark, ExpectedEquals, UnexpectedDecimalPoint, NoRoom}
-use Rattle.raw.specs.declared.fault.Reading.{Reading}
-use Rattle.raw.specs.declared.fault.Reading.the-variants as reading
+use Rattle.row.specs.declared.fault.Reason.the-variants.{TooLong, NotUtf8, NoRoom}
+use Rattle.row.specs.Fault.{faultAt, nowhere}
+use Rattle.raw.specs.declared.answer.Reading.{Reading}
+use Rattle.raw.specs.declared.answer.Reading.the-variants as reading
+use Rattle.row.specs.Limits.{mostBytes}
 use Rattle.row.specs.Row.{flat}
 use Rattle.raw.specs.Reader.{Out, ok, again, bad}
 use Rattle.raw.specs.Grammar.{file}
 
--- [01:Numbers a caller can get] the numbers
-abbrev pub numberOf : Fault → ℕ
-numberOf TooLong = 1
-numberOf (NotUtf8 n) = 2
-numberOf (UnexpectedEof n) = 3
-numberOf (ExpectedIdentifier n) = 4
-numberOf (ExpectedOpeningBrace n) = 5
-numberOf (ExpectedClosingBrace n) = 6
-numberOf (ExpectedComma n) = 7
-numberOf (ExpectedQuotationMark n) = 8
-numberOf (ExpectedEquals n) = 9
-numberOf (UnexpectedDecimalPoint n) = 10
-numberOf NoRoom = 16
-
--- and the places, each empty
-abbrev pub startOf : Fault → ℕ
-startOf TooLong = 0
-startOf (NotUtf8 n) = n
-startOf (UnexpectedEof n) = n
-startOf (ExpectedIdentifier n) = n
-startOf (ExpectedOpeningBrace n) = n
-startOf (ExpectedClosingBrace n) = n
-startOf (ExpectedComma n) = n
-startOf (ExpectedQuotationMark n) = n
-startOf (ExpectedEquals n) = n
-startOf (UnexpectedDecimalPoint n) = n
-startOf NoRoom = 0
-
-abbrev pub endOf : Fault → ℕ
-endOf f = startOf f
-
--- [01:From file to field] a file has at most 16,777,215 bytes
-abbrev pub mostBytes : ℕ
-mostBytes = 16777215
-
 abbrev pub checked : List ℕ → Validity → Out
 checked s validity.Valid = file s 0
-checked s (validity.IllFormed n) = bad (NotUtf8 n)
+checked s (validity.IllFormed n) = bad (faultAt NotUtf8 n)
 
 -- [01:Numbers a caller can get] 1, then 2, then 3 to 10 as met
 unfoldable pub strict : List ℕ → Out
-strict s = cond (leb (length s) mostBytes) (checked s (validityOf s)) (bad TooLong)
+strict s = cond (leb (length s) mostBytes) (checked s (validityOf s)) (bad (nowhere TooLong))
 
 -- and 16 exactly if an answer exists and needs more rows than are lent
 abbrev pub readingOut : Out → ℕ → Reading
-readingOut (ok q rs) size = cond (leb (length rs) (size / 4)) (reading.Rows (length rs)) (reading.Refused NoRoom)
-readingOut (again q rs a) size = cond (leb (length rs) (size / 4)) (reading.Rows (length rs)) (reading.Refused NoRoom)
+readingOut (ok q rs) size = cond (leb (length rs) (size / 4)) (reading.Rows (length rs)) (reading.Refused (nowhere NoRoom))
+readingOut (again q rs a) size = cond (leb (length rs) (size / 4)) (reading.Rows (length rs)) (reading.Refused (nowhere NoRoom))
 readingOut (bad f) size = reading.Refused f
 
 -- the lent numbers: the rows in front of what they held, or as they were

@@ -9,8 +9,10 @@ use Rattle.text.specs.Scan.{see}
 use Rattle.text.specs.declared.scanner.Seen.{Seen}
 use Rattle.text.specs.declared.scanner.Seen.the-variants.{End, Char}
 use Rattle.row.specs.declared.form.Kind.{Kind}
-use Rattle.raw.specs.declared.fault.Fault.{Fault}
-use Rattle.raw.specs.declared.fault.Fault.the-variants.{UnexpectedEof}
+use Rattle.row.specs.declared.fault.Fault.{Fault}
+use Rattle.row.specs.declared.fault.Reason.the-variants.{UnexpectedEof}
+use Rattle.row.specs.declared.fault.Reason.{Reason}
+use Rattle.row.specs.Fault.{faultAt}
 use Rattle.row.specs.Row.{Row, row}
 
 -- a reader is done at a place; or one turn of a loop is, and the loop goes on with a number; or it refuses
@@ -58,8 +60,8 @@ stop s p = ok p []
 abbrev pub turn : ℕ → Reader
 turn a s p = again p [] a
 
-abbrev pub refuse : (ℕ → Fault) → Reader
-refuse fault s p = bad (fault p)
+abbrev pub refuse : Reason → Reader
+refuse reason s p = bad (faultAt reason p)
 
 infixr 20 _then_
 -- one after the other
@@ -87,7 +89,7 @@ sees t f g s p = eaten t (see s p) (λ n. f s p) (g s p)
 
 -- turns of f, beginning with the number a, for as long as they say `again`. The fuel never runs out (`many-turn` of proofs/Loop.antt)
 unfoldable pub loop : (ℕ → Reader) → ℕ → ℕ → Reader
-loop f zero a s p = bad (UnexpectedEof p)
+loop f zero a s p = bad (faultAt UnexpectedEof p)
 loop f (suc n) a s p = after (f a s p) (λ b q. loop f n b s q)
 
 unfoldable pub many : (ℕ → Reader) → ℕ → Reader

@@ -5,12 +5,13 @@ use Prim.Native.Nat.{ℕ, _+_, _*_, _≤_, _<_, max}
 use mathlib.Core.Path.{_≡_}
 use mathlib.Core.List.{List}
 use lib.ListN.{length, getD}
-use Rattle.raw.specs.declared.fault.Step.{Step}
-use Rattle.raw.specs.declared.fault.Step.the-variants as step
-use Rattle.raw.specs.declared.fault.Answer.{Answer}
-use Rattle.raw.specs.declared.fault.Answer.the-variants as answer
-use Rattle.raw.specs.declared.fault.Turn.{Turn}
-use Rattle.raw.specs.declared.fault.Turn.the-variants as turn
+use Rattle.raw.specs.declared.answer.Step.{Step}
+use Rattle.raw.specs.declared.answer.Step.the-variants as step
+use Rattle.raw.specs.declared.answer.Answer.{Answer}
+use Rattle.raw.specs.declared.answer.Answer.the-variants as answer
+use Rattle.raw.specs.declared.answer.Turn.{Turn}
+use Rattle.raw.specs.declared.answer.Turn.the-variants as turn
+use Rattle.row.specs.Limits.{mostBytes}
 use Rattle.row.specs.Row.{moved, overlay}
 use Rattle.raw.specs.Reader.{Out, ok, again, bad}
 
@@ -69,7 +70,7 @@ WithinTurn len v w p n (turn.Refused f) = Unit {0}
 
 -- what a reader that puts rows asks: a text of a file inside 01's limit, a place in it, and no more rows so far than that allows
 pub record Ready (base len p n : ℕ) : Type 0 where
-  pub file : base + len ≤ 16777215
+  pub file : base + len ≤ mostBytes
   pub place : p ≤ len
   pub rows : n ≤ 8 * (base + p) + 8
 

@@ -13,12 +13,12 @@ use Rattle.text.specs.Scan.{see}
 use Rattle.text.specs.declared.scanner.Seen.{Seen}
 use Rattle.text.specs.declared.scanner.Seen.the-variants.{End, Char}
 use Rattle.text.specs.declared.class.Test.the-variants as test
-use Rattle.raw.specs.declared.fault.Fault.{Fault}
-use Rattle.raw.specs.declared.fault.Fault.the-variants.{TooLong, NotUtf8, UnexpectedEof, ExpectedIdentifier, ExpectedOpeningBrace, ExpectedClosingBrace, ExpectedComma, ExpectedQuotationMark, ExpectedEquals, UnexpectedDecimalPoint, NoRoom}
+use Rattle.row.specs.declared.fault.Fault.{Fault}
+use Rattle.row.specs.Fault.{numberOf}
 use Rattle.row.specs.Row.{Row, moved}
 use Rattle.raw.specs.Reader.{Out, ok, again, bad, after}
 use Rattle.raw.specs.Grammar.{is, entry, fileTurn, file}
-use Rattle.raw.specs.Read.{numberOf, startOf, strict}
+use Rattle.raw.specs.Read.{strict}
 use Rattle.row.specs.Rules.{isRows, clean}
 
 -- ---- the words
@@ -29,17 +29,7 @@ Same s t p e = (i : ℕ) → p ≤ i → i < e → see s i ≡ see t i
 
 -- a refusal, and an answer, d places on
 abbrev pub faultUp : ℕ → Fault → Fault
-faultUp d TooLong = TooLong
-faultUp d (NotUtf8 n) = NotUtf8 (n + d)
-faultUp d (UnexpectedEof n) = UnexpectedEof (n + d)
-faultUp d (ExpectedIdentifier n) = ExpectedIdentifier (n + d)
-faultUp d (ExpectedOpeningBrace n) = ExpectedOpeningBrace (n + d)
-faultUp d (ExpectedClosingBrace n) = ExpectedClosingBrace (n + d)
-faultUp d (ExpectedComma n) = ExpectedComma (n + d)
-faultUp d (ExpectedQuotationMark n) = ExpectedQuotationMark (n + d)
-faultUp d (ExpectedEquals n) = ExpectedEquals (n + d)
-faultUp d (UnexpectedDecimalPoint n) = UnexpectedDecimalPoint (n + d)
-faultUp d NoRoom = NoRoom
+faultUp d f = record { reason = f .reason; start = f .start + d; end = f .end + d }
 
 abbrev pub shifted : ℕ → Out → Out
 shifted d (ok q rs) = ok (q + d) (moved d rs)
@@ -83,12 +73,13 @@ pub record Accepted (s : List ℕ) (q : ℕ) (rs : List Row) : Type 0 where
   -- and are at most as many as the bytes
   pub few : length rs ≤ length s
 
--- what a refused one gives: 01's numbers 1 to 10, at a place of the text
+-- what a refused one gives: 01's numbers 1 to 10, at an empty place of the text
 pub record Refusal (s : List ℕ) (f : Fault) : Type 0 where
-  pub number : (1 ≤ numberOf f) × (numberOf f ≤ 10)
-  pub place : startOf f ≤ length s
+  pub number : (1 ≤ numberOf (f .reason)) × (numberOf (f .reason) ≤ 10)
+  pub place : f .start ≤ length s
+  pub empty : f .end ≡ f .start
   -- 3 is at the end of the text, or before it where no value begins
-  pub early : numberOf f ≡ 3 → beginsValue (see s (startOf f)) ≡ false
+  pub early : numberOf (f .reason) ≡ 3 → beginsValue (see s (f .start)) ≡ false
 
 pub record Strict : Type 0 where
   -- the fuel of a loop never runs out: a file is its first item, and then the file

@@ -8,8 +8,9 @@ use mathlib.Core.Path.{_≡_}
 use mathlib.Core.List.{List, [], _∷_, _++_, map}
 use Rattle.text.specs.Utf8.{octets}
 use Rattle.row.specs.Row.{Row}
+use Rattle.row.specs.Fault.{numberOf}
 use Rattle.raw.specs.Reader.{Out, ok, again, bad}
-use Rattle.raw.specs.Read.{numberOf, startOf, endOf, strict}
+use Rattle.raw.specs.Read.{strict}
 
 -- the file that holds a text
 unfoldable pub utf8 : String → List ℕ
@@ -24,7 +25,7 @@ pub data Outcome : Type 0 where
 abbrev pub outcomeOf : Out → Outcome
 outcomeOf (ok q rs) = rows rs
 outcomeOf (again q rs a) = rows rs
-outcomeOf (bad f) = refused (numberOf f) (startOf f) (endOf f)
+outcomeOf (bad f) = refused (numberOf (f .reason)) (f .start) (f .end)
 
 pub record Case : Type 0 where
   pub file : String

@@ -1,7 +1,6 @@
 // Entries, after src/raw.rs: `entry`, `strings`, `preamble`, `body`.
-use crate::fault::Answer;
-use crate::fault::Fault;
-use crate::fault::Step;
+use crate::answer::Answer;
+use crate::answer::Step;
 use crate::field;
 use crate::token;
 use crate::value;

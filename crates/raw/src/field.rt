@@ -1,10 +1,11 @@
 // Fields, after src/raw.rs: `field`, `fields`.
-use crate::fault::Answer;
-use crate::fault::Fault;
-use crate::fault::Step;
-use crate::fault::Turn;
+use crate::answer::Answer;
+use crate::answer::Step;
+use crate::answer::Turn;
 use crate::token;
 use crate::value;
+use row::fault::Fault;
+use row::fault::Reason;
 use row::form;
 use row::form::Kind;
 use text::scanner;
@@ -75,7 +76,11 @@ fn field_end(s: &[u8], at: usize, n: usize) -> Turn
             return Turn::Done { at: p1, n };
         }
     }
-    Turn::Refused(Fault::ExpectedComma(p1))
+    Turn::Refused(Fault {
+        reason: Reason::ExpectedComma,
+        start: p1,
+        end: p1,
+    })
 }
 
 // Eat a field, if another one stands before the closing brace.
@@ -85,7 +90,11 @@ fn fields_turn(s: &[u8], base: usize, at: usize, rows: &mut [u32], n: usize, kin
     ensures within { λ r. ⌜ WithinTurn (length (now (s .entry))) 1 0 at n r ⌝ }
 {
     if s.len() <= at {
-        return Turn::Refused(Fault::UnexpectedEof(at));
+        return Turn::Refused(Fault {
+            reason: Reason::UnexpectedEof,
+            start: at,
+            end: at,
+        });
     }
     let p1 = scanner::eat_whitespace(s, at);
     if p1 < s.len() {

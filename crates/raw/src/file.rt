@@ -1,10 +1,12 @@
 // The file, after src/raw.rs: `parse`; and `read`, which checks, counts and then writes.
+use crate::answer::Answer;
+use crate::answer::Reading;
+use crate::answer::Turn;
 use crate::entry;
-use crate::fault::Answer;
-use crate::fault::Fault;
-use crate::fault::Reading;
-use crate::fault::Turn;
 use crate::token;
+use row::fault::Fault;
+use row::fault::Reason;
+use row::limits::MOST_BYTES;
 use text::scanner;
 use text::utf8;
 use text::utf8::Validity;
@@ -74,12 +76,20 @@ pub fn parse(s: &[u8], base: usize, rows: &mut [u32], n: usize) -> Answer
 pub fn read(s: &[u8], rows: &mut [u32]) -> Reading
     ensures { λ r. ⌜ Read (now (s .entry)) (now (rows .entry)) r (now (rows .exit)) ⌝ }
 {
-    if 16_777_215 < s.len() {
-        return Reading::Refused(Fault::TooLong);
+    if MOST_BYTES < s.len() {
+        return Reading::Refused(Fault {
+            reason: Reason::TooLong,
+            start: 0,
+            end: 0,
+        });
     }
     match utf8::validate(s) {
         Validity::IllFormed(i) => {
-            return Reading::Refused(Fault::NotUtf8(i));
+            return Reading::Refused(Fault {
+                reason: Reason::NotUtf8,
+                start: i,
+                end: i,
+            });
         }
         Validity::Valid => {}
     }
@@ -90,7 +100,11 @@ pub fn read(s: &[u8], rows: &mut [u32]) -> Reading
         }
         Answer::Next { at: _, n } => {
             if rows.len() / 4 < n {
-                return Reading::Refused(Fault::NoRoom);
+                return Reading::Refused(Fault {
+                    reason: Reason::NoRoom,
+                    start: 0,
+                    end: 0,
+                });
             }
             parse(s, 0, rows, 0);
             return Reading::Rows(n);

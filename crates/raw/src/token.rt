@@ -1,6 +1,7 @@
 // Tokens, after src/raw.rs: `comma`, `brace`, `quote`, `equals`, `comment`, `key`, `ident`. None puts a row.
-use crate::fault::Fault;
-use crate::fault::Step;
+use crate::answer::Step;
+use row::fault::Fault;
+use row::fault::Reason;
 use text::class::Test;
 use text::scanner;
 ghost use mathlib.Core.Path.{_≡_};
@@ -15,7 +16,11 @@ pub fn comma(s: &[u8], at: usize) -> Step
 {
     let next = scanner::eat_byte(s, at, 0x2c);
     if next == at {
-        return Step::Refused(Fault::ExpectedComma(at));
+        return Step::Refused(Fault {
+            reason: Reason::ExpectedComma,
+            start: at,
+            end: at,
+        });
     }
     Step::At(next)
 }
@@ -29,7 +34,11 @@ pub fn at_sign(s: &[u8], at: usize) -> Step
             return Step::At(at + 1);
         }
     }
-    Step::Refused(Fault::ExpectedIdentifier(at))
+    Step::Refused(Fault {
+        reason: Reason::ExpectedIdentifier,
+        start: at,
+        end: at,
+    })
 }
 
 // Eat the delimiter that opens: a brace, or a double quote.
@@ -42,7 +51,11 @@ pub fn opening(s: &[u8], at: usize) -> Step
             return Step::At(at + 1);
         }
     }
-    Step::Refused(Fault::ExpectedOpeningBrace(at))
+    Step::Refused(Fault {
+        reason: Reason::ExpectedOpeningBrace,
+        start: at,
+        end: at,
+    })
 }
 
 // Eat the delimiter that closes: a brace, or a double quote.
@@ -55,7 +68,11 @@ pub fn closing(s: &[u8], at: usize) -> Step
             return Step::At(at + 1);
         }
     }
-    Step::Refused(Fault::ExpectedClosingBrace(at))
+    Step::Refused(Fault {
+        reason: Reason::ExpectedClosingBrace,
+        start: at,
+        end: at,
+    })
 }
 
 // Eat a quote.
@@ -64,7 +81,11 @@ pub fn quote(s: &[u8], at: usize) -> Step
 {
     let next = scanner::eat_byte(s, at, 0x22);
     if next == at {
-        return Step::Refused(Fault::ExpectedQuotationMark(at));
+        return Step::Refused(Fault {
+            reason: Reason::ExpectedQuotationMark,
+            start: at,
+            end: at,
+        });
     }
     Step::At(next)
 }
@@ -75,7 +96,11 @@ pub fn equals(s: &[u8], at: usize) -> Step
 {
     let next = scanner::eat_byte(s, at, 0x3d);
     if next == at {
-        return Step::Refused(Fault::ExpectedEquals(at));
+        return Step::Refused(Fault {
+            reason: Reason::ExpectedEquals,
+            start: at,
+            end: at,
+        });
     }
     Step::At(next)
 }
@@ -104,7 +129,11 @@ pub fn ident(s: &[u8], at: usize) -> Step
 {
     let next = scanner::eat_start(s, at);
     if next == at {
-        return Step::Refused(Fault::ExpectedIdentifier(at));
+        return Step::Refused(Fault {
+            reason: Reason::ExpectedIdentifier,
+            start: at,
+            end: at,
+        });
     }
     Step::At(scanner::eat_id(s, next))
 }

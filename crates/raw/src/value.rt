@@ -1,9 +1,10 @@
 // Values, after src/raw.rs: `string`, `number`, `braced`, `abbr_element`, `abbr_field`, `single_field`. Loops over bytes: only ASCII decides.
-use crate::fault::Answer;
-use crate::fault::Fault;
-use crate::fault::Step;
-use crate::fault::Turn;
+use crate::answer::Answer;
+use crate::answer::Step;
+use crate::answer::Turn;
 use crate::token;
+use row::fault::Fault;
+use row::fault::Reason;
 use row::form;
 use row::form::Kind;
 use text::block;
@@ -37,7 +38,11 @@ fn quoted_end(s: &[u8], at: usize) -> Step
             }
         }
     }
-    Step::Refused(Fault::UnexpectedEof(i))
+    Step::Refused(Fault {
+        reason: Reason::UnexpectedEof,
+        start: i,
+        end: i,
+    })
 }
 
 // The same. A turn looks at two bytes, since escapes come close together where there are any, and then at blocks.
@@ -99,7 +104,11 @@ fn number(s: &[u8], at: usize) -> Step
             i += 1;
         } else if b == 0x2e {
             if dot {
-                return Step::Refused(Fault::UnexpectedDecimalPoint(i));
+                return Step::Refused(Fault {
+                    reason: Reason::UnexpectedDecimalPoint,
+                    start: i,
+                    end: i,
+                });
             }
             dot = true;
             i += 1;
@@ -107,7 +116,11 @@ fn number(s: &[u8], at: usize) -> Step
             return Step::At(i);
         }
     }
-    Step::Refused(Fault::UnexpectedEof(i))
+    Step::Refused(Fault {
+        reason: Reason::UnexpectedEof,
+        start: i,
+        end: i,
+    })
 }
 
 // The place of the brace that closes a braced value, from inside it: braces in it nest, and a backslash takes the next character with it.
@@ -131,7 +144,12 @@ fn in_braces(s: &[u8], at: usize) -> Step
             }
             0x5c => {
                 if s.len() - i < 2 {
-                    return Step::Refused(Fault::UnexpectedEof(i + 1));
+                    let end = i + 1;
+                    return Step::Refused(Fault {
+                        reason: Reason::UnexpectedEof,
+                        start: end,
+                        end: end,
+                    });
                 }
                 i += 2;
             }
@@ -140,7 +158,11 @@ fn in_braces(s: &[u8], at: usize) -> Step
             }
         }
     }
-    Step::Refused(Fault::UnexpectedEof(i))
+    Step::Refused(Fault {
+        reason: Reason::UnexpectedEof,
+        start: i,
+        end: i,
+    })
 }
 
 // The refusal of a reader without rows, as one of a reader with rows; there is no other.
@@ -221,7 +243,11 @@ fn bare_element(s: &[u8], base: usize, at: usize, rows: &mut [u32], n: usize) ->
         form::put_row(rows, n, Kind::Name, base + at, base + p2);
         return Answer::Next { at: p2, n: n + 1 };
     }
-    Answer::Refused(Fault::UnexpectedEof(at))
+    Answer::Refused(Fault {
+        reason: Reason::UnexpectedEof,
+        start: at,
+        end: at,
+    })
 }
 
 // Eat an element of an abbreviation: most are in braces or quotes.

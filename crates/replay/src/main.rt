@@ -3,10 +3,10 @@
 //
 // A case, numbers with the most significant byte first: the file's length in two bytes, the file, then the refusal's number in one byte. Where
 // that is 0 the number of rows in one byte follows, and for each row kind and detail in a byte and start and end in two; else start and end.
-use raw::fault;
-use raw::fault::Fault;
-use raw::fault::Reading;
+use raw::answer::Reading;
 use raw::file;
+use row::fault;
+use row::fault::Fault;
 use text::scanner;
 ghost use Prim.Native.Nat.{_<_, _≤_};
 
@@ -71,9 +71,12 @@ fn are_rows(list: &[u8], at: usize, rows: &[u32], n: usize) -> bool
 fn is_refusal(list: &[u8], at: usize, f: Fault) -> bool
     requires { ⌜ at < 800000 ⌝ }
 {
-    (fault::number(f) == one(list, at))
-        & (fault::start(f) == two(list, at + 1) as usize)
-        & (fault::end(f) == two(list, at + 3) as usize)
+    let reason = f.reason;
+    let start = f.start;
+    let end = f.end;
+    (fault::number(reason) == one(list, at))
+        & (start == two(list, at + 1) as usize)
+        & (end == two(list, at + 3) as usize)
 }
 
 // Whether a reading is the answer that stands at a place of the list.

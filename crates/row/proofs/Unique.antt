@@ -3,6 +3,8 @@
 -- Assumes nothing.
 use mathlib.Core.Path.{_≡_, sym, _∙_}
 use Rattle.text.proofs.Unique.{One}
+use Rattle.row.proofs.fault.number.Kinds as number-kinds
+use Rattle.row.proofs.fault.number.Reads as number
 use Rattle.row.proofs.form.kind_number.Kinds as kind-number-kinds
 use Rattle.row.proofs.form.kind_number.Reads as kind-number
 use Rattle.row.proofs.check.is_detail.Kinds as is-detail-kinds
@@ -15,6 +17,9 @@ use Rattle.row.proofs.mask.step.Kinds as step-kinds
 use Rattle.row.proofs.mask.step.Reads as step
 use Rattle.row.proofs.mask.is_whole.Kinds as is-whole-kinds
 use Rattle.row.proofs.mask.is_whole.Reads as is-whole
+
+pub one-number : One 0 number-kinds.ps number-kinds.r number.Post
+one-number κs a x y s t p q = p ∙ sym q
 
 pub one-kind-number : One 0 kind-number-kinds.ps kind-number-kinds.r kind-number.Post
 one-kind-number κs a x y s t p q = p ∙ sym q

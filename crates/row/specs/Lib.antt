@@ -1,3 +1,5 @@
+pub mod Limits
+pub mod Fault
 pub mod Row
 pub mod Rules
 pub mod Numbers

@@ -1,6 +1,7 @@
 // The row form: kind, detail, start, end, four numbers to a row in lent numbers.
 ghost use mathlib.Core.Path.{_≡_};
 ghost use Prim.Native.Nat.{_≤_};
+ghost use Rattle.row.specs.Limits.{mostBytes};
 ghost use Rattle.row.specs.Row.{kindOf, rowOf, rowWith, row, putRow};
 
 // What a row is of. Document 01 gives the numbers.
@@ -51,7 +52,7 @@ pub fn write_numbers(rows: &mut [u32], n: usize, kind: u32, detail: u32, start: 
 
 // A row of a kind, from a reader's places.
 pub fn write_row(rows: &mut [u32], n: usize, kind: Kind, detail: u32, start: usize, end: usize)
-    requires { ⌜ (start ≤ 16777215) × (end ≤ 16777215) ⌝ }
+    requires { ⌜ (start ≤ mostBytes) × (end ≤ mostBytes) ⌝ }
     ensures { λ _. ⌜ now (rows .exit) ≡ putRow (now (rows .entry)) n (rowWith kind detail start end) ⌝ }
 {
     write_numbers(rows, n, kind_number(kind), detail, start as u32, end as u32)
@@ -59,7 +60,7 @@ pub fn write_row(rows: &mut [u32], n: usize, kind: Kind, detail: u32, start: usi
 
 // A row with detail 0.
 pub fn put_row(rows: &mut [u32], n: usize, kind: Kind, start: usize, end: usize)
-    requires { ⌜ (start ≤ 16777215) × (end ≤ 16777215) ⌝ }
+    requires { ⌜ (start ≤ mostBytes) × (end ≤ mostBytes) ⌝ }
     ensures { λ _. ⌜ now (rows .exit) ≡ putRow (now (rows .entry)) n (row kind start end) ⌝ }
 {
     write_row(rows, n, kind, 0, start, end)

@@ -17,12 +17,14 @@ use Rattle.text.specs.Rfc3629.{Cut}
 use Rattle.text.specs.declared.utf8.Validity.{Validity}
 use Rattle.text.specs.declared.utf8.Validity.the-variants as validity
 use Rattle.text.proofs.Rfc3629.{rfc3629}
-use Rattle.raw.specs.declared.fault.Fault.{Fault}
-use Rattle.raw.specs.declared.fault.Fault.the-variants.{TooLong, NotUtf8}
+use Rattle.row.specs.declared.fault.Fault.{Fault}
+use Rattle.row.specs.declared.fault.Reason.the-variants.{TooLong, NotUtf8}
+use Rattle.row.specs.Fault.{numberOf, faultAt, nowhere}
 use Rattle.row.specs.Row.{Row}
 use Rattle.raw.specs.Reader.{ok, bad}
 use Rattle.raw.specs.Grammar.{file}
-use Rattle.raw.specs.Read.{numberOf, mostBytes, checked, strict}
+use Rattle.row.specs.Limits.{mostBytes}
+use Rattle.raw.specs.Read.{checked, strict}
 use Rattle.raw.specs.Strict.{Fresh}
 use Rattle.raw.proofs.Trace.{Refused, Traced}
 use Rattle.raw.proofs.Entries.{file-good}
@@ -35,19 +37,19 @@ module _ (s : List ℕ) (h : length s ≤ mostBytes) where
   pub strict-valid : validityOf s ≡ validity.Valid → strict s ≡ file s 0
   strict-valid e = strict-checked ∙ ap (checked s) e
 
-  pub strict-ill : (n : ℕ) → validityOf s ≡ validity.IllFormed n → strict s ≡ bad (NotUtf8 n)
+  pub strict-ill : (n : ℕ) → validityOf s ≡ validity.IllFormed n → strict s ≡ bad (faultAt NotUtf8 n)
   strict-ill n e = strict-checked ∙ ap (checked s) e
 
   pub strict-is : Octets s → strict s ≡ file s 0
   strict-is o = strict-valid (rfc3629 .accepts s .1 o)
 
   -- a text inside the limit is refused only with 2 or more
-  pub strict-bad : (f : Fault) → strict s ≡ bad f → 2 ≤ numberOf f
+  pub strict-bad : (f : Fault) → strict s ≡ bad f → 2 ≤ numberOf (f .reason)
   strict-bad f e = by (validityOf s) (sym strict-checked ∙ e)
     where
-      by : (v : Validity) → checked s v ≡ bad f → 2 ≤ numberOf f
+      by : (v : Validity) → checked s v ≡ bad f → 2 ≤ numberOf (f .reason)
       by validity.Valid e = let r : Refused s 0 f = subst (Traced s 0) e (file-good .traced s 0) in omega (arith, r .least)
-      by (validity.IllFormed n) e = let z : NotUtf8 n ≡ f = cc in rw (← z) (omega arith)
+      by (validity.IllFormed n) e = let z : faultAt NotUtf8 n ≡ f = cc in rw (← z) (omega arith)
 
   valid-ok : (q : ℕ) (rs : List Row) → strict s ≡ ok q rs → Octets s × (file s 0 ≡ ok q rs)
   valid-ok q rs e = by (validityOf s) refl (sym strict-checked ∙ e)
@@ -60,7 +62,7 @@ strict-short : (s : List ℕ) (q : ℕ) (rs : List Row) → strict s ≡ ok q rs
 unfolding strict
 strict-short s q rs = by (leb (length s) mostBytes) refl
   where
-    by : (b : Bool) → leb (length s) mostBytes ≡ b → cond b (checked s (validityOf s)) (bad TooLong) ≡ ok q rs → length s ≤ mostBytes
+    by : (b : Bool) → leb (length s) mostBytes ≡ b → cond b (checked s (validityOf s)) (bad (nowhere TooLong)) ≡ ok q rs → length s ≤ mostBytes
     by true d e = leb-true (length s) mostBytes d
     by false d e = let z : _≡_ {A = ℕ} 0 1 = cc in absurd (omega arith)
 

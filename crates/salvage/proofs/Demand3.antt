@@ -7,7 +7,7 @@ use mathlib.Core.Logic.{_↔_}
 use mathlib.Core.Bool.{true}
 use mathlib.Core.List.{List}
 use lib.ListN.{length}
-use Rattle.raw.specs.Read.{mostBytes}
+use Rattle.row.specs.Limits.{mostBytes}
 use Rattle.row.specs.Rules.{isRows, clean}
 use Rattle.raw.specs.Strict.{Rising}
 use Rattle.raw.proofs.Strict.{strict-reading}

@@ -11,13 +11,15 @@ use mathlib.Core.List.{List, _∷_, _++_}
 use lib.ListN.{length, length-append}
 use lib.Dec.{leb}
 use borrow.Author.Tests.{leb-true, le-leb}
-use Rattle.raw.specs.declared.fault.Fault.{Fault}
-use Rattle.raw.specs.declared.fault.Fault.the-variants.{NoRoom}
-use Rattle.raw.specs.declared.fault.Reading.{Reading}
-use Rattle.raw.specs.declared.fault.Reading.the-variants as reading
+use Rattle.row.specs.declared.fault.Fault.{Fault}
+use Rattle.row.specs.declared.fault.Reason.the-variants.{NoRoom}
+use Rattle.row.specs.Fault.{nowhere}
+use Rattle.raw.specs.declared.answer.Reading.{Reading}
+use Rattle.raw.specs.declared.answer.Reading.the-variants as reading
 use Rattle.row.specs.Row.{Row, moved}
 use Rattle.raw.specs.Reader.{Out, ok, again, bad}
-use Rattle.raw.specs.Read.{mostBytes, strict, readingOut, leftOut}
+use Rattle.row.specs.Limits.{mostBytes}
+use Rattle.raw.specs.Read.{strict, readingOut, leftOut}
 use Rattle.row.specs.Rules.{clean}
 use Rattle.raw.proofs.Strict.{strict-reading}
 use Rattle.row.proofs.Rows.{moved-length}
@@ -59,7 +61,7 @@ module _ (s : List ℕ) (ws : List (List ℕ)) (w : List ℕ) (vs : List (List �
       record {
         rows = piece-rows;
         sound = told-sound w;
-        refused = λ f d. (ap (told w) d, strict-bad w (omega (arith, piece-length)) f d, strict-reading .refuses w f d .number .1, strict-reading .refuses w f d .place);
+        refused = λ f d. (ap (told w) d, strict-bad w (omega (arith, piece-length)) f d, strict-reading .refuses w f d .number .1, strict-reading .refuses w f d .place, strict-reading .refuses w f d .empty);
         exactly = told-damaged w;
       }
 
@@ -83,7 +85,7 @@ module _ (s b b′ : List ℕ) (r : Reading) (h : length s ≤ mostBytes) (c : S
   call-room : (n : ℕ) → r ≡ reading.Rows n → (n ≡ length (salvageOf s)) × (length (salvageOf s) ≤ length b / 4)
   call-room n e = by (leb (length (salvageOf s)) (length b / 4)) refl (sym e ∙ c .answer ∙ ap (λ (o : Out). readingOut o (length b)) call-is)
     where
-      by : (x : Bool) → leb (length (salvageOf s)) (length b / 4) ≡ x → reading.Rows n ≡ cond x (reading.Rows (length (salvageOf s))) (reading.Refused NoRoom) → (n ≡ length (salvageOf s)) × (length (salvageOf s) ≤ length b / 4)
+      by : (x : Bool) → leb (length (salvageOf s)) (length b / 4) ≡ x → reading.Rows n ≡ cond x (reading.Rows (length (salvageOf s))) (reading.Refused (nowhere NoRoom)) → (n ≡ length (salvageOf s)) × (length (salvageOf s) ≤ length b / 4)
       by true d k = (cc, leb-true (length (salvageOf s)) (length b / 4) d)
       by false d k = let z : _≡_ {A = ℕ} 0 1 = cc in absurd (omega arith)
 

@@ -13,7 +13,7 @@ use Rattle.text.specs.Utf8.{alternatives, begins, widthBy, gather, value, octet
 use Rattle.text.specs.Class.{whiteSpace, isWhitespace, holdsOf}
 use Rattle.text.specs.Scan.{code, seeFrom}
 use Rattle.text.specs.Scan as scan
-use Rattle.raw.specs.declared.fault.Fault.{Fault}
+use Rattle.row.specs.declared.fault.Fault.{Fault}
 use Rattle.row.specs.Row.{moved}
 use Rattle.raw.specs.Reader.{ok, bad, loop, many}
 use Rattle.raw.specs.Grammar.{white, fileTurn, file}

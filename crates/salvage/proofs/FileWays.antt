@@ -16,13 +16,14 @@ use Rattle.text.specs.Utf8.{Octets, validityOf}
 use Rattle.text.specs.declared.utf8.Validity.{Validity}
 use Rattle.text.specs.declared.utf8.Validity.the-variants as validity
 use Rattle.text.proofs.Rfc3629.{rfc3629}
-use Rattle.raw.specs.declared.fault.Fault.the-variants.{TooLong, NoRoom}
-use Rattle.raw.specs.declared.fault.Answer.{Answer}
-use Rattle.raw.specs.declared.fault.Reading.the-variants as reading
+use Rattle.row.specs.declared.fault.Reason.the-variants.{TooLong, NoRoom}
+use Rattle.row.specs.Fault.{nowhere}
+use Rattle.raw.specs.declared.answer.Answer.{Answer}
+use Rattle.raw.specs.declared.answer.Reading.the-variants as reading
 use Rattle.row.specs.Row.{moved, flat, overlay}
 use Rattle.raw.specs.Reader.{Out, ok}
 use Rattle.raw.specs.Grammar.{file}
-use Rattle.raw.specs.Read.{mostBytes}
+use Rattle.row.specs.Limits.{mostBytes}
 use Rattle.row.specs.Rules.{clean}
 use Rattle.raw.specs.Says.{Room, Says}
 use Rattle.row.proofs.Rows.{moved-none, overlay-fits}
@@ -49,7 +50,7 @@ module _ (s b : List ℕ) {n : ℕ} (c : Counted s n) where
   count-short : leb (length s) mostBytes ≡ true
   count-short = le-leb (length s) mostBytes (c .short)
 
-  pub salvage-full : length b / 4 < n → Salvage s b (reading.Refused NoRoom) b
+  pub salvage-full : length b / 4 < n → Salvage s b (reading.Refused (nowhere NoRoom)) b
   unfolding salvaged
   salvage-full l =
       let u = lt-leb (length (salvageOf s)) (length b / 4) (omega (arith, c .rows)) in
@@ -78,7 +79,7 @@ module _ (s b : List ℕ) {n : ℕ} (c : Counted s n) where
 
 -- ---- `salvage`
 
-pub salvage-long : (s b : List ℕ) → mostBytes < length s → Salvage s b (reading.Refused TooLong) b
+pub salvage-long : (s b : List ℕ) → mostBytes < length s → Salvage s b (reading.Refused (nowhere TooLong)) b
 unfolding salvaged
 salvage-long s b h = let t = lt-leb (length s) mostBytes h in record { answer = rw t; rows = rw t }
 

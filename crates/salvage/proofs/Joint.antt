@@ -13,7 +13,7 @@ use Rattle.text.specs.Scan.{see, Inside}
 use Rattle.text.specs.declared.scanner.Seen.the-variants.{End, Char}
 use Rattle.text.proofs.Seen.{see-end, see-inside}
 use Rattle.text.proofs.Moved.{see-ahead, see-front}
-use Rattle.raw.specs.declared.fault.Fault.{Fault}
+use Rattle.row.specs.declared.fault.Fault.{Fault}
 use Rattle.row.specs.Row.{Row}
 use Rattle.raw.specs.Reader.{Out, ok, again, bad, more, after}
 use Rattle.raw.specs.Grammar.{white, fileTurn, file}

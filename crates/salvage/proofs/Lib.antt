@@ -15,4 +15,5 @@ pub mod PieceWays
 pub mod PieceEnd
 pub mod PieceLoop
 pub mod FileWays
+pub mod Refusals
 pub mod Unique

@@ -8,10 +8,12 @@ use mathlib.Core.Bool.{true}
 use mathlib.Core.List.{List, [], _∷_, _++_}
 use lib.ListN.{length, length-append}
 use borrow.Author.Tests.{le-leb}
-use Rattle.raw.specs.declared.fault.Fault.{Fault}
+use Rattle.row.specs.declared.fault.Fault.{Fault}
+use Rattle.row.specs.Fault.{numberOf}
 use Rattle.row.specs.Row.{Row, moved}
 use Rattle.raw.specs.Reader.{Out, ok, again, bad}
-use Rattle.raw.specs.Read.{numberOf, mostBytes, strict}
+use Rattle.row.specs.Limits.{mostBytes}
+use Rattle.raw.specs.Read.{strict}
 use Rattle.row.specs.Rules.{isRows, run, next}
 use Rattle.raw.specs.Strict.{Rising, Spans}
 use Rattle.raw.proofs.Strict.{strict-reading}
@@ -31,9 +33,9 @@ told-by w P sound off = by (strict w) refl
 
 -- ---- the row check
 
-damaged-rules : (w : List ℕ) (f : Fault) → 2 ≤ numberOf f → numberOf f ≤ 10 → isRows (damaged w f) ≡ true
+damaged-rules : (w : List ℕ) (f : Fault) → 2 ≤ numberOf (f .reason) → numberOf (f .reason) ≤ 10 → isRows (damaged w f) ≡ true
 unfolding isRows run next
-damaged-rules w f h k = rw (le-leb 2 (numberOf f) h, le-leb (numberOf f) 10 k) refl
+damaged-rules w f h k = rw (le-leb 2 (numberOf (f .reason)) h, le-leb (numberOf (f .reason)) 10 k) refl
 
 told-rules : (w : List ℕ) → length w ≤ mostBytes → isRows (told w (strict w)) ≡ true
 told-rules w h =
@@ -75,7 +77,9 @@ told-fit : (w : List ℕ) → AllFit (length w) (told w (strict w))
 unfolding AllFit
 told-fit w =
     told-by w (AllFit (length w)) (λ q rs e. spans-fit w rs (strict-reading .accepts w q rs e .spans))
-    (λ f e. (record { order = omega arith; inside = omega arith }, (record { order = omega arith; inside = strict-reading .refuses w f e .place }, tt)))
+    (λ f e.
+    let r = strict-reading .refuses w f e in
+    (record { order = omega arith; inside = omega arith }, (record { order = omega (arith, r .empty); inside = omega (arith, r .place, r .empty) }, tt)))
 
 pub pieces-fit : (p : ℕ) (ws : List (List ℕ)) → AllFit (p + length (joined ws)) (pieces p ws)
 unfolding pieces joined AllFit

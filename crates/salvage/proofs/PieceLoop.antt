@@ -17,7 +17,8 @@ use borrow.Author.Tests.{leb-true}
 use borrow.Rule.Slice.PartMut.{putMid, same-len-mid}
 use Rattle.text.specs.Utf8.{Octets}
 use Rattle.row.specs.Row.{Row, moved, flat}
-use Rattle.raw.specs.Read.{mostBytes, strict}
+use Rattle.row.specs.Limits.{mostBytes}
+use Rattle.raw.specs.Read.{strict}
 use Rattle.row.specs.Rules.{clean}
 use Rattle.raw.specs.Strict.{Fresh}
 use Rattle.row.proofs.Rows.{moved-length}

@@ -14,14 +14,16 @@ use Rattle.text.specs.Utf8.{validityOf}
 use Rattle.text.specs.declared.utf8.Validity.{Validity}
 use Rattle.text.specs.declared.utf8.Validity.the-variants as validity
 use Rattle.row.specs.declared.form.Kind.the-variants as kind
-use Rattle.raw.specs.declared.fault.Fault.{Fault}
-use Rattle.raw.specs.declared.fault.Fault.the-variants.{NotUtf8}
-use Rattle.raw.specs.declared.fault.Answer.{Answer}
-use Rattle.raw.specs.declared.fault.Answer.the-variants as answer
+use Rattle.row.specs.declared.fault.Fault.{Fault}
+use Rattle.row.specs.declared.fault.Reason.the-variants.{NotUtf8}
+use Rattle.row.specs.Fault.{numberOf, faultAt}
+use Rattle.raw.specs.declared.answer.Answer.{Answer}
+use Rattle.raw.specs.declared.answer.Answer.the-variants as answer
 use Rattle.row.specs.Row.{Row, rowWith, row, moved, flat, putRow, overlay}
 use Rattle.raw.specs.Reader.{Out, ok, again, bad}
 use Rattle.raw.specs.Grammar.{file}
-use Rattle.raw.specs.Read.{numberOf, startOf, endOf, mostBytes, strict}
+use Rattle.row.specs.Limits.{mostBytes}
+use Rattle.raw.specs.Read.{strict}
 use Rattle.row.specs.Rules.{clean}
 use Rattle.raw.specs.Says.{answerOf, Room, Says, Within}
 use Rattle.raw.proofs.Strict.{strict-reading}
@@ -45,8 +47,8 @@ module _ (w : List ℕ) (base : ℕ) (b : List ℕ) {valid : Bool} (k : Piece w 
   alone-known e p = says-file (strict-is w short (k .known e)) p
 
   module _ {v : Validity} (d : v ≡ validityOf w) where
-    pub alone-ill : {i : ℕ} {b′ : List ℕ} → v ≡ validity.IllFormed i → Says base (strict w) 0 b (answer.Refused (NotUtf8 i)) b′
-    alone-ill {i} {b′} e = subst (λ (o : Out). Says base o 0 b (answer.Refused (NotUtf8 i)) b′) (sym (strict-ill w short i (sym d ∙ e))) (record { told = refl; room = tt })
+    pub alone-ill : {i : ℕ} {b′ : List ℕ} → v ≡ validity.IllFormed i → Says base (strict w) 0 b (answer.Refused (faultAt NotUtf8 i)) b′
+    alone-ill {i} {b′} e = subst (λ (o : Out). Says base o 0 b (answer.Refused (faultAt NotUtf8 i)) b′) (sym (strict-ill w short i (sym d ∙ e))) (record { told = refl; room = tt })
 
     pub alone-valid : v ≡ validity.Valid → {r : Answer} {b′ : List ℕ} → Says base (file w 0) 0 b r b′ → Says base (strict w) 0 b r b′
     alone-valid e p = says-file (strict-valid w short (sym d ∙ e)) p
@@ -54,9 +56,9 @@ module _ (w : List ℕ) (base : ℕ) (b : List ℕ) {valid : Bool} (k : Piece w 
 -- ---- `write_damage`
 
 module _ (w : List ℕ) (base : ℕ) (b : List ℕ) (f : Fault) where
-  pub damage-put : {x y z d : ℕ} {b₁ b₂ : List ℕ} → x ≡ length w + base → y ≡ startOf f + base → z ≡ endOf f + base → d ≡ numberOf f → b₁ ≡ putRow b 0 (row kind.Damage base x) → b₂ ≡ putRow b₁ 1 (rowWith kind.Cause d y z) → b₂ ≡ overlay b 0 (moved base (damaged w f))
+  pub damage-put : {x y z d : ℕ} {b₁ b₂ : List ℕ} → x ≡ length w + base → y ≡ f .start + base → z ≡ f .end + base → d ≡ numberOf (f .reason) → b₁ ≡ putRow b 0 (row kind.Damage base x) → b₂ ≡ putRow b₁ 1 (rowWith kind.Cause d y z) → b₂ ≡ overlay b 0 (moved base (damaged w f))
   unfolding overlay moved
-  damage-put g h i j p q = let n : base ≡ 0 + base = omega arith in q ∙ rw (p, g, h, i, j) (ap (λ (a : ℕ). putRow (putRow b 0 (row kind.Damage a (length w + base))) 1 (rowWith kind.Cause (numberOf f) (startOf f + base) (endOf f + base))) n)
+  damage-put g h i j p q = let n : base ≡ 0 + base = omega arith in q ∙ rw (p, g, h, i, j) (ap (λ (a : ℕ). putRow (putRow b 0 (row kind.Damage a (length w + base))) 1 (rowWith kind.Cause (numberOf (f .reason)) (f .start + base) (f .end + base))) n)
 
 -- ---- `read_piece`
 
@@ -98,7 +100,9 @@ module _ (w : List ℕ) {base : ℕ} {valid : Bool} (k : Piece w base valid) (b 
 
   module _ {f : Fault} (x : strict w ≡ bad f) where
     pub off-damage : Damage w base f
-    off-damage = record { file = k .file; place = strict-reading .refuses w f x .place }
+    off-damage =
+        let r = strict-reading .refuses w f x in
+        record { file = k .file; from = r .place; to = omega (arith, r .place, r .empty) }
 
     pub piece-damaged : (b₁ : List ℕ) {b′ : List ℕ} → length b₁ ≡ length b → b′ ≡ overlay b₁ 0 (moved base (damaged w f)) → Puts w base b (Damaged 2) b′
     unfolding clean

@@ -18,7 +18,8 @@ use Rattle.text.proofs.Octets.{octets-append}
 use Rattle.row.specs.Row.{Row, moved}
 use Rattle.raw.specs.Reader.{Out, ok, again, bad, more, loop, many}
 use Rattle.raw.specs.Grammar.{white, fileTurn, file}
-use Rattle.raw.specs.Read.{mostBytes, strict}
+use Rattle.row.specs.Limits.{mostBytes}
+use Rattle.raw.specs.Read.{strict}
 use Rattle.row.specs.Rules.{clean}
 use Rattle.raw.specs.Strict.{shifted}
 use Rattle.raw.proofs.Entries.{file-good}

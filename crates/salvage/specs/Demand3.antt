@@ -8,13 +8,15 @@ use mathlib.Core.List.{List, [], _∷_, _++_}
 use lib.ListN.{length, getD, drop}
 use Rattle.text.specs.Scan.{see}
 use Rattle.text.specs.declared.scanner.Seen.the-variants.{Char}
-use Rattle.raw.specs.declared.fault.Fault.{Fault}
-use Rattle.raw.specs.declared.fault.Reading.{Reading}
-use Rattle.raw.specs.declared.fault.Reading.the-variants as reading
+use Rattle.row.specs.declared.fault.Fault.{Fault}
+use Rattle.row.specs.Fault.{numberOf}
+use Rattle.raw.specs.declared.answer.Reading.{Reading}
+use Rattle.raw.specs.declared.answer.Reading.the-variants as reading
 use Rattle.row.specs.Row.{Row, moved, flat}
 use Rattle.raw.specs.Reader.{ok, again, bad}
 use Rattle.raw.specs.Grammar.{white, fileTurn}
-use Rattle.raw.specs.Read.{numberOf, startOf, mostBytes, strict}
+use Rattle.row.specs.Limits.{mostBytes}
+use Rattle.raw.specs.Read.{strict}
 use Rattle.row.specs.Rules.{isRows, clean}
 use Rattle.raw.specs.Strict.{Rising}
 use Rattle.salvage.specs.Salvage.{head, newline, cut, damaged, told, pieces, salvageOf, Salvage}
@@ -48,8 +50,8 @@ pub record Piece (s : List ℕ) (ws : List (List ℕ)) (w : List ℕ) (vs : List
   pub rows : salvageOf s ≡ pieces 0 ws ++ (moved (length (joined ws)) (told w (strict w)) ++ pieces (length (joined ws) + length w) vs)
   -- they are those of strict reading
   pub sound : (q : ℕ) (rs : List Row) → strict w ≡ ok q rs → told w (strict w) ≡ rs
-  -- or damage and cause, by one of the numbers 2 to 10, exactly if strict reading refuses
-  pub refused : (f : Fault) → strict w ≡ bad f → (told w (strict w) ≡ damaged w f) × (2 ≤ numberOf f) × (numberOf f ≤ 10) × (startOf f ≤ length w)
+  -- or damage and cause, by one of the numbers 2 to 10 at an empty place of it, exactly if strict reading refuses
+  pub refused : (f : Fault) → strict w ≡ bad f → (told w (strict w) ≡ damaged w f) × (2 ≤ numberOf (f .reason)) × (numberOf (f .reason) ≤ 10) × (f .start ≤ length w) × (f .end ≡ f .start)
   pub exactly : (clean (told w (strict w)) ≡ false) ↔ ((f : Fault) × (strict w ≡ bad f))
 
 -- an "@" that is the first byte, or follows a newline

@@ -6,9 +6,10 @@ use mathlib.Core.Bool.{Bool, true, cond}
 use mathlib.Core.List.{List, _∷_}
 use lib.ListN.{length, take, drop}
 use Rattle.text.specs.Utf8.{Octets}
-use Rattle.raw.specs.declared.fault.Fault.{Fault}
+use Rattle.row.specs.declared.fault.Fault.{Fault}
 use Rattle.row.specs.Row.{Row, moved, flat}
-use Rattle.raw.specs.Read.{startOf, mostBytes, strict}
+use Rattle.row.specs.Limits.{mostBytes}
+use Rattle.raw.specs.Read.{strict}
 use Rattle.row.specs.Rules.{clean}
 use Rattle.salvage.specs.Salvage.{cut, told, salvageOf}
 use Rattle.salvage.specs.Demand3.{fresh}
@@ -33,7 +34,8 @@ pub record Piece (w : List ℕ) (base : ℕ) (valid : Bool) : Type 0 where
 -- what writing its damage asks
 pub record Damage (w : List ℕ) (base : ℕ) (f : Fault) : Type 0 where
   pub file : base + length w ≤ mostBytes
-  pub place : startOf f ≤ length w
+  pub from : f .start ≤ length w
+  pub to : f .end ≤ length w
 
 -- the rows are so many, and none of them a damage row; or some are
 abbrev pub tallyOf : List Row → Tally

@@ -12,12 +12,14 @@ use mathlib.Core.List.{List, [], _∷_, _++_}
 use lib.ListN.{length}
 use lib.Dec.{eqb, leb}
 use Rattle.row.specs.declared.form.Kind.the-variants as kind
-use Rattle.raw.specs.declared.fault.Fault.{Fault}
-use Rattle.raw.specs.declared.fault.Fault.the-variants.{TooLong}
-use Rattle.raw.specs.declared.fault.Reading.{Reading}
+use Rattle.row.specs.declared.fault.Fault.{Fault}
+use Rattle.row.specs.declared.fault.Reason.the-variants.{TooLong}
+use Rattle.row.specs.Fault.{numberOf, nowhere}
+use Rattle.raw.specs.declared.answer.Reading.{Reading}
 use Rattle.row.specs.Row.{Row, rowWith, row, moved}
 use Rattle.raw.specs.Reader.{Out, ok, again, bad}
-use Rattle.raw.specs.Read.{numberOf, startOf, endOf, mostBytes, strict, readingOut, leftOut}
+use Rattle.row.specs.Limits.{mostBytes}
+use Rattle.raw.specs.Read.{strict, readingOut, leftOut}
 
 -- ---- boundaries
 
@@ -44,7 +46,7 @@ cut (b ∷ s) = cond (newline b && head s) ((b ∷ []) ∷ cut s) (push b (cut s
 
 -- why a piece was refused, and where
 abbrev pub cause : Fault → Row
-cause f = rowWith kind.Cause (numberOf f) (startOf f) (endOf f)
+cause f = rowWith kind.Cause (numberOf (f .reason)) (f .start) (f .end)
 
 -- what remains of a refused piece: the damage, and its cause
 abbrev pub damaged : List ℕ → Fault → List Row
@@ -68,7 +70,7 @@ salvageOf s = pieces 0 (cut s)
 
 -- "Salvage itself refuses only with 1 and 16" [01:Numbers a caller can get]: 1 here, 16 by `readingOut`
 unfoldable pub salvaged : List ℕ → Out
-salvaged s = cond (leb (length s) mostBytes) (ok (length s) (salvageOf s)) (bad TooLong)
+salvaged s = cond (leb (length s) mostBytes) (ok (length s) (salvageOf s)) (bad (nowhere TooLong))
 
 -- `salvage` of the file s over the lent numbers b answers r and leaves b′
 pub record Salvage (s b : List ℕ) (r : Reading) (b′ : List ℕ) : Type 0 where

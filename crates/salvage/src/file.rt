@@ -1,9 +1,11 @@
 // The pieces of a file one after the other: counted first, then written.
 use crate::piece;
 use crate::piece::Tally;
-use raw::fault::Fault;
-use raw::fault::Reading;
+use raw::answer::Reading;
 use raw::file;
+use row::fault::Fault;
+use row::fault::Reason;
+use row::limits::MOST_BYTES;
 use text::utf8;
 use text::utf8::Validity;
 ghost use mathlib.Core.Path.{_≡_};
@@ -66,7 +68,11 @@ fn write_sound(s: &[u8], rows: &mut [u32], n: usize) -> Reading
     ensures { λ r. ⌜ Salvage (now (s .entry)) (now (rows .entry)) r (now (rows .exit)) ⌝ }
 {
     if rows.len() / 4 < n {
-        return Reading::Refused(Fault::NoRoom);
+        return Reading::Refused(Fault {
+            reason: Reason::NoRoom,
+            start: 0,
+            end: 0,
+        });
     }
     file::parse(s, 0, rows, 0);
     Reading::Rows(n)
@@ -78,7 +84,11 @@ fn write_damaged(s: &[u8], rows: &mut [u32], n: usize, valid: usize) -> Reading
     ensures { λ r. ⌜ Salvage (now (s .entry)) (now (rows .entry)) r (now (rows .exit)) ⌝ }
 {
     if rows.len() / 4 < n {
-        return Reading::Refused(Fault::NoRoom);
+        return Reading::Refused(Fault {
+            reason: Reason::NoRoom,
+            start: 0,
+            end: 0,
+        });
     }
     let end = n * 4;
     read_pieces(s, &mut rows[..end], valid);
@@ -90,8 +100,12 @@ fn write_damaged(s: &[u8], rows: &mut [u32], n: usize, valid: usize) -> Reading
 pub fn salvage(s: &[u8], rows: &mut [u32]) -> Reading
     ensures { λ r. ⌜ Salvage (now (s .entry)) (now (rows .entry)) r (now (rows .exit)) ⌝ }
 {
-    if 16_777_215 < s.len() {
-        return Reading::Refused(Fault::TooLong);
+    if MOST_BYTES < s.len() {
+        return Reading::Refused(Fault {
+            reason: Reason::TooLong,
+            start: 0,
+            end: 0,
+        });
     }
     let valid = valid_to(s);
     let mut none = [0u32; 0];

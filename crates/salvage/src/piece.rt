@@ -1,8 +1,9 @@
 // A piece of a file: where it ends, and what reading it alone gives.
-use raw::fault;
-use raw::fault::Answer;
-use raw::fault::Fault;
+use raw::answer::Answer;
 use raw::file;
+use row::fault;
+use row::fault::Fault;
+use row::fault::Reason;
 use row::form;
 use row::form::Kind;
 use text::block;
@@ -94,7 +95,11 @@ fn read_alone(w: &[u8], base: usize, rows: &mut [u32], valid: bool) -> Answer
         return file::parse(w, base, rows, 0);
     }
     match utf8::validate(w) {
-        Validity::IllFormed(i) => Answer::Refused(Fault::NotUtf8(i)),
+        Validity::IllFormed(i) => Answer::Refused(Fault {
+            reason: Reason::NotUtf8,
+            start: i,
+            end: i,
+        }),
         Validity::Valid => file::parse(w, base, rows, 0),
     }
 }
@@ -105,9 +110,12 @@ fn write_damage(w: &[u8], base: usize, rows: &mut [u32], fault: Fault)
     ensures { λ _. ⌜ now (rows .exit) ≡ overlay (now (rows .entry)) 0 (moved base (damaged (now (w .entry)) fault)) ⌝ }
 {
     form::put_row(rows, 0, Kind::Damage, base, base + w.len());
-    let start = base + fault::start(fault);
-    let end = base + fault::end(fault);
-    form::write_row(rows, 1, Kind::Cause, fault::number(fault), start, end);
+    let from = fault.start;
+    let to = fault.end;
+    let reason = fault.reason;
+    let start = base + from;
+    let end = base + to;
+    form::write_row(rows, 1, Kind::Cause, fault::number(reason), start, end);
 }
 
 // Reads a piece, whose rows then stand in front of the lent numbers where all of them fit. What a refused piece wrote before its fault is

@@ -1,4 +1,5 @@
 -- `bib::tell` meets its contract. Assumes nothing.
+use mathlib.Core.Path.{refl}
 use borrow.Author.Needs.{needs}
 use Rattle.bib.proofs.Exports.{told-refused}
 use Rattle.bib.proofs.tell.Statement.{statement}
@@ -13,17 +14,11 @@ returns c = search needs
 enum-known-reading-2 : tie.Need-enum-known-reading-2
 enum-known-reading-2 c = search needs
 
-start-requires : tie.Need-start-requires
-start-requires c κs = search needs
-
-end-requires : tie.Need-end-requires
-end-requires c κs = search needs
-
 number-requires : tie.Need-number-requires
 number-requires c κs = search needs
 
 returns-2 : tie.Need-returns-2
-returns-2 c = told-refused (c .before .before .before .before .reading2 .given .1) (c .number .ensures) (c .before .before .start .ensures) (c .before .end .ensures)
+returns-2 c = told-refused (c .before .before .reading2 .given .1) (c .number .ensures) refl refl
 
 pub tell-spec : {M : Type 1} → statement M
 tell-spec =
@@ -32,7 +27,5 @@ tell-spec =
     enum-known-reading
     returns
     enum-known-reading-2
-    start-requires
-    end-requires
     number-requires
     returns-2)

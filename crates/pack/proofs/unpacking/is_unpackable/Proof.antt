@@ -5,6 +5,7 @@ use native.Mathlib.Omega.{arith}
 use lib.ListN.{length, drop}
 use borrow.Author.Needs.{needs}
 use borrow.Author.Tests.{le-leb, lt-leb}
+use Rattle.row.specs.Limits.{mostBytes}
 use Rattle.pack.specs.Seven.{unpacking, unpackAt, endFits}
 use Rattle.pack.specs.Unpack.{isUnpackable}
 use Rattle.pack.proofs.Sevens.{sevens-next, sevens-end}
@@ -64,7 +65,7 @@ loop-again c =
     let a = c .before .before .before .before .before .before .before .before .before .before .args in
     let m = l .loop .inv in
     let r = unpackAt (a .bytes .now) (l .loop .p) in
-    let e = le-leb (r .end) 16777215 (omega (arith, c .before .before .three .ensures .0, c .before .three2 .ensures .0)) in
+    let e = le-leb (r .end) mostBytes (omega (arith, c .before .before .three .ensures .0, c .before .three2 .ensures .0)) in
     (m .0, omega arith, omega arith, judge-row (m .3) (sevens-next (a .bytes .now) (l .loop .p) (omega arith)) (c .before .before .before .step .ensures) e)
 
 returns-2 : tie.Need-returns-2 Inv-loop μ-loop
@@ -73,7 +74,7 @@ returns-2 c =
     let a = c .before .before .before .before .before .before .before .before .before .before .args in
     let m = l .loop .inv in
     let r = unpackAt (a .bytes .now) (l .loop .p) in
-    let e = lt-leb (r .end) 16777215 (omega (arith, c .before .before .three .ensures .0, c .before .three2 .ensures .0)) in
+    let e = lt-leb (r .end) mostBytes (omega (arith, c .before .before .three .ensures .0, c .before .three2 .ensures .0)) in
     judge-off (m .3) (sevens-next (a .bytes .now) (l .loop .p) (omega arith)) e
 
 is-whole-requires : tie.Need-is-whole-requires Inv-loop μ-loop

@@ -2,7 +2,7 @@
 use native.Mathlib.Omega.{arith}
 use borrow.Author.Tests.{eq-eqb, ne-eqb}
 use borrow.Author.Needs.{needs}
-use Rattle.raw.specs.declared.fault.Fault.the-variants.{ExpectedIdentifier}
+use Rattle.row.specs.declared.fault.Reason.the-variants.{ExpectedIdentifier}
 use Rattle.raw.specs.Grammar.{is, atSign}
 use Rattle.raw.proofs.Eaten.{narrow-is, need-end, need-other, need-byte}
 use Rattle.raw.proofs.token.at_sign.Statement.{statement}

@@ -2,7 +2,7 @@
 use borrow.Author.Needs.{needs}
 use Rattle.text.specs.Class.{holdsOf}
 use Rattle.text.specs.declared.class.Test.the-variants.{Equals}
-use Rattle.raw.specs.declared.fault.Fault.the-variants.{ExpectedEquals}
+use Rattle.row.specs.declared.fault.Reason.the-variants.{ExpectedEquals}
 use Rattle.raw.specs.Grammar.{equals}
 use Rattle.raw.proofs.Eaten.{need-off, need-on}
 use Rattle.raw.proofs.token.equals.Statement.{statement}

@@ -2,7 +2,7 @@
 use mathlib.Core.Bool.{_||_}
 use native.Mathlib.Omega.{arith}
 use borrow.Author.Needs.{needs}
-use Rattle.raw.specs.declared.fault.Fault.the-variants.{ExpectedOpeningBrace}
+use Rattle.row.specs.declared.fault.Reason.the-variants.{ExpectedOpeningBrace}
 use Rattle.raw.specs.Grammar.{is, opening}
 use Rattle.raw.proofs.Eaten.{narrow-is, narrow-or, need-end, need-other, need-byte}
 use Rattle.raw.proofs.token.opening.Statement.{statement}

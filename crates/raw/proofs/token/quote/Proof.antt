@@ -2,7 +2,7 @@
 use borrow.Author.Needs.{needs}
 use Rattle.text.specs.Class.{holdsOf}
 use Rattle.text.specs.declared.class.Test.the-variants.{QuotationMark}
-use Rattle.raw.specs.declared.fault.Fault.the-variants.{ExpectedQuotationMark}
+use Rattle.row.specs.declared.fault.Reason.the-variants.{ExpectedQuotationMark}
 use Rattle.raw.specs.Grammar.{quote}
 use Rattle.raw.proofs.Eaten.{need-off, need-on}
 use Rattle.raw.proofs.token.quote.Statement.{statement}

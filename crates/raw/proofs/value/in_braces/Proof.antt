@@ -52,8 +52,8 @@ loop-again-2 c = (omega arith, braces-close (c .before .before .before .before .
 sub-if2 : tie.Need-sub-if2 Inv-loop μ-loop
 sub-if2 c = omega arith
 
-add-t14 : tie.Need-add-t14 Inv-loop μ-loop
-add-t14 c = omega arith
+add-end : tie.Need-add-end Inv-loop μ-loop
+add-end c = omega arith
 
 returns-2 : tie.Need-returns-2 Inv-loop μ-loop
 returns-2 c = braces-eof (c .before .before .before .before .loop .inv .1) (c .before .before .before .loop-test .taken) (c .before .match .keys3) (omega arith)
@@ -104,7 +104,7 @@ in-braces-spec =
     loop-less-2
     loop-again-2
     sub-if2
-    add-t14
+    add-end
     returns-2
     add-i-3
     loop-less-3

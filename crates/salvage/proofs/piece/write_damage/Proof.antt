@@ -11,14 +11,8 @@ add-put-row c = search needs
 put-row-requires : tie.Need-put-row-requires
 put-row-requires c κs = search needs
 
-start-requires : tie.Need-start-requires
-start-requires c κs = search needs
-
 add-start : tie.Need-add-start
 add-start c = search needs
-
-end-requires : tie.Need-end-requires
-end-requires c κs = search needs
 
 add-end : tie.Need-add-end
 add-end c = search needs
@@ -35,11 +29,9 @@ same-length c = search needs
 returns : tie.Need-returns
 returns c =
     let r = c .before .before .before in
-    let e = r .before .before in
-    let s = e .before in
-    let p = s .before .before .before in
+    let p = r .before .before .before .before in
     let a = p .before .before .before .before .args in
-    damage-put (a .w .now) (a .base) (a .rows .now) (a .fault) (omega arith) (omega (arith, s .start .ensures)) (omega (arith, e .end .ensures)) (r .number .ensures) (p .put-row .ensures) (c .before .before .write-row .ensures)
+    damage-put (a .w .now) (a .base) (a .rows .now) (a .fault) (omega arith) (omega arith) (omega arith) (r .number .ensures) (p .put-row .ensures) (c .before .before .write-row .ensures)
 
 pub write-damage-spec : {M : Type 1} → statement M
 write-damage-spec =
@@ -47,9 +39,7 @@ write-damage-spec =
     (tie.spec
     add-put-row
     put-row-requires
-    start-requires
     add-start
-    end-requires
     add-end
     number-requires
     write-row-requires

@@ -1,0 +1,35 @@
+-- Refusals [01:Numbers a caller can get]: what every call says of them.
+--     numberOf        01's table
+--     faultAt         a refusal at an empty place
+--     nowhere         a refusal without a place of its own, which is at 0..0
+-- Which of them a call can answer is a theorem beside the call's contract: `Refusals.antt` of the crates above.
+-- Assumes nothing.
+use Prim.Native.Nat.{ℕ}
+use Rattle.row.specs.declared.fault.Reason.{Reason}
+use Rattle.row.specs.declared.fault.Reason.the-variants.{TooLong, NotUtf8, UnexpectedEof, ExpectedIdentifier, ExpectedOpeningBrace, ExpectedClosingBrace, ExpectedComma, ExpectedQuotationMark, ExpectedEquals, UnexpectedDecimalPoint, UnexpectedClosingBrace, UnknownAbbreviation, Cyclic, TooDeep, TooManyNames, NoRoom, BadRows}
+use Rattle.row.specs.declared.fault.Fault.{Fault}
+
+abbrev pub numberOf : Reason → ℕ
+numberOf TooLong = 1
+numberOf NotUtf8 = 2
+numberOf UnexpectedEof = 3
+numberOf ExpectedIdentifier = 4
+numberOf ExpectedOpeningBrace = 5
+numberOf ExpectedClosingBrace = 6
+numberOf ExpectedComma = 7
+numberOf ExpectedQuotationMark = 8
+numberOf ExpectedEquals = 9
+numberOf UnexpectedDecimalPoint = 10
+numberOf UnexpectedClosingBrace = 11
+numberOf UnknownAbbreviation = 12
+numberOf Cyclic = 13
+numberOf TooDeep = 14
+numberOf TooManyNames = 15
+numberOf NoRoom = 16
+numberOf BadRows = 17
+
+abbrev pub faultAt : Reason → ℕ → Fault
+faultAt reason p = record { reason = reason; start = p; end = p }
+
+abbrev pub nowhere : Reason → Fault
+nowhere reason = faultAt reason 0

@@ -1,0 +1,35 @@
+-- Which refusals salvage can answer, and their places: `refusals`.
+-- Assumes nothing.
+use Prim.Native.Nat.{ℕ, _/_}
+use native.Mathlib.Omega.{arith}
+use mathlib.Core.Path.{_≡_, subst}
+use mathlib.Core.Bool.{Bool, true, false, cond}
+use mathlib.Core.List.{List}
+use lib.ListN.{length}
+use lib.Dec.{leb}
+use Rattle.row.specs.declared.fault.Reason.the-variants.{TooLong, NoRoom}
+use Rattle.row.specs.declared.fault.Fault.{Fault}
+use Rattle.row.specs.Fault.{nowhere}
+use Rattle.raw.specs.declared.answer.Reading.the-variants.{Rows, Refused}
+use Rattle.raw.specs.Reader.{ok, bad}
+use Rattle.row.specs.Limits.{mostBytes}
+use Rattle.raw.specs.Read.{readingOut}
+use Rattle.salvage.specs.Salvage.{salvageOf, salvaged}
+use Rattle.salvage.specs.Refusals.{SalvageFault, long, full, Refusals}
+
+module _ (s : List ℕ) (n : ℕ) (f : Fault) where
+  -- rows that do not fit
+  rows-fault : (x : Bool) → Refused f ≡ cond x (Rows (length (salvageOf s))) (Refused (nowhere NoRoom)) → SalvageFault f
+  rows-fault true e = let z : _≡_ {A = ℕ} 0 1 = cc in absurd (omega arith)
+  rows-fault false e = let q : nowhere NoRoom ≡ f = cc in subst SalvageFault q full
+
+  salvage-fault : Refused f ≡ readingOut (salvaged s) n → SalvageFault f
+  unfolding salvaged
+  salvage-fault = by (leb (length s) mostBytes)
+    where
+      by : (x : Bool) → Refused f ≡ readingOut (cond x (ok (length s) (salvageOf s)) (bad (nowhere TooLong))) n → SalvageFault f
+      by true e = rows-fault (leb (length (salvageOf s)) (n / 4)) e
+      by false e = let q : nowhere TooLong ≡ f = cc in subst SalvageFault q long
+
+pub refusals : Refusals
+refusals s b b′ f r = salvage-fault s (length b) f (r .answer)
