@@ -63,8 +63,8 @@ pub extern "C" fn bib_salvage(
 ) -> u32
     ensures { λ r. ⌜ Exported (salvaged (now (file .entry))) (now (rows .entry)) r (now (count .exit)) (now (start .exit)) (now (end .exit)) (now (rows .exit)) ⌝ }
 {
-    let reading = salvage::file::salvage(file, rows);
-    tell(reading, count, start, end)
+    let salvaged = salvage::file::salvage(file, rows);
+    tell(salvaged, count, start, end)
 }
 
 // Packs rows, seven bytes to a row, which stand in `bytes`. A refusal has no place here: 0..0.

@@ -256,15 +256,14 @@ fn abbr_element(s: &[u8], base: usize, at: usize, rows: &mut [u32], n: usize) ->
     ensures says { λ r. ⌜ Says base (abbrElement (now (s .entry)) at) n (now (rows .entry)) r (now (rows .exit)) ⌝ }
     ensures within { λ r. ⌜ Within (length (now (s .entry))) 1 at n r ⌝ }
 {
-    if s.len() <= at {
-        return bare_element(s, base, at, rows, n);
-    }
-    let b = s[at];
-    if b == 0x7b {
-        return braced(s, base, at, rows, n);
-    }
-    if b == 0x22 {
-        return string_literal(s, base, at, rows, n);
+    if at < s.len() {
+        let b = s[at];
+        if b == 0x7b {
+            return braced(s, base, at, rows, n);
+        }
+        if b == 0x22 {
+            return string_literal(s, base, at, rows, n);
+        }
     }
     bare_element(s, base, at, rows, n)
 }
