@@ -14,7 +14,11 @@ same-length : tie.Need-same-length
 same-length c = search needs
 
 returns : tie.Need-returns
-returns c = let a = c .before .before .before .before .before .before .before .before .before .args in exported-bytes (a .rows .now) (a .bytes .now) (c .before .before .before .before .before .pack .ensures) (c .before .packed .given .1)
+returns c =
+    let a = c .before .before .before .before .before .before .before .before .before .args in
+    let pack = c .before .before .before .before .before .pack in
+    let packed = c .before .packed in
+    exported-bytes (a .rows .now) (a .bytes .now) (pack .ensures) (packed .given .1)
 
 enum-known-packed-2 : tie.Need-enum-known-packed-2
 enum-known-packed-2 c = search needs
@@ -26,7 +30,11 @@ same-length-2 : tie.Need-same-length-2
 same-length-2 c = search needs
 
 returns-2 : tie.Need-returns-2
-returns-2 c = let a = c .before .before .before .before .before .before .before .before .before .before .args in pack-refused (a .rows .now) (a .bytes .now) (c .before .before .before .before .before .before .pack .ensures) (c .before .before .packed2 .given .1) (c .number .ensures)
+returns-2 c =
+    let a = c .before .before .before .before .before .before .before .before .before .before .args in
+    let pack = c .before .before .before .before .before .before .pack in
+    let packed2 = c .before .before .packed2 in
+    pack-refused (a .rows .now) (a .bytes .now) (pack .ensures) (packed2 .given .1) (c .number .ensures)
 
 pub bib-pack-spec : {M : Type 1} → statement M
 bib-pack-spec =

@@ -14,7 +14,11 @@ same-length : tie.Need-same-length
 same-length c = search needs
 
 returns : tie.Need-returns
-returns c = let a = c .before .before .before .before .before .before .before .before .before .args in exported-unpacked (a .bytes .now) (a .rows .now) (c .before .before .before .before .before .unpack .ensures) (c .before .unpacked .given .1)
+returns c =
+    let a = c .before .before .before .before .before .before .before .before .before .args in
+    let unpack = c .before .before .before .before .before .unpack in
+    let unpacked = c .before .unpacked in
+    exported-unpacked (a .bytes .now) (a .rows .now) (unpack .ensures) (unpacked .given .1)
 
 enum-known-unpacked-2 : tie.Need-enum-known-unpacked-2
 enum-known-unpacked-2 c = search needs
@@ -26,7 +30,11 @@ same-length-2 : tie.Need-same-length-2
 same-length-2 c = search needs
 
 returns-2 : tie.Need-returns-2
-returns-2 c = let a = c .before .before .before .before .before .before .before .before .before .before .args in unpack-refused (a .bytes .now) (a .rows .now) (c .before .before .before .before .before .before .unpack .ensures) (c .before .before .unpacked2 .given .1) (c .number .ensures)
+returns-2 c =
+    let a = c .before .before .before .before .before .before .before .before .before .before .args in
+    let unpack = c .before .before .before .before .before .before .unpack in
+    let unpacked2 = c .before .before .unpacked2 in
+    unpack-refused (a .bytes .now) (a .rows .now) (unpack .ensures) (unpacked2 .given .1) (c .number .ensures)
 
 pub bib-unpack-spec : {M : Type 1} → statement M
 bib-unpack-spec =

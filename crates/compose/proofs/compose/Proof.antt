@@ -21,7 +21,8 @@ find-requires c κs = search needs
 returns : tie.Need-returns
 returns c =
     let a = c .before .before .before .args in
-    c .find .ensures ∙ ap (λ (t : List ℕ). halved t (a .letter) (a .mark)) (c .before .before .table .ensures) ∙ composition .halves (a .letter) (a .mark)
+    let table = c .before .before .table in
+    c .find .ensures ∙ ap (λ (t : List ℕ). halved t (a .letter) (a .mark)) (table .ensures) ∙ composition .halves (a .letter) (a .mark)
 
 pub compose-spec : {M : Type 1} → statement M
 compose-spec = tie.close (tie.spec table-requires slice-aggregate-find find-requires returns)

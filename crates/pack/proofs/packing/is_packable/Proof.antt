@@ -26,7 +26,10 @@ first-requires : tie.Need-first-requires Inv-loop μ-loop
 first-requires c κs = search needs
 
 loop-holds : tie.Need-loop-holds Inv-loop μ-loop
-loop-holds c = (c .before .if1 .left, omega arith, omega arith, four-start (c .before .before .before .args .rows .now) (c .before .if1 .left) (c .first .ensures))
+loop-holds c =
+    let a = c .before .before .before .args in
+    let if1 = c .before .if1 in
+    (if1 .left, omega arith, omega arith, four-start (a .rows .now) (if1 .left) (c .first .ensures))
 
 mul-kind : tie.Need-mul-kind Inv-loop μ-loop
 mul-kind c = search needs
@@ -72,10 +75,11 @@ loop-less c = search needs
 
 loop-again : tie.Need-loop-again Inv-loop μ-loop
 loop-again c =
-    let l = c .before .before .before .before .before .before .before in
     let a = c .before .before .before .before .before .before .before .before .before .before .before .args in
+    let l = c .before .before .before .before .before .before .before in
+    let step = c .before .step in
     let m = l .loop .inv in
-    (m .0, omega arith, omega arith, judge-row (m .3) (rows-next (a .rows .now) (l .loop .i) (omega arith)) (c .before .step .ensures) (c .if2 .taken))
+    (m .0, omega arith, omega arith, judge-row (m .3) (rows-next (a .rows .now) (l .loop .i) (omega arith)) (step .ensures) (c .if2 .taken))
 
 returns-2 : tie.Need-returns-2 Inv-loop μ-loop
 returns-2 c =

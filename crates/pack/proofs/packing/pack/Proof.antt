@@ -26,7 +26,10 @@ same-length c = search needs
 returns-2 : tie.Need-returns-2
 returns-2 c =
     let a = c .before .before .before .before .before .before .before .before .before .args in
-    pack-done (a .rows .now) (a .bytes .now) (sym (c .before .before .before .before .before .before .is-packable .ensures) ∙ c .before .before .before .before .before .if1 .taken) (omega arith) _ (c .before .before .put-all .ensures)
+    let is-packable = c .before .before .before .before .before .before .is-packable in
+    let if1 = c .before .before .before .before .before .if1 in
+    let put-all = c .before .before .put-all in
+    pack-done (a .rows .now) (a .bytes .now) (sym (is-packable .ensures) ∙ if1 .taken) (omega arith) _ (put-all .ensures)
 
 returns-3 : tie.Need-returns-3
 returns-3 c =

@@ -76,20 +76,30 @@ loop-less c = search needs
 
 loop-again : tie.Need-loop-again Inv-loop μ-loop
 loop-again c =
-    let l = c .before .before .before .before .before .before .before .before .before in
     let a = c .before .before .before .before .before .before .before .before .before .before .before .before .args in
-    let m = l .loop .inv in
+    let l = c .before .before .before .before .before .before .before .before .before in
     let w = c .before .before .put-packed in
-    (m .0, m .1 + 1, omega arith, omega arith, omega arith, w .kept .0 ∙ m .5, m .6, fit-next (a .rows .now) (l .loop .i) (omega arith) (m .7) .1, pack-turn (a .rows .now) (a .bytes .now) (l .loop .i) (l .loop .p) (l .loop .bytes) _ (omega arith) (w .ensures) (m .8))
+    let m = l .loop .inv in (
+      m .0,
+      m .1 + 1,
+      omega arith,
+      omega arith,
+      omega arith,
+      w .kept .0 ∙ m .5,
+      m .6,
+      fit-next (a .rows .now) (l .loop .i) (omega arith) (m .7) .1,
+      pack-turn (a .rows .now) (a .bytes .now) (l .loop .i) (l .loop .p) (l .loop .bytes) _ (omega arith) (w .ensures) (m .8),
+    )
 
 same-length : tie.Need-same-length Inv-loop μ-loop
 same-length c = c .before .loop .inv .5
 
 returns : tie.Need-returns Inv-loop μ-loop
 returns c =
-    let l = c .before in
     let a = c .before .before .before .before .args in
-    pack-end (a .rows .now) (a .bytes .now) (l .loop .i) (l .loop .p) (l .loop .bytes) (length (a .rows .now) / 4 * 7) (c .loop-test .left) (omega arith) (l .loop .inv .8)
+    let l = c .before in
+    pack-end (a .rows .now) (a .bytes .now) (l .loop .i) (l .loop .p) (l .loop .bytes) (length (a .rows .now) / 4 * 7) (c .loop-test .left)
+    (omega arith) (l .loop .inv .8)
 
 pub put-all-spec : {M : Type 1} → statement M
 put-all-spec =

@@ -27,7 +27,10 @@ first-requires : tie.Need-first-requires Inv-loop μ-loop
 first-requires c κs = search needs
 
 loop-holds : tie.Need-loop-holds Inv-loop μ-loop
-loop-holds c = (c .before .if1 .left, omega arith, omega arith, seven-start (c .before .before .before .args .bytes .now) (c .before .if1 .left) (c .first .ensures))
+loop-holds c =
+    let a = c .before .before .before .args in
+    let if1 = c .before .if1 in
+    (if1 .left, omega arith, omega arith, seven-start (a .bytes .now) (if1 .left) (c .first .ensures))
 
 shared-slice-read-head : tie.Need-shared-slice-read-head Inv-loop μ-loop
 shared-slice-read-head c = search needs
@@ -61,12 +64,15 @@ loop-less c = search needs
 
 loop-again : tie.Need-loop-again Inv-loop μ-loop
 loop-again c =
-    let l = c .before .before .before .before .before .before in
     let a = c .before .before .before .before .before .before .before .before .before .before .args in
+    let l = c .before .before .before .before .before .before in
+    let step = c .before .before .before .step in
+    let three = c .before .before .three in
+    let three2 = c .before .three2 in
     let m = l .loop .inv in
     let r = unpackAt (a .bytes .now) (l .loop .p) in
-    let e = le-leb (r .end) mostBytes (omega (arith, c .before .before .three .ensures .0, c .before .three2 .ensures .0)) in
-    (m .0, omega arith, omega arith, judge-row (m .3) (sevens-next (a .bytes .now) (l .loop .p) (omega arith)) (c .before .before .before .step .ensures) e)
+    let e = le-leb (r .end) mostBytes (omega (arith, three .ensures .0, three2 .ensures .0)) in
+    (m .0, omega arith, omega arith, judge-row (m .3) (sevens-next (a .bytes .now) (l .loop .p) (omega arith)) (step .ensures) e)
 
 returns-2 : tie.Need-returns-2 Inv-loop μ-loop
 returns-2 c =

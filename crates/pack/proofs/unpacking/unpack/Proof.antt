@@ -23,7 +23,10 @@ same-length c = search needs
 returns-2 : tie.Need-returns-2
 returns-2 c =
     let a = c .before .before .before .before .before .before .before .before .before .args in
-    unpack-done (a .bytes .now) (a .rows .now) (sym (c .before .before .before .before .before .before .is-unpackable .ensures) ∙ c .before .before .before .before .before .if1 .taken) (omega arith) _ (c .before .before .put-all .ensures)
+    let is-unpackable = c .before .before .before .before .before .before .is-unpackable in
+    let if1 = c .before .before .before .before .before .if1 in
+    let put-all = c .before .before .put-all in
+    unpack-done (a .bytes .now) (a .rows .now) (sym (is-unpackable .ensures) ∙ if1 .taken) (omega arith) _ (put-all .ensures)
 
 returns-3 : tie.Need-returns-3
 returns-3 c =

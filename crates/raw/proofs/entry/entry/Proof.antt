@@ -42,8 +42,11 @@ refused-requires-2 c κs = search needs
 returns-2 : tie.Need-returns-2
 returns-2 c =
     let p = c .before .before .before .before .before in
+    let ident = c .before .before .before .ident in
+    let enum-told2 = c .before .enum-told2 in
     let a = p .before .before .before .before .before .args in
-    entry-type-off (a .s .now) (a .at) (p .before .before .at-sign .ensures .0) (p .r1 .given .1) (c .before .before .before .ident .ensures .0) (c .before .enum-told2 .given .1) (c .refused2 .ensures)
+    entry-type-off (a .s .now) (a .at) (p .before .before .at-sign .ensures .0) (p .r1 .given .1) (ident .ensures .0) (enum-told2 .given .1)
+    (c .refused2 .ensures)
 
 form-of-requires : tie.Need-form-of-requires
 form-of-requires c κs =
@@ -59,7 +62,8 @@ rest-requires c κs =
     let t = c .before .before .before in
     let p = t .before .before .before .before in
     let a = p .before .before .before .before .before .args in
-    let k₁ = step-place (length (a .s .now)) 1 (a .at) (p .r1 .given .1) (p .before .before .at-sign .ensures .1) (p .before .before .before .before .before .pre .place) in
+    let k₁ = step-place (length (a .s .now)) 1 (a .at) (p .r1 .given .1) (p .before .before .at-sign .ensures .1)
+    (p .before .before .before .before .before .pre .place) in
     let k₂ = step-place (length (a .s .now)) 1 _ (t .r2 .given .1) (t .before .before .ident .ensures .1) (k₁ .1) in
     (ready-later _ (a .n + 1) (p .before .before .before .before .before .pre) (omega arith) (k₂ .1) (omega arith), omega arith, omega arith)
 
@@ -75,9 +79,12 @@ same-length c = search needs
 returns-3 : tie.Need-returns-3
 returns-3 c =
     let t = c .before .before .before .before .before .before .before .before in
+    let form-of = c .before .before .before .before .before .before .form-of in
+    let rest = c .before .before .before .before .rest in
     let p = t .before .before .before .before in
     let a = p .before .before .before .before .before .args in
-    entry-rest-off (a .s .now) (a .at) (p .before .before .at-sign .ensures .0) (p .r1 .given .1) (t .before .before .ident .ensures .0) (t .r2 .given .1) (c .before .before .before .before .before .before .form-of .ensures) (c .enum-told3 .given .1) (c .before .before .before .before .rest .ensures .0)
+    entry-rest-off (a .s .now) (a .at) (p .before .before .at-sign .ensures .0) (p .r1 .given .1) (t .before .before .ident .ensures .0)
+    (t .r2 .given .1) (form-of .ensures) (c .enum-told3 .given .1) (rest .ensures .0)
 
 eat-whitespace-requires : tie.Need-eat-whitespace-requires
 eat-whitespace-requires c κs = search needs
@@ -100,9 +107,17 @@ same-length-2 c = search needs
 returns-4 : tie.Need-returns-4
 returns-4 c =
     let t = c .before .before .before .before .before .before .before .before .before .before .before .before .before .before in
+    let form-of = c .before .before .before .before .before .before .before .before .before .before .before .before .form-of in
+    let rest = c .before .before .before .before .before .before .before .before .before .before .rest in
+    let r3 = c .before .before .before .before .before .before .r3 in
+    let eat-whitespace = c .before .before .before .before .eat-whitespace in
+    let closing = c .before .before .before .closing in
+    let enum-told4 = c .before .enum-told4 in
     let p = t .before .before .before .before in
     let a = p .before .before .before .before .before .args in
-    entry-end-off (a .s .now) (a .at) (p .before .before .at-sign .ensures .0) (p .r1 .given .1) (t .before .before .ident .ensures .0) (t .r2 .given .1) (c .before .before .before .before .before .before .before .before .before .before .before .before .form-of .ensures) (c .before .before .before .before .before .before .before .before .before .before .rest .ensures .0) (c .before .before .before .before .before .before .r3 .given .1) (c .before .before .before .before .eat-whitespace .ensures .0) (c .before .before .before .closing .ensures .0) (c .before .enum-told4 .given .1) (c .refused3 .ensures)
+    entry-end-off (a .s .now) (a .at) (p .before .before .at-sign .ensures .0) (p .r1 .given .1) (t .before .before .ident .ensures .0)
+    (t .r2 .given .1) (form-of .ensures) (rest .ensures .0) (r3 .given .1) (eat-whitespace .ensures .0) (closing .ensures .0)
+    (enum-told4 .given .1) (c .refused3 .ensures)
 
 same-length-3 : tie.Need-same-length-3
 same-length-3 c = search needs
@@ -110,13 +125,21 @@ same-length-3 c = search needs
 returns-5 : tie.Need-returns-5
 returns-5 c =
     let t = c .before .before .before .before .before .before .before .before .before .before .before .before .before .before in
+    let form-of = c .before .before .before .before .before .before .before .before .before .before .before .before .form-of in
+    let rest = c .before .before .before .before .before .before .before .before .before .before .rest in
+    let r3 = c .before .before .before .before .before .before .r3 in
+    let eat-whitespace = c .before .before .before .before .eat-whitespace in
+    let closing = c .before .before .before .closing in
+    let r5 = c .before .r5 in
     let p = t .before .before .before .before in
     let a = p .before .before .before .before .before .args in
-    let k₁ = step-place (length (a .s .now)) 1 (a .at) (p .r1 .given .1) (p .before .before .at-sign .ensures .1) (p .before .before .before .before .before .pre .place) in
+    let k₁ = step-place (length (a .s .now)) 1 (a .at) (p .r1 .given .1) (p .before .before .at-sign .ensures .1)
+    (p .before .before .before .before .before .pre .place) in
     let k₂ = step-place (length (a .s .now)) 1 _ (t .r2 .given .1) (t .before .before .ident .ensures .1) (k₁ .1) in
-    let k₃ = answer-place (length (a .s .now)) 1 _ (a .n + 1) (c .before .before .before .before .before .before .r3 .given .1) (c .before .before .before .before .before .before .before .before .before .before .rest .ensures .1) (k₂ .1) in
-    let k₅ = step-place (length (a .s .now)) 1 (c .before .before .before .before .eat-whitespace .result) (c .before .r5 .given .1) (c .before .before .before .closing .ensures .1) (omega arith) in (
-      entry-on (a .s .now) (a .at) (p .before .before .at-sign .ensures .0) (p .r1 .given .1) (t .before .before .ident .ensures .0) (t .r2 .given .1) (c .before .before .before .before .before .before .before .before .before .before .before .before .form-of .ensures) (c .before .before .before .before .before .before .before .before .before .before .rest .ensures .0) (c .before .before .before .before .before .before .r3 .given .1) (c .before .before .before .before .eat-whitespace .ensures .0) (c .before .before .before .closing .ensures .0) (c .before .r5 .given .1),
+    let k₃ = answer-place (length (a .s .now)) 1 _ (a .n + 1) (r3 .given .1) (rest .ensures .1) (k₂ .1) in
+    let k₅ = step-place (length (a .s .now)) 1 (eat-whitespace .result) (r5 .given .1) (closing .ensures .1) (omega arith) in (
+      entry-on (a .s .now) (a .at) (p .before .before .at-sign .ensures .0) (p .r1 .given .1) (t .before .before .ident .ensures .0) (t .r2 .given .1)
+          (form-of .ensures) (rest .ensures .0) (r3 .given .1) (eat-whitespace .ensures .0) (closing .ensures .0) (r5 .given .1),
       (omega arith, omega arith, omega arith),
     )
 

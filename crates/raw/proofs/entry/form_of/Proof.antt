@@ -21,25 +21,45 @@ slice-aggregate-spells-2 : tie.Need-slice-aggregate-spells-2
 slice-aggregate-spells-2 c = search needs
 
 spells-requires-2 : tie.Need-spells-requires-2
-spells-requires-2 c κs = let p = c .before .before .before .before .before .pre in (p .0, p .1, ascii-word (0x70 ∷ 0x72 ∷ 0x65 ∷ 0x61 ∷ 0x6D ∷ 0x62 ∷ 0x6C ∷ 0x65 ∷ []) tt)
+spells-requires-2 c κs =
+    let p = c .before .before .before .before .before .pre in
+    (p .0, p .1, ascii-word (0x70 ∷ 0x72 ∷ 0x65 ∷ 0x61 ∷ 0x6D ∷ 0x62 ∷ 0x6C ∷ 0x65 ∷ []) tt)
 
 returns-2 : tie.Need-returns-2
 unfolding formOf
-returns-2 c = rw (sym (c .before .before .before .before .spells .ensures) ∙ c .before .before .before .if1 .left, sym (c .before .spells2 .ensures) ∙ c .if2 .taken)
+returns-2 c =
+    let spells = c .before .before .before .before .spells in
+    let if1 = c .before .before .before .if1 in
+    let spells2 = c .before .spells2 in
+    rw (sym (spells .ensures) ∙ if1 .left, sym (spells2 .ensures) ∙ c .if2 .taken)
 
 slice-aggregate-spells-3 : tie.Need-slice-aggregate-spells-3
 slice-aggregate-spells-3 c = search needs
 
 spells-requires-3 : tie.Need-spells-requires-3
-spells-requires-3 c κs = let p = c .before .before .before .before .before .before .before .before .pre in (p .0, p .1, ascii-word (0x63 ∷ 0x6F ∷ 0x6D ∷ 0x6D ∷ 0x65 ∷ 0x6E ∷ 0x74 ∷ []) tt)
+spells-requires-3 c κs =
+    let p = c .before .before .before .before .before .before .before .before .pre in
+    (p .0, p .1, ascii-word (0x63 ∷ 0x6F ∷ 0x6D ∷ 0x6D ∷ 0x65 ∷ 0x6E ∷ 0x74 ∷ []) tt)
 
 returns-3 : tie.Need-returns-3
 unfolding formOf
-returns-3 c = rw (sym (c .before .before .before .before .before .before .before .spells .ensures) ∙ c .before .before .before .before .before .before .if1 .left, sym (c .before .before .before .before .spells2 .ensures) ∙ c .before .before .before .if2 .left, sym (c .before .spells3 .ensures) ∙ c .if3 .taken)
+returns-3 c =
+    let spells = c .before .before .before .before .before .before .before .spells in
+    let if1 = c .before .before .before .before .before .before .if1 in
+    let spells2 = c .before .before .before .before .spells2 in
+    let if2 = c .before .before .before .if2 in
+    let spells3 = c .before .spells3 in
+    rw (sym (spells .ensures) ∙ if1 .left, sym (spells2 .ensures) ∙ if2 .left, sym (spells3 .ensures) ∙ c .if3 .taken)
 
 returns-4 : tie.Need-returns-4
 unfolding formOf
-returns-4 c = rw (sym (c .before .before .before .before .before .before .before .spells .ensures) ∙ c .before .before .before .before .before .before .if1 .left, sym (c .before .before .before .before .spells2 .ensures) ∙ c .before .before .before .if2 .left, sym (c .before .spells3 .ensures) ∙ c .if3 .left)
+returns-4 c =
+    let spells = c .before .before .before .before .before .before .before .spells in
+    let if1 = c .before .before .before .before .before .before .if1 in
+    let spells2 = c .before .before .before .before .spells2 in
+    let if2 = c .before .before .before .if2 in
+    let spells3 = c .before .spells3 in
+    rw (sym (spells .ensures) ∙ if1 .left, sym (spells2 .ensures) ∙ if2 .left, sym (spells3 .ensures) ∙ c .if3 .left)
 
 pub form-of-spec : {M : Type 1} → statement M
 form-of-spec =

@@ -19,7 +19,9 @@ enum-told c = search needs
 returns : tie.Need-returns
 returns c =
     let a = c .before .before .before .before .before .args in
-    lead-off (a .s .now) (a .at) (c .before .before .before .eat-whitespace .ensures .0) (c .before .before .before .eat-whitespace .ensures .1) (c .before .before .opening .ensures .0) (c .enum-told .given .1)
+    let eat-whitespace = c .before .before .before .eat-whitespace in
+    let opening = c .before .before .opening in
+    lead-off (a .s .now) (a .at) (eat-whitespace .ensures .0) (eat-whitespace .ensures .1) (opening .ensures .0) (c .enum-told .given .1)
 
 eat-whitespace-requires-2 : tie.Need-eat-whitespace-requires-2
 eat-whitespace-requires-2 c κs = search needs
@@ -27,7 +29,11 @@ eat-whitespace-requires-2 c κs = search needs
 returns-2 : tie.Need-returns-2
 returns-2 c =
     let a = c .before .before .before .before .before .before .before .args in
-    lead-on (a .s .now) (a .at) (c .before .before .before .before .before .eat-whitespace .ensures .0) (c .before .before .before .before .before .eat-whitespace .ensures .1) (c .before .before .before .before .opening .ensures .0) (c .before .before .before .before .opening .ensures .1) (c .before .before .r2 .given .1) (c .eat-whitespace2 .ensures .0) (c .eat-whitespace2 .ensures .1)
+    let eat-whitespace = c .before .before .before .before .before .eat-whitespace in
+    let opening = c .before .before .before .before .opening in
+    let r2 = c .before .before .r2 in
+    lead-on (a .s .now) (a .at) (eat-whitespace .ensures .0) (eat-whitespace .ensures .1) (opening .ensures .0) (opening .ensures .1) (r2 .given .1)
+    (c .eat-whitespace2 .ensures .0) (c .eat-whitespace2 .ensures .1)
 
 pub lead-spec : {M : Type 1} → statement M
 lead-spec =

@@ -35,7 +35,8 @@ fields-requires : tie.Need-fields-requires
 fields-requires c κs =
     let l = c .before .before .before .before in
     let a = l .before .before .before .before .before .args in
-    let k = step-place (length (a .s .now)) 1 (a .end) (l .r1 .given .1) (l .before .before .lead .ensures .1) (l .before .before .before .before .before .pre .0 .place) in
+    let k = step-place (length (a .s .now)) 1 (a .end) (l .r1 .given .1) (l .before .before .lead .ensures .1)
+    (l .before .before .before .before .before .pre .0 .place) in
     ready-later _ (a .n) (l .before .before .before .before .before .pre .0) (omega arith) (k .1) (omega arith)
 
 enum-told-3 : tie.Need-enum-told-3
@@ -45,7 +46,8 @@ preamble-requires : tie.Need-preamble-requires
 preamble-requires c κs =
     let l = c .before .before .before .before in
     let a = l .before .before .before .before .before .args in
-    let k = step-place (length (a .s .now)) 1 (a .end) (l .r1 .given .1) (l .before .before .lead .ensures .1) (l .before .before .before .before .before .pre .0 .place) in
+    let k = step-place (length (a .s .now)) 1 (a .end) (l .r1 .given .1) (l .before .before .lead .ensures .1)
+    (l .before .before .before .before .before .pre .0 .place) in
     ready-later _ (a .n) (l .before .before .before .before .before .pre .0) (omega arith) (k .1) (omega arith)
 
 enum-told-4 : tie.Need-enum-told-4
@@ -76,7 +78,8 @@ body-requires : tie.Need-body-requires
 body-requires c κs =
     let l = c .before .before .before .before .before .before .before .before in
     let a = l .before .before .before .before .before .args in
-    let k = step-place (length (a .s .now)) 1 (a .end) (l .r1 .given .1) (l .before .before .lead .ensures .1) (l .before .before .before .before .before .pre .0 .place) in
+    let k = step-place (length (a .s .now)) 1 (a .end) (l .r1 .given .1) (l .before .before .lead .ensures .1)
+    (l .before .before .before .before .before .pre .0 .place) in
     ready-later _ (a .n + 2) (l .before .before .before .before .before .pre .0) (omega arith) (k .1) (omega arith)
 
 enum-known-r2 : tie.Need-enum-known-r2
@@ -91,8 +94,11 @@ same-length c = search needs
 returns-2 : tie.Need-returns-2
 returns-2 c =
     let l = c .before .before .before .before .before .before .before .before .before .before .before .before .before in
+    let enum-told5 = c .before .before .before .before .before .before .before .before .before .before .enum-told5 in
+    let body = c .before .before .before .before .body in
     let a = l .before .before .before .before .before .args in
-    rest-other-off (a .s .now) (a .start) (a .at) (a .end) (l .before .before .lead .ensures .0) (a .form) (l .r1 .given .1) (c .before .before .before .before .before .before .before .before .before .before .enum-told5 .given .1) (c .enum-told6 .given .1) (c .before .before .before .before .body .ensures .0)
+    rest-other-off (a .s .now) (a .start) (a .at) (a .end) (l .before .before .lead .ensures .0) (a .form) (l .r1 .given .1) (enum-told5 .given .1)
+    (c .enum-told6 .given .1) (body .ensures .0)
 
 add-put-row-4 : tie.Need-add-put-row-4
 add-put-row-4 c = search needs
@@ -100,17 +106,23 @@ add-put-row-4 c = search needs
 add-put-row-5 : tie.Need-add-put-row-5
 add-put-row-5 c =
     let l = c .before .before .before .before .before .before .before .before .before .before .before .before .before .before .before in
+    let body = c .before .before .before .before .before .before .body in
+    let r2 = c .before .before .r2 in
     let a = l .before .before .before .before .before .args in
-    let k = step-place (length (a .s .now)) 1 (a .end) (l .r1 .given .1) (l .before .before .lead .ensures .1) (l .before .before .before .before .before .pre .0 .place) in
-    let q = answer-place (length (a .s .now)) 1 _ (a .n + 2) (c .before .before .r2 .given .1) (c .before .before .before .before .before .before .body .ensures .1) (k .1) in
+    let k = step-place (length (a .s .now)) 1 (a .end) (l .r1 .given .1) (l .before .before .lead .ensures .1)
+    (l .before .before .before .before .before .pre .0 .place) in
+    let q = answer-place (length (a .s .now)) 1 _ (a .n + 2) (r2 .given .1) (body .ensures .1) (k .1) in
     omega arith
 
 put-row-requires-2 : tie.Need-put-row-requires-2
 put-row-requires-2 c κs =
     let l = c .before .before .before .before .before .before .before .before .before .before .before .before .before .before .before in
+    let body = c .before .before .before .before .before .before .body in
+    let r2 = c .before .before .r2 in
     let a = l .before .before .before .before .before .args in
-    let k = step-place (length (a .s .now)) 1 (a .end) (l .r1 .given .1) (l .before .before .lead .ensures .1) (l .before .before .before .before .before .pre .0 .place) in
-    let q = answer-place (length (a .s .now)) 1 _ (a .n + 2) (c .before .before .r2 .given .1) (c .before .before .before .before .before .before .body .ensures .1) (k .1) in
+    let k = step-place (length (a .s .now)) 1 (a .end) (l .r1 .given .1) (l .before .before .lead .ensures .1)
+    (l .before .before .before .before .before .pre .0 .place) in
+    let q = answer-place (length (a .s .now)) 1 _ (a .n + 2) (r2 .given .1) (body .ensures .1) (k .1) in
     (omega arith, omega arith)
 
 same-length-2 : tie.Need-same-length-2
@@ -119,10 +131,15 @@ same-length-2 c = search needs
 returns-3 : tie.Need-returns-3
 returns-3 c =
     let l = c .before .before .before .before .before .before .before in
+    let enum-told2 = c .before .before .before .before .enum-told2 in
+    let fields = c .before .before .fields in
     let a = l .before .before .before .before .before .args in
-    let k = step-place (length (a .s .now)) 1 (a .end) (l .r1 .given .1) (l .before .before .lead .ensures .1) (l .before .before .before .before .before .pre .0 .place) in (
-      rest-strings (a .s .now) (a .start) (a .at) (a .end) (l .before .before .lead .ensures .0) (a .form) (l .r1 .given .1) (c .before .before .before .before .enum-told2 .given .1) (c .before .before .fields .ensures .0),
-      within-later (length (a .s .now)) 0 _ (a .n) 1 (a .end) (a .n + 1) (c .before .before .fields .result) (omega arith) (omega arith) (omega arith) (c .before .before .fields .ensures .1),
+    let k = step-place (length (a .s .now)) 1 (a .end) (l .r1 .given .1) (l .before .before .lead .ensures .1)
+    (l .before .before .before .before .before .pre .0 .place) in (
+      rest-strings (a .s .now) (a .start) (a .at) (a .end) (l .before .before .lead .ensures .0) (a .form) (l .r1 .given .1) (enum-told2 .given .1)
+          (fields .ensures .0),
+      within-later (length (a .s .now)) 0 _ (a .n) 1 (a .end) (a .n + 1) (fields .result) (omega arith) (omega arith) (omega arith)
+          (fields .ensures .1),
     )
 
 same-length-3 : tie.Need-same-length-3
@@ -131,18 +148,28 @@ same-length-3 c = search needs
 returns-4 : tie.Need-returns-4
 returns-4 c =
     let l = c .before .before .before .before .before .before .before in
+    let enum-told3 = c .before .before .before .before .enum-told3 in
+    let preamble = c .before .before .preamble in
     let a = l .before .before .before .before .before .args in
-    let k = step-place (length (a .s .now)) 1 (a .end) (l .r1 .given .1) (l .before .before .lead .ensures .1) (l .before .before .before .before .before .pre .0 .place) in (
-      rest-preamble (a .s .now) (a .start) (a .at) (a .end) (l .before .before .lead .ensures .0) (a .form) (l .r1 .given .1) (c .before .before .before .before .enum-told3 .given .1) (c .before .before .preamble .ensures .0),
-      within-later (length (a .s .now)) 2 _ (a .n) 1 (a .end) (a .n + 1) (c .before .before .preamble .result) (omega arith) (omega arith) (omega arith) (c .before .before .preamble .ensures .1),
+    let k = step-place (length (a .s .now)) 1 (a .end) (l .r1 .given .1) (l .before .before .lead .ensures .1)
+    (l .before .before .before .before .before .pre .0 .place) in (
+      rest-preamble (a .s .now) (a .start) (a .at) (a .end) (l .before .before .lead .ensures .0) (a .form) (l .r1 .given .1) (enum-told3 .given .1)
+          (preamble .ensures .0),
+      within-later (length (a .s .now)) 2 _ (a .n) 1 (a .end) (a .n + 1) (preamble .result) (omega arith) (omega arith) (omega arith)
+          (preamble .ensures .1),
     )
 
 returns-5 : tie.Need-returns-5
 returns-5 c =
     let l = c .before .before .before .before in
+    let enum-told4 = c .before .enum-told4 in
     let a = l .before .before .before .before .before .args in
-    let k = step-place (length (a .s .now)) 1 (a .end) (l .r1 .given .1) (l .before .before .lead .ensures .1) (l .before .before .before .before .before .pre .0 .place) in
-    (rest-comment (a .s .now) (a .start) (a .at) (a .end) (l .before .before .lead .ensures .0) (a .form) (l .r1 .given .1) (c .before .enum-told4 .given .1) (c .eat-until .ensures .0), (omega arith, omega arith, omega arith))
+    let k = step-place (length (a .s .now)) 1 (a .end) (l .r1 .given .1) (l .before .before .lead .ensures .1)
+    (l .before .before .before .before .before .pre .0 .place) in (
+      rest-comment (a .s .now) (a .start) (a .at) (a .end) (l .before .before .lead .ensures .0) (a .form) (l .r1 .given .1) (enum-told4 .given .1)
+          (c .eat-until .ensures .0),
+      (omega arith, omega arith, omega arith),
+    )
 
 same-length-4 : tie.Need-same-length-4
 same-length-4 c = search needs
@@ -150,10 +177,17 @@ same-length-4 c = search needs
 returns-6 : tie.Need-returns-6
 returns-6 c =
     let l = c .before .before .before .before .before .before .before .before .before .before .before .before .before .before .before .before .before .before in
+    let enum-told5 = c .before .before .before .before .before .before .before .before .before .before .before .before .before .before .before .enum-told5 in
+    let put-row = c .before .before .before .before .before .before .before .before .before .before .before .before .before .put-row in
+    let body = c .before .before .before .before .before .before .before .before .before .body in
+    let r2 = c .before .before .before .before .before .r2 in
+    let put-row2 = c .before .before .put-row2 in
     let a = l .before .before .before .before .before .args in
-    let k = step-place (length (a .s .now)) 1 (a .end) (l .r1 .given .1) (l .before .before .lead .ensures .1) (l .before .before .before .before .before .pre .0 .place) in
-    let q = answer-place (length (a .s .now)) 1 _ (a .n + 2) (c .before .before .before .before .before .r2 .given .1) (c .before .before .before .before .before .before .before .before .before .body .ensures .1) (k .1) in (
-      rest-other (a .s .now) (a .start) (a .at) (a .end) (l .before .before .lead .ensures .0) (a .form) (l .r1 .given .1) (c .before .before .before .before .before .before .before .before .before .before .before .before .before .before .before .enum-told5 .given .1) (c .before .before .before .before .before .before .before .before .before .before .before .before .before .put-row .ensures) (says-at (c .before .before .before .before .before .r2 .given .1) (c .before .before .before .before .before .before .before .before .before .body .ensures .0)) (c .before .before .put-row2 .ensures),
+    let k = step-place (length (a .s .now)) 1 (a .end) (l .r1 .given .1) (l .before .before .lead .ensures .1)
+    (l .before .before .before .before .before .pre .0 .place) in
+    let q = answer-place (length (a .s .now)) 1 _ (a .n + 2) (r2 .given .1) (body .ensures .1) (k .1) in (
+      rest-other (a .s .now) (a .start) (a .at) (a .end) (l .before .before .lead .ensures .0) (a .form) (l .r1 .given .1) (enum-told5 .given .1)
+          (put-row .ensures) (says-at (r2 .given .1) (body .ensures .0)) (put-row2 .ensures),
       (omega arith, omega arith, omega arith),
     )
 

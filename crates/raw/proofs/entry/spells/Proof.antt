@@ -19,7 +19,10 @@ sub-if1 : tie.Need-sub-if1 Inv-loop μ-loop
 sub-if1 c = omega arith
 
 returns : tie.Need-returns Inv-loop μ-loop
-returns c = let a = c .before .before .before .args in let p = c .before .before .before .pre in sym (spells-length (a .word .now) (a .s .now) (a .at) (a .end) (p .2) (p .0) (p .1) (c .if1 .taken))
+returns c =
+    let a = c .before .before .before .args in
+    let p = c .before .before .before .pre in
+    sym (spells-length (a .word .now) (a .s .now) (a .at) (a .end) (p .2) (p .0) (p .1) (c .if1 .taken))
 
 loop-holds : tie.Need-loop-holds Inv-loop μ-loop
 loop-holds c = let a = c .before .before .before .args in (omega arith, ap (λ n. spells (a .word .now) (a .s .now) n (a .end)) (omega arith))
@@ -37,7 +40,16 @@ shared-slice-read-if2 : tie.Need-shared-slice-read-if2 Inv-loop μ-loop
 shared-slice-read-if2 c = omega arith
 
 returns-2 : tie.Need-returns-2 Inv-loop μ-loop
-returns-2 c = let a = c .before .before .before .before .before .before .before .before .before .args in sym (c .before .before .before .before .before .loop .inv .1 ∙ spells-off (a .s .now) (a .word .now) (a .at) (a .end) (c .before .before .before .before .before .before .before .before .before .pre) (c .before .before .before .before .before .before .if1 .left) (c .before .before .before .before .before .loop .k) (c .before .before .before .before .loop-test .taken) (λ q. c .if2 .taken (c .before .before .lower .ensures ∙ q)))
+returns-2 c =
+    let a = c .before .before .before .before .before .before .before .before .before .args in
+    let asked = c .before .before .before .before .before .before .before .before .before .pre in
+    let if1 = c .before .before .before .before .before .before .if1 in
+    let turn = c .before .before .before .before .before .loop in
+    let test = c .before .before .before .before .loop-test in
+    let lower = c .before .before .lower in
+    sym
+    (turn .inv .1 ∙ spells-off (a .s .now) (a .word .now) (a .at) (a .end) (asked) (if1 .left) (turn .k) (test .taken)
+    (λ q. c .if2 .taken (lower .ensures ∙ q)))
 
 add-k : tie.Need-add-k Inv-loop μ-loop
 add-k c = omega arith
@@ -46,10 +58,25 @@ loop-less : tie.Need-loop-less Inv-loop μ-loop
 loop-less c = omega arith
 
 loop-again : tie.Need-loop-again Inv-loop μ-loop
-loop-again c = let a = c .before .before .before .before .before .before .before .before .before .args in (omega arith, c .before .before .before .before .before .loop .inv .1 ∙ spells-on (a .s .now) (a .word .now) (a .at) (a .end) (c .before .before .before .before .before .before .before .before .before .pre) (c .before .before .before .before .before .before .if1 .left) (c .before .before .before .before .before .loop .k) (c .before .before .before .before .loop-test .taken) (sym (c .before .before .lower .ensures) ∙ c .if2 .left))
+loop-again c =
+    let a = c .before .before .before .before .before .before .before .before .before .args in
+    let asked = c .before .before .before .before .before .before .before .before .before .pre in
+    let if1 = c .before .before .before .before .before .before .if1 in
+    let turn = c .before .before .before .before .before .loop in
+    let test = c .before .before .before .before .loop-test in
+    let lower = c .before .before .lower in (
+      omega arith,
+      turn .inv .1 ∙ spells-on (a .s .now) (a .word .now) (a .at) (a .end) (asked) (if1 .left) (turn .k) (test .taken)
+          (sym (lower .ensures) ∙ c .if2 .left),
+    )
 
 returns-3 : tie.Need-returns-3 Inv-loop μ-loop
-returns-3 c = let a = c .before .before .before .before .before .args in sym (c .before .loop .inv .1 ∙ spells-done (a .s .now) (a .word .now) (a .at) (a .end) (c .before .before .before .before .before .pre) (c .before .before .if1 .left) (c .before .loop .k) (c .before .loop .inv .0) (c .loop-test .left))
+returns-3 c =
+    let a = c .before .before .before .before .before .args in
+    let asked = c .before .before .before .before .before .pre in
+    let if1 = c .before .before .if1 in
+    let turn = c .before .loop in
+    sym (turn .inv .1 ∙ spells-done (a .s .now) (a .word .now) (a .at) (a .end) (asked) (if1 .left) (turn .k) (turn .inv .0) (c .loop-test .left))
 
 pub spells-spec : {M : Type 1} → statement M
 spells-spec =

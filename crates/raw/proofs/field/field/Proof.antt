@@ -24,7 +24,10 @@ refused-requires c κs = search needs
 returns : tie.Need-returns
 returns c =
     let a = c .before .before .before .before .before .before .args in
-    off-step (length (a .s .now)) 3 (a .at) (name-off (a .kind) (a .s .now) (a .at) (c .before .before .before .name .ensures .0) (c .before .enum-told .given .1)) (c .before .enum-told .given .1) (c .refused .ensures)
+    let name = c .before .before .before .name in
+    let enum-told = c .before .enum-told in
+    off-step (length (a .s .now)) 3 (a .at) (name-off (a .kind) (a .s .now) (a .at) (name .ensures .0) (enum-told .given .1)) (enum-told .given .1)
+    (c .refused .ensures)
 
 eat-whitespace-requires : tie.Need-eat-whitespace-requires
 eat-whitespace-requires c κs = search needs
@@ -44,7 +47,14 @@ refused-requires-2 c κs = search needs
 returns-2 : tie.Need-returns-2
 returns-2 c =
     let a = c .before .before .before .before .before .before .before .before .before .before .before .args in
-    off-step (length (a .s .now)) 3 (a .at) (equals-off (a .kind) (a .s .now) (a .at) (c .before .before .before .before .before .before .before .before .name .ensures .0) (c .before .before .before .before .before .before .r1 .given .1) (c .before .before .before .before .eat-whitespace .ensures .0) (c .before .before .before .equals .ensures .0) (c .before .enum-told2 .given .1)) (c .before .enum-told2 .given .1) (c .refused2 .ensures)
+    let name = c .before .before .before .before .before .before .before .before .name in
+    let r1 = c .before .before .before .before .before .before .r1 in
+    let eat-whitespace = c .before .before .before .before .eat-whitespace in
+    let equals = c .before .before .before .equals in
+    let enum-told2 = c .before .enum-told2 in
+    off-step (length (a .s .now)) 3 (a .at)
+    (equals-off (a .kind) (a .s .now) (a .at) (name .ensures .0) (r1 .given .1) (eat-whitespace .ensures .0) (equals .ensures .0)
+    (enum-told2 .given .1)) (enum-told2 .given .1) (c .refused2 .ensures)
 
 eat-whitespace-requires-2 : tie.Need-eat-whitespace-requires-2
 eat-whitespace-requires-2 c κs = search needs
@@ -55,18 +65,30 @@ add-put-row c = search needs
 add-put-row-2 : tie.Need-add-put-row-2
 add-put-row-2 c =
     let a = c .before .before .before .before .before .before .before .before .before .before .before .before .before .args in
+    let asked = c .before .before .before .before .before .before .before .before .before .before .before .before .before .pre in
+    let name = c .before .before .before .before .before .before .before .before .before .before .name in
+    let r1 = c .before .before .before .before .before .before .before .before .r1 in
+    let eat-whitespace = c .before .before .before .before .before .before .eat-whitespace in
+    let equals = c .before .before .before .before .before .equals in
+    let r3 = c .before .before .before .r3 in
     let len = length (a .s .now) in
-    let k = step-place len 1 (a .at) (c .before .before .before .before .before .before .before .before .r1 .given .1) (c .before .before .before .before .before .before .before .before .before .before .name .ensures .1) (c .before .before .before .before .before .before .before .before .before .before .before .before .before .pre .place) in
-    let l = step-place len 1 _ (c .before .before .before .r3 .given .1) (c .before .before .before .before .before .equals .ensures .1) (omega (arith, k .1, c .before .before .before .before .before .before .eat-whitespace .ensures .1 .to)) in
-    omega (arith, c .before .before .before .before .before .before .before .before .before .before .before .before .before .pre .file)
+    let k = step-place len 1 (a .at) (r1 .given .1) (name .ensures .1) (asked .place) in
+    let l = step-place len 1 _ (r3 .given .1) (equals .ensures .1) (omega (arith, k .1, eat-whitespace .ensures .1 .to)) in
+    omega (arith, asked .file)
 
 put-row-requires : tie.Need-put-row-requires
 put-row-requires c κs =
     let a = c .before .before .before .before .before .before .before .before .before .before .before .before .before .args in
+    let asked = c .before .before .before .before .before .before .before .before .before .before .before .before .before .pre in
+    let name = c .before .before .before .before .before .before .before .before .before .before .name in
+    let r1 = c .before .before .before .before .before .before .before .before .r1 in
+    let eat-whitespace = c .before .before .before .before .before .before .eat-whitespace in
+    let equals = c .before .before .before .before .before .equals in
+    let r3 = c .before .before .before .r3 in
     let len = length (a .s .now) in
-    let k = step-place len 1 (a .at) (c .before .before .before .before .before .before .before .before .r1 .given .1) (c .before .before .before .before .before .before .before .before .before .before .name .ensures .1) (c .before .before .before .before .before .before .before .before .before .before .before .before .before .pre .place) in
-    let l = step-place len 1 _ (c .before .before .before .r3 .given .1) (c .before .before .before .before .before .equals .ensures .1) (omega (arith, k .1, c .before .before .before .before .before .before .eat-whitespace .ensures .1 .to)) in
-    (omega (arith, c .before .before .before .before .before .before .before .before .before .before .before .before .before .pre .file, c .before .before .before .before .before .before .before .before .before .before .before .before .before .pre .place), omega (arith, c .before .before .before .before .before .before .before .before .before .before .before .before .before .pre .file))
+    let k = step-place len 1 (a .at) (r1 .given .1) (name .ensures .1) (asked .place) in
+    let l = step-place len 1 _ (r3 .given .1) (equals .ensures .1) (omega (arith, k .1, eat-whitespace .ensures .1 .to)) in
+    (omega (arith, asked .file, asked .place), omega (arith, asked .file))
 
 add-abbr-field : tie.Need-add-abbr-field
 add-abbr-field c = search needs
@@ -74,10 +96,17 @@ add-abbr-field c = search needs
 abbr-field-requires : tie.Need-abbr-field-requires
 abbr-field-requires c κs =
     let a = c .before .before .before .before .before .before .before .before .before .before .before .before .before .before .before .before .before .args in
+    let asked = c .before .before .before .before .before .before .before .before .before .before .before .before .before .before .before .before .before .pre in
+    let name = c .before .before .before .before .before .before .before .before .before .before .before .before .before .before .name in
+    let r1 = c .before .before .before .before .before .before .before .before .before .before .before .before .r1 in
+    let eat-whitespace = c .before .before .before .before .before .before .before .before .before .before .eat-whitespace in
+    let equals = c .before .before .before .before .before .before .before .before .before .equals in
+    let r3 = c .before .before .before .before .before .before .before .r3 in
+    let eat-whitespace2 = c .before .before .before .before .before .eat-whitespace2 in
     let len = length (a .s .now) in
-    let k = step-place len 1 (a .at) (c .before .before .before .before .before .before .before .before .before .before .before .before .r1 .given .1) (c .before .before .before .before .before .before .before .before .before .before .before .before .before .before .name .ensures .1) (c .before .before .before .before .before .before .before .before .before .before .before .before .before .before .before .before .before .pre .place) in
-    let l = step-place len 1 _ (c .before .before .before .before .before .before .before .r3 .given .1) (c .before .before .before .before .before .before .before .before .before .equals .ensures .1) (omega (arith, k .1, c .before .before .before .before .before .before .before .before .before .before .eat-whitespace .ensures .1 .to)) in
-    ready-later _ (a .n + 1 + 1) (c .before .before .before .before .before .before .before .before .before .before .before .before .before .before .before .before .before .pre) (omega arith) (omega (arith, c .before .before .before .before .before .eat-whitespace2 .ensures .1 .to)) (omega arith)
+    let k = step-place len 1 (a .at) (r1 .given .1) (name .ensures .1) (asked .place) in
+    let l = step-place len 1 _ (r3 .given .1) (equals .ensures .1) (omega (arith, k .1, eat-whitespace .ensures .1 .to)) in
+    ready-later _ (a .n + 1 + 1) (asked) (omega arith) (omega (arith, eat-whitespace2 .ensures .1 .to)) (omega arith)
 
 enum-known-r5 : tie.Need-enum-known-r5
 enum-known-r5 c = search needs
@@ -91,7 +120,18 @@ same-length c = search needs
 returns-3 : tie.Need-returns-3
 returns-3 c =
     let a = c .before .before .before .before .before .before .before .before .before .before .before .before .before .before .before .before .before .before .before .before .before .before .args in
-    (value-off (a .kind) (a .s .now) (a .at) (c .before .before .before .before .before .before .before .before .before .before .before .before .before .before .before .before .before .before .before .name .ensures .0) (c .before .before .before .before .before .before .before .before .before .before .before .before .before .before .before .before .before .r1 .given .1) (c .before .before .before .before .before .before .before .before .before .before .before .before .before .before .before .eat-whitespace .ensures .0) (c .before .before .before .before .before .before .before .before .before .before .before .before .before .before .equals .ensures .0) (c .before .before .before .before .before .before .before .before .before .before .before .before .r3 .given .1) (c .before .before .before .before .before .before .before .before .before .before .eat-whitespace2 .ensures .0) (c .before .before .before .before .before .before .before .before .put-row .ensures) (c .before .before .before .before .abbr-field .ensures .0) (c .enum-told3 .given .1), off-within (length (a .s .now)) 3 (a .at) (a .n) (c .enum-told3 .given .1))
+    let name = c .before .before .before .before .before .before .before .before .before .before .before .before .before .before .before .before .before .before .before .name in
+    let r1 = c .before .before .before .before .before .before .before .before .before .before .before .before .before .before .before .before .before .r1 in
+    let eat-whitespace = c .before .before .before .before .before .before .before .before .before .before .before .before .before .before .before .eat-whitespace in
+    let equals = c .before .before .before .before .before .before .before .before .before .before .before .before .before .before .equals in
+    let r3 = c .before .before .before .before .before .before .before .before .before .before .before .before .r3 in
+    let eat-whitespace2 = c .before .before .before .before .before .before .before .before .before .before .eat-whitespace2 in
+    let put-row = c .before .before .before .before .before .before .before .before .put-row in
+    let abbr-field = c .before .before .before .before .abbr-field in (
+      value-off (a .kind) (a .s .now) (a .at) (name .ensures .0) (r1 .given .1) (eat-whitespace .ensures .0) (equals .ensures .0) (r3 .given .1)
+          (eat-whitespace2 .ensures .0) (put-row .ensures) (abbr-field .ensures .0) (c .enum-told3 .given .1),
+      off-within (length (a .s .now)) 3 (a .at) (a .n) (c .enum-told3 .given .1),
+    )
 
 eat-whitespace-requires-3 : tie.Need-eat-whitespace-requires-3
 eat-whitespace-requires-3 c κs = search needs
@@ -105,11 +145,26 @@ same-length-2 c = search needs
 returns-4 : tie.Need-returns-4
 returns-4 c =
     let a = c .before .before .before .before .before .before .before .before .before .before .before .before .before .before .before .before .before .before .before .before .before .before .before .before .before .args in
+    let asked = c .before .before .before .before .before .before .before .before .before .before .before .before .before .before .before .before .before .before .before .before .before .before .before .before .before .pre in
+    let name = c .before .before .before .before .before .before .before .before .before .before .before .before .before .before .before .before .before .before .before .before .before .before .name in
+    let r1 = c .before .before .before .before .before .before .before .before .before .before .before .before .before .before .before .before .before .before .before .before .r1 in
+    let eat-whitespace = c .before .before .before .before .before .before .before .before .before .before .before .before .before .before .before .before .before .before .eat-whitespace in
+    let equals = c .before .before .before .before .before .before .before .before .before .before .before .before .before .before .before .before .before .equals in
+    let r3 = c .before .before .before .before .before .before .before .before .before .before .before .before .before .before .before .r3 in
+    let eat-whitespace2 = c .before .before .before .before .before .before .before .before .before .before .before .before .before .eat-whitespace2 in
+    let put-row = c .before .before .before .before .before .before .before .before .before .before .before .put-row in
+    let abbr-field = c .before .before .before .before .before .before .before .abbr-field in
+    let r5 = c .before .before .before .r5 in
+    let eat-whitespace3 = c .before .eat-whitespace3 in
     let len = length (a .s .now) in
-    let k = step-place len 1 (a .at) (c .before .before .before .before .before .before .before .before .before .before .before .before .before .before .before .before .before .before .before .before .r1 .given .1) (c .before .before .before .before .before .before .before .before .before .before .before .before .before .before .before .before .before .before .before .before .before .before .name .ensures .1) (c .before .before .before .before .before .before .before .before .before .before .before .before .before .before .before .before .before .before .before .before .before .before .before .before .before .pre .place) in
-    let l = step-place len 1 _ (c .before .before .before .before .before .before .before .before .before .before .before .before .before .before .before .r3 .given .1) (c .before .before .before .before .before .before .before .before .before .before .before .before .before .before .before .before .before .equals .ensures .1) (omega (arith, k .1, c .before .before .before .before .before .before .before .before .before .before .before .before .before .before .before .before .before .before .eat-whitespace .ensures .1 .to)) in
-    let m = answer-place len 1 _ (a .n + 1 + 1) (c .before .before .before .r5 .given .1) (c .before .before .before .before .before .before .before .abbr-field .ensures .1) (omega (arith, l .1, c .before .before .before .before .before .before .before .before .before .before .before .before .before .eat-whitespace2 .ensures .1 .to)) in
-    (value-on (a .kind) (a .s .now) (a .at) (c .before .before .before .before .before .before .before .before .before .before .before .before .before .before .before .before .before .before .before .before .before .before .name .ensures .0) (c .before .before .before .before .before .before .before .before .before .before .before .before .before .before .before .before .before .before .before .before .r1 .given .1) (c .before .before .before .before .before .before .before .before .before .before .before .before .before .before .before .before .before .before .eat-whitespace .ensures .0) (c .before .before .before .before .before .before .before .before .before .before .before .before .before .before .before .before .before .equals .ensures .0) (c .before .before .before .before .before .before .before .before .before .before .before .before .before .before .before .r3 .given .1) (c .before .before .before .before .before .before .before .before .before .before .before .before .before .eat-whitespace2 .ensures .0) (c .before .before .before .before .before .before .before .before .before .before .before .put-row .ensures) (c .before .before .before .before .before .before .before .abbr-field .ensures .0) (c .before .before .before .r5 .given .1) (c .before .eat-whitespace3 .ensures .0) (c .comment .ensures .0), (omega arith, omega arith, omega arith))
+    let k = step-place len 1 (a .at) (r1 .given .1) (name .ensures .1) (asked .place) in
+    let l = step-place len 1 _ (r3 .given .1) (equals .ensures .1) (omega (arith, k .1, eat-whitespace .ensures .1 .to)) in
+    let m = answer-place len 1 _ (a .n + 1 + 1) (r5 .given .1) (abbr-field .ensures .1) (omega (arith, l .1, eat-whitespace2 .ensures .1 .to)) in (
+      value-on (a .kind) (a .s .now) (a .at) (name .ensures .0) (r1 .given .1) (eat-whitespace .ensures .0) (equals .ensures .0) (r3 .given .1)
+          (eat-whitespace2 .ensures .0) (put-row .ensures) (abbr-field .ensures .0) (r5 .given .1) (eat-whitespace3 .ensures .0)
+          (c .comment .ensures .0),
+      (omega arith, omega arith, omega arith),
+    )
 
 pub field-spec : {M : Type 1} → statement M
 field-spec =

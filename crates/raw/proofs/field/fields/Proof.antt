@@ -25,7 +25,10 @@ abbrev μ-loop : tie.MeasureT-loop
 μ-loop s base at rows₀ n kind p₀ m₀ rows p m = length s - p
 
 loop-holds : tie.Need-loop-holds Inv-loop μ-loop
-loop-holds c = let a = c .before .before .args in (omega arith, c .before .before .pre .place, omega arith, refl, leads (fieldsTurn (a .kind)) (a .s .now) (a .base) (a .at) (a .n) (a .rows .now))
+loop-holds c =
+    let a = c .before .before .args in
+    let asked = c .before .before .pre in
+    (omega arith, asked .place, omega arith, refl, leads (fieldsTurn (a .kind)) (a .s .now) (a .base) (a .at) (a .n) (a .rows .now))
 
 fields-turn-requires : tie.Need-fields-turn-requires Inv-loop μ-loop
 fields-turn-requires c κs =
@@ -38,7 +41,9 @@ loop-less : tie.Need-loop-less Inv-loop μ-loop
 loop-less c =
     let a = c .before .before .before .before .before .before .before .before .before .before .args in
     let l = c .before .before .before .before .before .before .before .loop in
-    let k = again-place (length (a .s .now)) 0 (l .p) (l .m) 1 (c .before .q .given .1) (c .before .before .before .before .before .fields-turn .ensures .1) (l .inv .1) in
+    let fields-turn = c .before .before .before .before .before .fields-turn in
+    let q = c .before .q in
+    let k = again-place (length (a .s .now)) 0 (l .p) (l .m) 1 (q .given .1) (fields-turn .ensures .1) (l .inv .1) in
     omega arith
 
 loop-again : tie.Need-loop-again Inv-loop μ-loop
@@ -46,36 +51,55 @@ unfolding fieldsTurn
 loop-again c =
     let a = c .before .before .before .before .before .before .before .before .before .before .args in
     let l = c .before .before .before .before .before .before .before .loop in
-    let k = again-place (length (a .s .now)) 0 (l .p) (l .m) 1 (c .before .q .given .1) (c .before .before .before .before .before .fields-turn .ensures .1) (l .inv .1) in
-    let t = turn-at (c .before .q .given .1) (c .before .before .before .before .before .fields-turn .ensures .0) in
-    (omega arith, k .1, omega arith, c .before .before .before .before .before .fields-turn .kept .1 .1 .1 .0 ∙ l .inv .3, loop-on (fieldsTurn (a .kind)) (a .s .now) (l .p) (λ a s p. refl) (l .inv .4) (omega arith) (k .1) t)
+    let fields-turn = c .before .before .before .before .before .fields-turn in
+    let q = c .before .q in
+    let k = again-place (length (a .s .now)) 0 (l .p) (l .m) 1 (q .given .1) (fields-turn .ensures .1) (l .inv .1) in
+    let t = turn-at (q .given .1) (fields-turn .ensures .0) in (
+      omega arith,
+      k .1,
+      omega arith,
+      fields-turn .kept .1 .1 .1 .0 ∙ l .inv .3,
+      loop-on (fieldsTurn (a .kind)) (a .s .now) (l .p) (λ a s p. refl) (l .inv .4) (omega arith) (k .1) t,
+    )
 
 enum-known-q-2 : tie.Need-enum-known-q-2 Inv-loop μ-loop
 enum-known-q-2 c = search needs
 
 same-length : tie.Need-same-length Inv-loop μ-loop
-same-length c = c .before .before .before .before .before .fields-turn .kept .1 .1 .1 .0 ∙ c .before .before .before .before .before .before .before .loop .inv .3
+same-length c =
+    let turn = c .before .before .before .before .before .before .before .loop in
+    let fields-turn = c .before .before .before .before .before .fields-turn in
+    fields-turn .kept .1 .1 .1 .0 ∙ turn .inv .3
 
 returns : tie.Need-returns Inv-loop μ-loop
 unfolding fields
 returns c =
     let a = c .before .before .before .before .before .before .before .before .before .before .args in
     let l = c .before .before .before .before .before .before .before .loop in
-    let k = done-place (length (a .s .now)) 0 (l .p) (l .m) 1 (c .before .q2 .given .1) (c .before .before .before .before .before .fields-turn .ensures .1) (l .inv .1) in
-    (loop-done (fieldsTurn (a .kind)) (a .s .now) (l .p) (l .inv .4) (turn-at (c .before .q2 .given .1) (c .before .before .before .before .before .fields-turn .ensures .0)), (omega arith, omega arith, omega arith))
+    let fields-turn = c .before .before .before .before .before .fields-turn in
+    let q2 = c .before .q2 in
+    let k = done-place (length (a .s .now)) 0 (l .p) (l .m) 1 (q2 .given .1) (fields-turn .ensures .1) (l .inv .1) in (
+      loop-done (fieldsTurn (a .kind)) (a .s .now) (l .p) (l .inv .4) (turn-at (q2 .given .1) (fields-turn .ensures .0)),
+      (omega arith, omega arith, omega arith),
+    )
 
 enum-known-f : tie.Need-enum-known-f Inv-loop μ-loop
 enum-known-f c = search needs
 
 same-length-2 : tie.Need-same-length-2 Inv-loop μ-loop
-same-length-2 c = c .before .before .before .before .before .fields-turn .kept .1 .1 .1 .0 ∙ c .before .before .before .before .before .before .before .loop .inv .3
+same-length-2 c =
+    let turn = c .before .before .before .before .before .before .before .loop in
+    let fields-turn = c .before .before .before .before .before .fields-turn in
+    fields-turn .kept .1 .1 .1 .0 ∙ turn .inv .3
 
 returns-2 : tie.Need-returns-2 Inv-loop μ-loop
 unfolding fields
 returns-2 c =
     let a = c .before .before .before .before .before .before .before .before .before .before .args in
     let l = c .before .before .before .before .before .before .before .loop in
-    (says-off (loop-off (fieldsTurn (a .kind)) (a .s .now) (l .p) (l .inv .4) (turn-at (c .before .f .given .1) (c .before .before .before .before .before .fields-turn .ensures .0))), tt)
+    let fields-turn = c .before .before .before .before .before .fields-turn in
+    let f = c .before .f in
+    (says-off (loop-off (fieldsTurn (a .kind)) (a .s .now) (l .p) (l .inv .4) (turn-at (f .given .1) (fields-turn .ensures .0))), tt)
 
 pub fields-spec : {M : Type 1} → statement M
 fields-spec =

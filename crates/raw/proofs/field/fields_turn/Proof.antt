@@ -21,7 +21,12 @@ shared-slice-read-if3 c = search needs
 returns-2 : tie.Need-returns-2
 returns-2 c =
     let a = c .before .before .before .before .before .before .before .args in
-    (turn-done (fields-brace (a .kind) (a .s .now) (a .at) (c .before .before .before .before .if1 .left) (c .before .before .before .eat-whitespace .ensures .0) (c .before .before .if2 .taken) (c .if3 .taken)), (omega arith, omega arith, omega arith))
+    let if1 = c .before .before .before .before .if1 in
+    let eat-whitespace = c .before .before .before .eat-whitespace in
+    let if2 = c .before .before .if2 in (
+      turn-done (fields-brace (a .kind) (a .s .now) (a .at) (if1 .left) (eat-whitespace .ensures .0) (if2 .taken) (c .if3 .taken)),
+      (omega arith, omega arith, omega arith),
+    )
 
 field-requires : tie.Need-field-requires
 field-requires c κs = search needs
@@ -35,7 +40,17 @@ same-length c = search needs
 returns-3 : tie.Need-returns-3
 returns-3 c =
     let a = c .before .before .before .before .before .before .before .before .before .before .before .before .args in
-    (fields-off (a .kind) (a .s .now) (a .at) (c .before .before .before .before .before .before .before .before .eat-whitespace .result) (⊎-elim (λ w. fields-other (a .kind) (a .s .now) (a .at) (c .before .before .before .before .before .before .before .before .before .if1 .left) (c .before .before .before .before .before .before .before .before .eat-whitespace .ensures .0) (w .0 .taken) (w .2 .left)) (λ w. fields-end (a .kind) (a .s .now) (a .at) (c .before .before .before .before .before .before .before .before .before .if1 .left) (c .before .before .before .before .before .before .before .before .eat-whitespace .ensures .0) (w .left)) (c .before .before .before .before .before .before .before .if2 .came)) (says-at (c .before .f .given .1) (c .before .before .before .before .before .field .ensures .0)), tt)
+    let if1 = c .before .before .before .before .before .before .before .before .before .if1 in
+    let eat-whitespace = c .before .before .before .before .before .before .before .before .eat-whitespace in
+    let if2 = c .before .before .before .before .before .before .before .if2 in
+    let field = c .before .before .before .before .before .field in
+    let f = c .before .f in (
+      fields-off (a .kind) (a .s .now) (a .at) (eat-whitespace .result)
+          (⊎-elim (λ w. fields-other (a .kind) (a .s .now) (a .at) (if1 .left) (eat-whitespace .ensures .0) (w .0 .taken) (w .2 .left))
+          (λ w. fields-end (a .kind) (a .s .now) (a .at) (if1 .left) (eat-whitespace .ensures .0) (w .left)) (if2 .came))
+          (says-at (f .given .1) (field .ensures .0)),
+      tt,
+    )
 
 enum-known-p2 : tie.Need-enum-known-p2
 enum-known-p2 c = search needs
@@ -49,9 +64,21 @@ same-length-2 c = search needs
 returns-4 : tie.Need-returns-4
 returns-4 c =
     let a = c .before .before .before .before .before .before .before .before .before .before .before .before .before .args in
+    let asked = c .before .before .before .before .before .before .before .before .before .before .before .before .before .pre in
+    let if1 = c .before .before .before .before .before .before .before .before .before .before .if1 in
+    let eat-whitespace = c .before .before .before .before .before .before .before .before .before .eat-whitespace in
+    let if2 = c .before .before .before .before .before .before .before .before .if2 in
+    let field = c .before .before .before .before .before .before .field in
+    let p2 = c .before .before .p2 in
     let len = length (a .s .now) in
-    let k = answer-place len 3 _ (a .n) (c .before .before .p2 .given .1) (c .before .before .before .before .before .before .field .ensures .1) (omega (arith, c .before .before .before .before .before .before .before .before .before .eat-whitespace .ensures .1 .to, c .before .before .before .before .before .before .before .before .before .before .before .before .before .pre .place)) in
-    (fields-on (a .kind) (a .s .now) (a .at) (c .before .before .before .before .before .before .before .before .before .eat-whitespace .result) (⊎-elim (λ w. fields-other (a .kind) (a .s .now) (a .at) (c .before .before .before .before .before .before .before .before .before .before .if1 .left) (c .before .before .before .before .before .before .before .before .before .eat-whitespace .ensures .0) (w .0 .taken) (w .2 .left)) (λ w. fields-end (a .kind) (a .s .now) (a .at) (c .before .before .before .before .before .before .before .before .before .before .if1 .left) (c .before .before .before .before .before .before .before .before .before .eat-whitespace .ensures .0) (w .left)) (c .before .before .before .before .before .before .before .before .if2 .came)) (says-at (c .before .before .p2 .given .1) (c .before .before .before .before .before .before .field .ensures .0)) (c .field-end .ensures .0 (a .base) _), turn-later len 1 0 _ _ 1 0 (a .at) (a .n) (c .field-end .result) (omega arith) (omega arith) (omega arith) (omega arith) (c .field-end .ensures .1))
+    let k = answer-place len 3 _ (a .n) (p2 .given .1) (field .ensures .1) (omega (arith, eat-whitespace .ensures .1 .to, asked .place)) in (
+      fields-on (a .kind) (a .s .now) (a .at) (eat-whitespace .result)
+          (⊎-elim (λ w. fields-other (a .kind) (a .s .now) (a .at) (if1 .left) (eat-whitespace .ensures .0) (w .0 .taken) (w .2 .left))
+          (λ w. fields-end (a .kind) (a .s .now) (a .at) (if1 .left) (eat-whitespace .ensures .0) (w .left)) (if2 .came))
+          (says-at (p2 .given .1) (field .ensures .0)) (c .field-end .ensures .0 (a .base) _),
+      turn-later len 1 0 _ _ 1 0 (a .at) (a .n) (c .field-end .result) (omega arith) (omega arith) (omega arith) (omega arith)
+          (c .field-end .ensures .1),
+    )
 
 pub fields-turn-spec : {M : Type 1} → statement M
 fields-turn-spec =

@@ -11,7 +11,12 @@ shared-slice-read-b : tie.Need-shared-slice-read-b
 shared-slice-read-b c = search needs
 
 returns : tie.Need-returns
-returns c = let a = c .before .before .before .before .before .before .args in ident-letters (a .s .now) (a .at) (c .before .before .before .before .eat-letters .ensures) (c .before .before .before .if1 .taken) (c .before .before .if2 .taken) (c .if3 .taken)
+returns c =
+    let a = c .before .before .before .before .before .before .args in
+    let eat-letters = c .before .before .before .before .eat-letters in
+    let if1 = c .before .before .before .if1 in
+    let if2 = c .before .before .if2 in
+    ident-letters (a .s .now) (a .at) (eat-letters .ensures) (if1 .taken) (if2 .taken) (c .if3 .taken)
 
 ident-requires : tie.Need-ident-requires
 ident-requires c κs = search needs

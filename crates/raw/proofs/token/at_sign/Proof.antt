@@ -18,13 +18,15 @@ returns : tie.Need-returns
 unfolding atSign
 returns c =
     let a = c .before .before .before .args in
-    need-byte (is 0x40) ExpectedIdentifier (a .s .now) (a .at) (narrow-is 0x40 (omega arith)) (c .before .before .if1 .taken) (eq-eqb _ _ (c .if2 .taken))
+    let if1 = c .before .before .if1 in
+    need-byte (is 0x40) ExpectedIdentifier (a .s .now) (a .at) (narrow-is 0x40 (omega arith)) (if1 .taken) (eq-eqb _ _ (c .if2 .taken))
 
 returns-2 : tie.Need-returns-2
 unfolding atSign
 returns-2 c =
     let a = c .before .before .before .args in
-    need-other (is 0x40) ExpectedIdentifier (a .s .now) (a .at) (narrow-is 0x40 (omega arith)) (c .before .before .if1 .taken) (ne-eqb _ _ (c .if2 .left))
+    let if1 = c .before .before .if1 in
+    need-other (is 0x40) ExpectedIdentifier (a .s .now) (a .at) (narrow-is 0x40 (omega arith)) (if1 .taken) (ne-eqb _ _ (c .if2 .left))
 
 returns-3 : tie.Need-returns-3
 unfolding atSign

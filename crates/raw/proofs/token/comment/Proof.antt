@@ -20,7 +20,9 @@ returns-2 : tie.Need-returns-2
 unfolding holdsOf
 returns-2 c =
     let a = c .before .before .before .before .args in
-    comment-line (a .s .now) (a .at) (c .before .before .eat-byte .ensures .0) (c .before .if1 .left) (c .before .before .eat-byte .ensures .1) (c .eat-line .ensures .0) (c .eat-line .ensures .1)
+    let eat-byte = c .before .before .eat-byte in
+    let if1 = c .before .if1 in
+    comment-line (a .s .now) (a .at) (eat-byte .ensures .0) (if1 .left) (eat-byte .ensures .1) (c .eat-line .ensures .0) (c .eat-line .ensures .1)
 
 pub comment-spec : {M : Type 1} → statement M
 comment-spec = tie.close (tie.spec eat-byte-requires returns eat-line-requires returns-2)

@@ -21,7 +21,8 @@ returns-2 : tie.Need-returns-2
 unfolding equals holdsOf
 returns-2 c =
     let a = c .before .before .before .args in
-    need-on (holdsOf Equals) ExpectedEquals (a .s .now) (a .at) (c .before .eat-byte .ensures .0) (c .before .eat-byte .ensures .1) (c .if1 .left)
+    let eat-byte = c .before .eat-byte in
+    need-on (holdsOf Equals) ExpectedEquals (a .s .now) (a .at) (eat-byte .ensures .0) (eat-byte .ensures .1) (c .if1 .left)
 
 pub equals-spec : {M : Type 1} → statement M
 equals-spec = tie.close (tie.spec eat-byte-requires returns returns-2)

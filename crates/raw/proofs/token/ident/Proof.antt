@@ -17,7 +17,9 @@ eat-id-requires c κs = search needs
 returns-2 : tie.Need-returns-2
 returns-2 c =
     let a = c .before .before .before .before .args in
-    ident-line (a .s .now) (a .at) (c .before .before .eat-start .ensures .0) (c .before .if1 .left) (c .before .before .eat-start .ensures .1) (c .eat-id .ensures .0) (c .eat-id .ensures .1)
+    let eat-start = c .before .before .eat-start in
+    let if1 = c .before .if1 in
+    ident-line (a .s .now) (a .at) (eat-start .ensures .0) (if1 .left) (eat-start .ensures .1) (c .eat-id .ensures .0) (c .eat-id .ensures .1)
 
 pub ident-spec : {M : Type 1} → statement M
 ident-spec = tie.close (tie.spec eat-start-requires returns eat-id-requires returns-2)

@@ -18,13 +18,17 @@ returns : tie.Need-returns
 unfolding opening
 returns c =
     let a = c .before .before .before .args in
-    need-byte (λ x. is 0x7B x || is 0x22 x) ExpectedOpeningBrace (a .s .now) (a .at) (narrow-or (is 0x7B) (is 0x22) (narrow-is 0x7B (omega arith)) (narrow-is 0x22 (omega arith))) (c .before .before .if1 .taken) (c .if2 .taken)
+    let if1 = c .before .before .if1 in
+    need-byte (λ x. is 0x7B x || is 0x22 x) ExpectedOpeningBrace (a .s .now) (a .at)
+    (narrow-or (is 0x7B) (is 0x22) (narrow-is 0x7B (omega arith)) (narrow-is 0x22 (omega arith))) (if1 .taken) (c .if2 .taken)
 
 returns-2 : tie.Need-returns-2
 unfolding opening
 returns-2 c =
     let a = c .before .before .before .args in
-    need-other (λ x. is 0x7B x || is 0x22 x) ExpectedOpeningBrace (a .s .now) (a .at) (narrow-or (is 0x7B) (is 0x22) (narrow-is 0x7B (omega arith)) (narrow-is 0x22 (omega arith))) (c .before .before .if1 .taken) (c .if2 .left)
+    let if1 = c .before .before .if1 in
+    need-other (λ x. is 0x7B x || is 0x22 x) ExpectedOpeningBrace (a .s .now) (a .at)
+    (narrow-or (is 0x7B) (is 0x22) (narrow-is 0x7B (omega arith)) (narrow-is 0x22 (omega arith))) (if1 .taken) (c .if2 .left)
 
 returns-3 : tie.Need-returns-3
 unfolding opening

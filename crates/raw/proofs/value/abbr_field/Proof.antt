@@ -29,10 +29,16 @@ add-m : tie.Need-add-m Inv-loop μ-loop
 add-m c = search needs
 
 loop-holds : tie.Need-loop-holds Inv-loop μ-loop
-loop-holds c = let a = c .before .before .args in (omega arith, c .before .before .pre .place, omega arith, refl, leads abbrTurn (a .s .now) (a .base) (a .at) (a .n + 1) (a .rows .now))
+loop-holds c =
+    let a = c .before .before .args in
+    let asked = c .before .before .pre in
+    (omega arith, asked .place, omega arith, refl, leads abbrTurn (a .s .now) (a .base) (a .at) (a .n + 1) (a .rows .now))
 
 abbr-turn-requires : tie.Need-abbr-turn-requires Inv-loop μ-loop
-abbr-turn-requires c κs = record { file = c .before .before .before .before .pre .file; place = c .before .loop .inv .1; rows = omega (arith, c .before .before .before .before .pre .rows) }
+abbr-turn-requires c κs =
+    let asked = c .before .before .before .before .pre in
+    let turn = c .before .loop in
+    record { file = asked .file; place = turn .inv .1; rows = omega (arith, asked .rows) }
 
 enum-known-q : tie.Need-enum-known-q Inv-loop μ-loop
 enum-known-q c = search needs
@@ -41,8 +47,10 @@ loop-less : tie.Need-loop-less Inv-loop μ-loop
 loop-less c =
     let a = c .before .before .before .before .before .before .before .before .before .before .args in
     let l = c .before .before .before .before .before .before .before .loop in
+    let abbr-turn = c .before .before .before .before .before .abbr-turn in
+    let q = c .before .q in
     let len = length (a .s .now) in
-    let k = again-place len 1 (l .p) (l .m) 1 (c .before .q .given .1) (c .before .before .before .before .before .abbr-turn .ensures .1) (l .inv .1) in
+    let k = again-place len 1 (l .p) (l .m) 1 (q .given .1) (abbr-turn .ensures .1) (l .inv .1) in
     omega arith
 
 loop-again : tie.Need-loop-again Inv-loop μ-loop
@@ -50,58 +58,87 @@ unfolding abbrTurn
 loop-again c =
     let a = c .before .before .before .before .before .before .before .before .before .before .args in
     let l = c .before .before .before .before .before .before .before .loop in
+    let abbr-turn = c .before .before .before .before .before .abbr-turn in
+    let q = c .before .q in
     let len = length (a .s .now) in
-    let k = again-place len 1 (l .p) (l .m) 1 (c .before .q .given .1) (c .before .before .before .before .before .abbr-turn .ensures .1) (l .inv .1) in
-    let t = turn-at (c .before .q .given .1) (c .before .before .before .before .before .abbr-turn .ensures .0) in
-    (omega arith, k .1, omega arith, c .before .before .before .before .before .abbr-turn .kept .1 .1 .1 .0 ∙ l .inv .3, loop-on abbrTurn (a .s .now) (l .p) (λ a s p. refl) (l .inv .4) (omega arith) (k .1) t)
+    let k = again-place len 1 (l .p) (l .m) 1 (q .given .1) (abbr-turn .ensures .1) (l .inv .1) in
+    let t = turn-at (q .given .1) (abbr-turn .ensures .0) in (
+      omega arith,
+      k .1,
+      omega arith,
+      abbr-turn .kept .1 .1 .1 .0 ∙ l .inv .3,
+      loop-on abbrTurn (a .s .now) (l .p) (λ a s p. refl) (l .inv .4) (omega arith) (k .1) t,
+    )
 
 enum-known-q-2 : tie.Need-enum-known-q-2 Inv-loop μ-loop
 enum-known-q-2 c = search needs
 
 add-put-row : tie.Need-add-put-row Inv-loop μ-loop
-add-put-row c = let k = c .before .before .before .before .before .before .before .before .before .before .before .pre .file in let h = c .before .before .before .before .before .before .before .before .before .before .before .pre .place in omega arith
+add-put-row c =
+    let asked = c .before .before .before .before .before .before .before .before .before .before .before .pre in
+    let k = asked .file in
+    let h = asked .place in
+    omega arith
 
 add-put-row-2 : tie.Need-add-put-row-2 Inv-loop μ-loop
 add-put-row-2 c =
     let a = c .before .before .before .before .before .before .before .before .before .before .before .args in
+    let asked = c .before .before .before .before .before .before .before .before .before .before .before .pre in
     let l = c .before .before .before .before .before .before .before .before .loop in
+    let abbr-turn = c .before .before .before .before .before .before .abbr-turn in
+    let q2 = c .before .before .q2 in
     let len = length (a .s .now) in
-    let k = done-place len 1 (l .p) (l .m) 1 (c .before .before .q2 .given .1) (c .before .before .before .before .before .before .abbr-turn .ensures .1) (l .inv .1) in
-    omega (arith, c .before .before .before .before .before .before .before .before .before .before .before .pre .file)
+    let k = done-place len 1 (l .p) (l .m) 1 (q2 .given .1) (abbr-turn .ensures .1) (l .inv .1) in
+    omega (arith, asked .file)
 
 put-row-requires : tie.Need-put-row-requires Inv-loop μ-loop
 put-row-requires c κs =
     let a = c .before .before .before .before .before .before .before .before .before .before .before .args in
+    let asked = c .before .before .before .before .before .before .before .before .before .before .before .pre in
     let l = c .before .before .before .before .before .before .before .before .loop in
+    let abbr-turn = c .before .before .before .before .before .before .abbr-turn in
+    let q2 = c .before .before .q2 in
     let len = length (a .s .now) in
-    let k = done-place len 1 (l .p) (l .m) 1 (c .before .before .q2 .given .1) (c .before .before .before .before .before .before .abbr-turn .ensures .1) (l .inv .1) in
-    (omega (arith, c .before .before .before .before .before .before .before .before .before .before .before .pre .file, c .before .before .before .before .before .before .before .before .before .before .before .pre .place), omega (arith, c .before .before .before .before .before .before .before .before .before .before .before .pre .file))
+    let k = done-place len 1 (l .p) (l .m) 1 (q2 .given .1) (abbr-turn .ensures .1) (l .inv .1) in
+    (omega (arith, asked .file, asked .place), omega (arith, asked .file))
 
 same-length : tie.Need-same-length Inv-loop μ-loop
-same-length c = c .before .before .put-row .kept .0 ∙ c .before .before .before .before .before .before .before .before .before .abbr-turn .kept .1 .1 .1 .0 ∙ c .before .before .before .before .before .before .before .before .before .before .before .loop .inv .3
+same-length c =
+    let turn = c .before .before .before .before .before .before .before .before .before .before .before .loop in
+    let abbr-turn = c .before .before .before .before .before .before .before .before .before .abbr-turn in
+    let put-row = c .before .before .put-row in
+    put-row .kept .0 ∙ abbr-turn .kept .1 .1 .1 .0 ∙ turn .inv .3
 
 returns : tie.Need-returns Inv-loop μ-loop
 unfolding abbrField
 returns c =
     let a = c .before .before .before .before .before .before .before .before .before .before .before .before .before .before .args in
     let l = c .before .before .before .before .before .before .before .before .before .before .before .loop in
+    let abbr-turn = c .before .before .before .before .before .before .before .before .before .abbr-turn in
+    let q2 = c .before .before .before .before .before .q2 in
+    let put-row = c .before .before .put-row in
     let len = length (a .s .now) in
-    let k = done-place len 1 (l .p) (l .m) 1 (c .before .before .before .before .before .q2 .given .1) (c .before .before .before .before .before .before .before .before .before .abbr-turn .ensures .1) (l .inv .1) in
-    let t = loop-done abbrTurn (a .s .now) (l .p) (l .inv .4) (turn-at (c .before .before .before .before .before .q2 .given .1) (c .before .before .before .before .before .before .before .before .before .abbr-turn .ensures .0)) in
-    (rw (c .before .before .put-row .ensures) (says-under kind.Value (a .at) t), (omega arith, omega arith, omega arith))
+    let k = done-place len 1 (l .p) (l .m) 1 (q2 .given .1) (abbr-turn .ensures .1) (l .inv .1) in
+    let t = loop-done abbrTurn (a .s .now) (l .p) (l .inv .4) (turn-at (q2 .given .1) (abbr-turn .ensures .0)) in
+    (rw (put-row .ensures) (says-under kind.Value (a .at) t), (omega arith, omega arith, omega arith))
 
 enum-known-f : tie.Need-enum-known-f Inv-loop μ-loop
 enum-known-f c = search needs
 
 same-length-2 : tie.Need-same-length-2 Inv-loop μ-loop
-same-length-2 c = c .before .before .before .before .before .abbr-turn .kept .1 .1 .1 .0 ∙ c .before .before .before .before .before .before .before .loop .inv .3
+same-length-2 c =
+    let turn = c .before .before .before .before .before .before .before .loop in
+    let abbr-turn = c .before .before .before .before .before .abbr-turn in
+    abbr-turn .kept .1 .1 .1 .0 ∙ turn .inv .3
 
 returns-2 : tie.Need-returns-2 Inv-loop μ-loop
 unfolding abbrField
 returns-2 c =
     let a = c .before .before .before .before .before .before .before .before .before .before .args in
     let l = c .before .before .before .before .before .before .before .loop in
-    let e = loop-off abbrTurn (a .s .now) (l .p) (l .inv .4) (turn-at (c .before .f .given .1) (c .before .before .before .before .before .abbr-turn .ensures .0)) in
+    let abbr-turn = c .before .before .before .before .before .abbr-turn in
+    let f = c .before .f in
+    let e = loop-off abbrTurn (a .s .now) (l .p) (l .inv .4) (turn-at (f .given .1) (abbr-turn .ensures .0)) in
     (says-off (ap (under (row kind.Value (a .at))) e), tt)
 
 pub abbr-field-spec : {M : Type 1} → statement M

@@ -19,7 +19,11 @@ same-length : tie.Need-same-length
 same-length c = search needs
 
 returns : tie.Need-returns
-returns c = let a = c .before .before .before .before .before .before .before .before .before .args in (turn-off (element-off (a .s .now) (a .at) (says-at (c .before .r1 .given .1) (c .before .before .before .before .before .abbr-element .ensures .0))), tt)
+returns c =
+    let a = c .before .before .before .before .before .before .before .before .before .args in
+    let abbr-element = c .before .before .before .before .before .abbr-element in
+    let r1 = c .before .r1 in
+    (turn-off (element-off (a .s .now) (a .at) (says-at (r1 .given .1) (abbr-element .ensures .0))), tt)
 
 enum-known-r1-2 : tie.Need-enum-known-r1-2
 enum-known-r1-2 c = search needs
@@ -37,9 +41,17 @@ returns-2 : tie.Need-returns-2
 unfolding holdsOf
 returns-2 c =
     let a = c .before .before .before .before .before .before .before .before .before .before .before .before .args in
+    let asked = c .before .before .before .before .before .before .before .before .before .before .before .before .pre in
+    let abbr-element = c .before .before .before .before .before .before .before .before .abbr-element in
+    let r12 = c .before .before .before .before .r12 in
+    let eat-whitespace = c .before .before .eat-whitespace in
+    let eat-byte = c .before .eat-byte in
     let len = length (a .s .now) in
-    let k = answer-place len 1 (a .at) (a .n) (c .before .before .before .before .r12 .given .1) (c .before .before .before .before .before .before .before .before .abbr-element .ensures .1) (c .before .before .before .before .before .before .before .before .before .before .before .before .pre .place) in
-    (turn-last (a .s .now) (a .at) (says-at (c .before .before .before .before .r12 .given .1) (c .before .before .before .before .before .before .before .before .abbr-element .ensures .0)) (c .before .before .eat-whitespace .ensures .0) (c .before .eat-byte .ensures .0) (c .if1 .taken), (omega arith, omega arith, omega arith))
+    let k = answer-place len 1 (a .at) (a .n) (r12 .given .1) (abbr-element .ensures .1) (asked .place) in (
+      turn-last (a .s .now) (a .at) (says-at (r12 .given .1) (abbr-element .ensures .0)) (eat-whitespace .ensures .0) (eat-byte .ensures .0)
+          (c .if1 .taken),
+      (omega arith, omega arith, omega arith),
+    )
 
 eat-whitespace-requires-2 : tie.Need-eat-whitespace-requires-2
 eat-whitespace-requires-2 c κs = search needs
@@ -51,9 +63,18 @@ returns-3 : tie.Need-returns-3
 unfolding holdsOf
 returns-3 c =
     let a = c .before .before .before .before .before .before .before .before .before .before .before .before .before .args in
+    let asked = c .before .before .before .before .before .before .before .before .before .before .before .before .before .pre in
+    let abbr-element = c .before .before .before .before .before .before .before .before .before .abbr-element in
+    let r12 = c .before .before .before .before .before .r12 in
+    let eat-whitespace = c .before .before .before .eat-whitespace in
+    let eat-byte = c .before .before .eat-byte in
+    let if1 = c .before .if1 in
     let len = length (a .s .now) in
-    let k = answer-place len 1 (a .at) (a .n) (c .before .before .before .before .before .r12 .given .1) (c .before .before .before .before .before .before .before .before .before .abbr-element .ensures .1) (c .before .before .before .before .before .before .before .before .before .before .before .before .before .pre .place) in
-    (turn-hash (a .s .now) (a .at) (says-at (c .before .before .before .before .before .r12 .given .1) (c .before .before .before .before .before .before .before .before .before .abbr-element .ensures .0)) (c .before .before .before .eat-whitespace .ensures .0) (c .before .before .eat-byte .ensures .0) (c .before .if1 .left) (c .eat-whitespace2 .ensures .0), (omega arith, omega arith, omega arith))
+    let k = answer-place len 1 (a .at) (a .n) (r12 .given .1) (abbr-element .ensures .1) (asked .place) in (
+      turn-hash (a .s .now) (a .at) (says-at (r12 .given .1) (abbr-element .ensures .0)) (eat-whitespace .ensures .0) (eat-byte .ensures .0)
+          (if1 .left) (c .eat-whitespace2 .ensures .0),
+      (omega arith, omega arith, omega arith),
+    )
 
 pub abbr-turn-spec : {M : Type 1} → statement M
 abbr-turn-spec =

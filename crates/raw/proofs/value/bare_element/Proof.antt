@@ -34,7 +34,13 @@ refused-requires c κs = search needs
 returns : tie.Need-returns
 returns c =
     let a = c .before .before .before .before .before .before .before .before .args in
-    off-step (length (a .s .now)) 1 (a .at) (element-number (a .s .now) (a .at) (c .before .before .before .before .before .eat-if .ensures .0) (c .before .before .before .before .if1 .taken) ∙ ap (under (row kind.Literal (a .at))) (bare-off (number (a .s .now) (a .at)) (c .before .before .before .number .ensures .0) (c .before .enum-told .given .1))) (c .before .enum-told .given .1) (c .refused .ensures)
+    let eat-if = c .before .before .before .before .before .eat-if in
+    let if1 = c .before .before .before .before .if1 in
+    let the-number = c .before .before .before .number in
+    let enum-told = c .before .enum-told in
+    off-step (length (a .s .now)) 1 (a .at)
+    (element-number (a .s .now) (a .at) (eat-if .ensures .0) (if1 .taken) ∙ ap (under (row kind.Literal (a .at)))
+    (bare-off (number (a .s .now) (a .at)) (the-number .ensures .0) (enum-told .given .1))) (enum-told .given .1) (c .refused .ensures)
 
 add-put-row : tie.Need-add-put-row
 add-put-row c = search needs
@@ -42,16 +48,22 @@ add-put-row c = search needs
 add-put-row-2 : tie.Need-add-put-row-2
 add-put-row-2 c =
     let a = c .before .before .before .before .before .before .before .before .before .args in
+    let asked = c .before .before .before .before .before .before .before .before .before .pre in
+    let number = c .before .before .before .before .number in
+    let r1 = c .before .before .r1 in
     let len = length (a .s .now) in
-    let k = step-place len 0 (a .at) (c .before .before .r1 .given .1) (c .before .before .before .before .number .ensures .1) (c .before .before .before .before .before .before .before .before .before .pre .0 .place) in
-    omega (arith, c .before .before .before .before .before .before .before .before .before .pre .0 .file)
+    let k = step-place len 0 (a .at) (r1 .given .1) (number .ensures .1) (asked .0 .place) in
+    omega (arith, asked .0 .file)
 
 put-row-requires : tie.Need-put-row-requires
 put-row-requires c κs =
     let a = c .before .before .before .before .before .before .before .before .before .args in
+    let asked = c .before .before .before .before .before .before .before .before .before .pre in
+    let number = c .before .before .before .before .number in
+    let r1 = c .before .before .r1 in
     let len = length (a .s .now) in
-    let k = step-place len 0 (a .at) (c .before .before .r1 .given .1) (c .before .before .before .before .number .ensures .1) (c .before .before .before .before .before .before .before .before .before .pre .0 .place) in
-    (omega (arith, c .before .before .before .before .before .before .before .before .before .pre .0 .file), omega (arith, c .before .before .before .before .before .before .before .before .before .pre .0 .file))
+    let k = step-place len 0 (a .at) (r1 .given .1) (number .ensures .1) (asked .0 .place) in
+    (omega (arith, asked .0 .file), omega (arith, asked .0 .file))
 
 add-t18 : tie.Need-add-t18
 add-t18 c = search needs
@@ -62,12 +74,21 @@ same-length c = search needs
 returns-2 : tie.Need-returns-2
 returns-2 c =
     let a = c .before .before .before .before .before .before .before .before .before .before .before .before .args in
+    let asked = c .before .before .before .before .before .before .before .before .before .before .before .before .pre in
+    let eat-if = c .before .before .before .before .before .before .before .before .before .eat-if in
+    let if1 = c .before .before .before .before .before .before .before .before .if1 in
+    let number = c .before .before .before .before .before .before .before .number in
+    let r1 = c .before .before .before .before .before .r1 in
+    let put-row = c .before .before .put-row in
     let len = length (a .s .now) in
-    let k = step-place len 0 (a .at) (c .before .before .before .before .before .r1 .given .1) (c .before .before .before .before .before .before .before .number .ensures .1) (c .before .before .before .before .before .before .before .before .before .before .before .before .pre .0 .place) in
-    let e = bare-at (number-bare (a .s .now) (a .at)) (c .before .before .before .before .before .before .before .number .ensures .0) (c .before .before .before .before .before .r1 .given .1) in
-    let l = number-past (a .s .now) (a .at) (c .before .before .before .before .before .before .before .before .before .eat-if .ensures .0) (c .before .before .before .before .before .before .before .before .if1 .taken) e in
-    let m = not-at (c .before .before .before .before .before .before .before .before .before .eat-if .ensures .1 .from) (c .before .before .before .before .before .before .before .before .if1 .taken) in
-    (rw (c .before .before .put-row .ensures) (says-of (element-number (a .s .now) (a .at) (c .before .before .before .before .before .before .before .before .before .eat-if .ensures .0) (c .before .before .before .before .before .before .before .before .if1 .taken)) (says-under kind.Literal (a .at) (says-on e))), (omega arith, omega arith, omega arith))
+    let k = step-place len 0 (a .at) (r1 .given .1) (number .ensures .1) (asked .0 .place) in
+    let e = bare-at (number-bare (a .s .now) (a .at)) (number .ensures .0) (r1 .given .1) in
+    let l = number-past (a .s .now) (a .at) (eat-if .ensures .0) (if1 .taken) e in
+    let m = not-at (eat-if .ensures .1 .from) (if1 .taken) in (
+      rw (put-row .ensures)
+          (says-of (element-number (a .s .now) (a .at) (eat-if .ensures .0) (if1 .taken)) (says-under kind.Literal (a .at) (says-on e))),
+      (omega arith, omega arith, omega arith),
+    )
 
 eat-if-requires-2 : tie.Need-eat-if-requires-2
 eat-if-requires-2 c κs = search needs
@@ -87,7 +108,15 @@ refused-requires-2 c κs = search needs
 returns-3 : tie.Need-returns-3
 returns-3 c =
     let a = c .before .before .before .before .before .before .before .before .before .before .args in
-    off-step (length (a .s .now)) 1 (a .at) (element-name (a .s .now) (a .at) (c .before .before .before .before .before .before .before .eat-if .ensures .0) (c .before .before .before .before .before .before .if1 .left) (c .before .before .before .before .before .eat-if2 .ensures .0) (c .before .before .before .before .if2 .taken) ∙ ap (under (row kind.Name (a .at))) (bare-off (ident (a .s .now) (a .at)) (c .before .before .before .ident .ensures .0) (c .before .enum-told2 .given .1))) (c .before .enum-told2 .given .1) (c .refused2 .ensures)
+    let eat-if = c .before .before .before .before .before .before .before .eat-if in
+    let if1 = c .before .before .before .before .before .before .if1 in
+    let eat-if2 = c .before .before .before .before .before .eat-if2 in
+    let if2 = c .before .before .before .before .if2 in
+    let the-ident = c .before .before .before .ident in
+    let enum-told2 = c .before .enum-told2 in
+    off-step (length (a .s .now)) 1 (a .at)
+    (element-name (a .s .now) (a .at) (eat-if .ensures .0) (if1 .left) (eat-if2 .ensures .0) (if2 .taken) ∙ ap (under (row kind.Name (a .at)))
+    (bare-off (ident (a .s .now) (a .at)) (the-ident .ensures .0) (enum-told2 .given .1))) (enum-told2 .given .1) (c .refused2 .ensures)
 
 add-put-row-3 : tie.Need-add-put-row-3
 add-put-row-3 c = search needs
@@ -95,16 +124,22 @@ add-put-row-3 c = search needs
 add-put-row-4 : tie.Need-add-put-row-4
 add-put-row-4 c =
     let a = c .before .before .before .before .before .before .before .before .before .before .before .args in
+    let asked = c .before .before .before .before .before .before .before .before .before .before .before .pre in
+    let ident = c .before .before .before .before .ident in
+    let r2 = c .before .before .r2 in
     let len = length (a .s .now) in
-    let k = step-place len 1 (a .at) (c .before .before .r2 .given .1) (c .before .before .before .before .ident .ensures .1) (c .before .before .before .before .before .before .before .before .before .before .before .pre .0 .place) in
-    omega (arith, c .before .before .before .before .before .before .before .before .before .before .before .pre .0 .file)
+    let k = step-place len 1 (a .at) (r2 .given .1) (ident .ensures .1) (asked .0 .place) in
+    omega (arith, asked .0 .file)
 
 put-row-requires-2 : tie.Need-put-row-requires-2
 put-row-requires-2 c κs =
     let a = c .before .before .before .before .before .before .before .before .before .before .before .args in
+    let asked = c .before .before .before .before .before .before .before .before .before .before .before .pre in
+    let ident = c .before .before .before .before .ident in
+    let r2 = c .before .before .r2 in
     let len = length (a .s .now) in
-    let k = step-place len 1 (a .at) (c .before .before .r2 .given .1) (c .before .before .before .before .ident .ensures .1) (c .before .before .before .before .before .before .before .before .before .before .before .pre .0 .place) in
-    (omega (arith, c .before .before .before .before .before .before .before .before .before .before .before .pre .0 .file), omega (arith, c .before .before .before .before .before .before .before .before .before .before .before .pre .0 .file))
+    let k = step-place len 1 (a .at) (r2 .given .1) (ident .ensures .1) (asked .0 .place) in
+    (omega (arith, asked .0 .file), omega (arith, asked .0 .file))
 
 add-t24 : tie.Need-add-t24
 add-t24 c = search needs
@@ -115,16 +150,33 @@ same-length-2 c = search needs
 returns-4 : tie.Need-returns-4
 returns-4 c =
     let a = c .before .before .before .before .before .before .before .before .before .before .before .before .before .before .args in
+    let asked = c .before .before .before .before .before .before .before .before .before .before .before .before .before .before .pre in
+    let eat-if = c .before .before .before .before .before .before .before .before .before .before .before .eat-if in
+    let if1 = c .before .before .before .before .before .before .before .before .before .before .if1 in
+    let eat-if2 = c .before .before .before .before .before .before .before .before .before .eat-if2 in
+    let if2 = c .before .before .before .before .before .before .before .before .if2 in
+    let ident = c .before .before .before .before .before .before .before .ident in
+    let r2 = c .before .before .before .before .before .r2 in
+    let put-row2 = c .before .before .put-row2 in
     let len = length (a .s .now) in
-    let k = step-place len 1 (a .at) (c .before .before .before .before .before .r2 .given .1) (c .before .before .before .before .before .before .before .ident .ensures .1) (c .before .before .before .before .before .before .before .before .before .before .before .before .before .before .pre .0 .place) in
-    let e = bare-at (ident-bare (a .s .now) (a .at)) (c .before .before .before .before .before .before .before .ident .ensures .0) (c .before .before .before .before .before .r2 .given .1) in
-    (rw (c .before .before .put-row2 .ensures) (says-of (element-name (a .s .now) (a .at) (c .before .before .before .before .before .before .before .before .before .before .before .eat-if .ensures .0) (c .before .before .before .before .before .before .before .before .before .before .if1 .left) (c .before .before .before .before .before .before .before .before .before .eat-if2 .ensures .0) (c .before .before .before .before .before .before .before .before .if2 .taken)) (says-under kind.Name (a .at) (says-on e))), (omega arith, omega arith, omega arith))
+    let k = step-place len 1 (a .at) (r2 .given .1) (ident .ensures .1) (asked .0 .place) in
+    let e = bare-at (ident-bare (a .s .now) (a .at)) (ident .ensures .0) (r2 .given .1) in (
+      rw (put-row2 .ensures)
+          (says-of (element-name (a .s .now) (a .at) (eat-if .ensures .0) (if1 .left) (eat-if2 .ensures .0) (if2 .taken))
+          (says-under kind.Name (a .at) (says-on e))),
+      (omega arith, omega arith, omega arith),
+    )
 
 returns-5 : tie.Need-returns-5
 returns-5 c =
     let a = c .before .before .before .before .before .before .args in
+    let asked = c .before .before .before .before .before .before .pre in
+    let eat-if = c .before .before .before .eat-if in
+    let if1 = c .before .before .if1 in
+    let eat-if2 = c .before .eat-if2 in
     off-answer (length (a .s .now)) 1 (a .at)
-    (element-field (a .s .now) (a .at) (c .before .before .before .eat-if .ensures .0) (c .before .before .if1 .left) (c .before .eat-if2 .ensures .0) (c .if2 .left) ∙ single-none (a .s .now) (a .at) (c .before .before .before .before .before .before .pre .1)) refl
+    (element-field (a .s .now) (a .at) (eat-if .ensures .0) (if1 .left) (eat-if2 .ensures .0) (c .if2 .left) ∙ single-none (a .s .now) (a .at)
+    (asked .1)) refl
 
 pub bare-element-spec : {M : Type 1} → statement M
 bare-element-spec =

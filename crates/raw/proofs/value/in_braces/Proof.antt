@@ -35,7 +35,11 @@ loop-again : tie.Need-loop-again Inv-loop μ-loop
 loop-again c = (omega arith, braces-open (c .before .before .before .loop .inv .1) (c .before .before .loop-test .taken) (c .match .keys1))
 
 returns : tie.Need-returns Inv-loop μ-loop
-returns c = braces-closed (c .before .before .before .before .loop .inv .1) (c .before .before .before .loop-test .taken) (c .before .match .keys2) (c .if1 .taken)
+returns c =
+    let turn = c .before .before .before .before .loop in
+    let test = c .before .before .before .loop-test in
+    let matched = c .before .match in
+    braces-closed (turn .inv .1) (test .taken) (matched .keys2) (c .if1 .taken)
 
 sub-depth : tie.Need-sub-depth Inv-loop μ-loop
 sub-depth c = omega arith
@@ -47,7 +51,11 @@ loop-less-2 : tie.Need-loop-less-2 Inv-loop μ-loop
 loop-less-2 c = omega arith
 
 loop-again-2 : tie.Need-loop-again-2 Inv-loop μ-loop
-loop-again-2 c = (omega arith, braces-close (c .before .before .before .before .loop .inv .1) (c .before .before .before .loop-test .taken) (c .before .match .keys2) (c .if1 .left))
+loop-again-2 c =
+    let turn = c .before .before .before .before .loop in
+    let test = c .before .before .before .loop-test in
+    let matched = c .before .match in
+    (omega arith, braces-close (turn .inv .1) (test .taken) (matched .keys2) (c .if1 .left))
 
 sub-if2 : tie.Need-sub-if2 Inv-loop μ-loop
 sub-if2 c = omega arith
@@ -56,7 +64,11 @@ add-end : tie.Need-add-end Inv-loop μ-loop
 add-end c = omega arith
 
 returns-2 : tie.Need-returns-2 Inv-loop μ-loop
-returns-2 c = braces-eof (c .before .before .before .before .loop .inv .1) (c .before .before .before .loop-test .taken) (c .before .match .keys3) (omega arith)
+returns-2 c =
+    let turn = c .before .before .before .before .loop in
+    let test = c .before .before .before .loop-test in
+    let matched = c .before .match in
+    braces-eof (turn .inv .1) (test .taken) (matched .keys3) (omega arith)
 
 add-i-3 : tie.Need-add-i-3 Inv-loop μ-loop
 add-i-3 c = omega arith
@@ -65,7 +77,11 @@ loop-less-3 : tie.Need-loop-less-3 Inv-loop μ-loop
 loop-less-3 c = omega arith
 
 loop-again-3 : tie.Need-loop-again-3 Inv-loop μ-loop
-loop-again-3 c = (omega arith, braces-far (c .before .before .before .before .loop .inv .1) (c .before .before .before .loop-test .taken) (c .before .match .keys3) (omega arith))
+loop-again-3 c =
+    let turn = c .before .before .before .before .loop in
+    let test = c .before .before .before .loop-test in
+    let matched = c .before .match in
+    (omega arith, braces-far (turn .inv .1) (test .taken) (matched .keys3) (omega arith))
 
 add-past-braces : tie.Need-add-past-braces Inv-loop μ-loop
 add-past-braces c = omega arith
@@ -78,9 +94,12 @@ loop-less-4 c = omega (arith, c .past-braces .ensures .from)
 
 loop-again-4 : tie.Need-loop-again-4 Inv-loop μ-loop
 loop-again-4 c =
+    let turn = c .before .before .before .before .loop in
+    let test = c .before .before .before .loop-test in
+    let matched = c .before .match in
     let x = c .past-braces .ensures in
-    let other = c .before .match .rest in
-    let plain = braces-plain (c .before .before .before .before .loop .inv .1) (c .before .before .before .loop-test .taken) (other .0 .0 .1) (other .0 .1) (other .1) in
+    let other = matched .rest in
+    let plain = braces-plain (turn .inv .1) (test .taken) (other .0 .0 .1) (other .0 .1) (other .1) in
     (omega (arith, x .from), braces-clear plain (omega arith) x)
 
 returns-3 : tie.Need-returns-3 Inv-loop μ-loop

@@ -27,10 +27,17 @@ loop-less : tie.Need-loop-less Inv-loop μ-loop
 loop-less c = omega arith
 
 loop-again : tie.Need-loop-again Inv-loop μ-loop
-loop-again c = number-digit (c .before .before .before .loop .dot) (c .before .before .before .loop .inv) (c .before .before .loop-test .taken) (c .if1 .taken)
+loop-again c =
+    let turn = c .before .before .before .loop in
+    let test = c .before .before .loop-test in
+    number-digit (turn .dot) (turn .inv) (test .taken) (c .if1 .taken)
 
 returns : tie.Need-returns Inv-loop μ-loop
-returns c = number-again (c .before .before .before .before .loop-test .taken) (c .before .if2 .taken) (c .before .before .before .before .before .loop .dot) (c .before .before .before .before .before .loop .inv) (c .if3 .taken)
+returns c =
+    let turn = c .before .before .before .before .before .loop in
+    let test = c .before .before .before .before .loop-test in
+    let if2 = c .before .if2 in
+    number-again (test .taken) (if2 .taken) (turn .dot) (turn .inv) (c .if3 .taken)
 
 add-i-2 : tie.Need-add-i-2 Inv-loop μ-loop
 add-i-2 c = omega arith
@@ -39,13 +46,23 @@ loop-less-2 : tie.Need-loop-less-2 Inv-loop μ-loop
 loop-less-2 c = omega arith
 
 loop-again-2 : tie.Need-loop-again-2 Inv-loop μ-loop
-loop-again-2 c = number-point (c .before .before .before .before .loop-test .taken) (c .before .if2 .taken) (c .before .before .before .before .before .loop .dot) (c .before .before .before .before .before .loop .inv) (c .if3 .left)
+loop-again-2 c =
+    let turn = c .before .before .before .before .before .loop in
+    let test = c .before .before .before .before .loop-test in
+    let if2 = c .before .if2 in
+    number-point (test .taken) (if2 .taken) (turn .dot) (turn .inv) (c .if3 .left)
 
 returns-2 : tie.Need-returns-2 Inv-loop μ-loop
-returns-2 c = number-done (c .before .before .before .before .loop .dot) (c .before .before .before .before .loop .inv) (c .before .before .before .loop-test .taken) (c .before .if1 .left) (c .if2 .left)
+returns-2 c =
+    let turn = c .before .before .before .before .loop in
+    let test = c .before .before .before .loop-test in
+    let if1 = c .before .if1 in
+    number-done (turn .dot) (turn .inv) (test .taken) (if1 .left) (c .if2 .left)
 
 returns-3 : tie.Need-returns-3 Inv-loop μ-loop
-returns-3 c = number-end (c .before .loop .dot) (c .before .loop .inv) (c .loop-test .left)
+returns-3 c =
+    let turn = c .before .loop in
+    number-end (turn .dot) (turn .inv) (c .loop-test .left)
 
 pub number-spec : {M : Type 1} → statement M
 number-spec =

@@ -26,7 +26,11 @@ shared-slice-read-match : tie.Need-shared-slice-read-match Inv-loop μ-loop
 shared-slice-read-match c = omega (arith, c .before .before .has .ensures (c .before .if1 .taken))
 
 returns : tie.Need-returns Inv-loop μ-loop
-returns c = quoted-closed (c .before .before .before .before .loop .inv) (omega (arith, c .before .before .before .has .ensures (c .before .before .if1 .taken))) (c .match .keys1)
+returns c =
+    let turn = c .before .before .before .before .loop in
+    let has = c .before .before .before .has in
+    let if1 = c .before .before .if1 in
+    quoted-closed (turn .inv) (omega (arith, has .ensures (if1 .taken))) (c .match .keys1)
 
 add-i : tie.Need-add-i Inv-loop μ-loop
 add-i c = omega (arith, c .before .before .before .has .ensures (c .before .before .if1 .taken))
@@ -35,7 +39,11 @@ loop-less : tie.Need-loop-less Inv-loop μ-loop
 loop-less c = omega (arith, c .before .before .before .has .ensures (c .before .before .if1 .taken))
 
 loop-again : tie.Need-loop-again Inv-loop μ-loop
-loop-again c = quoted-far (c .before .before .before .before .loop .inv) (omega (arith, c .before .before .before .has .ensures (c .before .before .if1 .taken))) (c .match .keys2)
+loop-again c =
+    let turn = c .before .before .before .before .loop in
+    let has = c .before .before .before .has in
+    let if1 = c .before .before .if1 in
+    quoted-far (turn .inv) (omega (arith, has .ensures (if1 .taken))) (c .match .keys2)
 
 add-j : tie.Need-add-j Inv-loop μ-loop
 add-j c = omega (arith, c .before .before .before .has .ensures (c .before .before .if1 .taken))
@@ -44,7 +52,14 @@ shared-slice-read-match2 : tie.Need-shared-slice-read-match2 Inv-loop μ-loop
 shared-slice-read-match2 c = omega (arith, c .before .before .before .before .has .ensures (c .before .before .before .if1 .taken))
 
 returns-2 : tie.Need-returns-2 Inv-loop μ-loop
-returns-2 c = let h = c .before .before .before .before .before .has .ensures (c .before .before .before .before .if1 .taken) in let m = c .before .before .match .rest in quoted-closed (quoted-plain (c .before .before .before .before .before .before .loop .inv) (omega (arith, h)) (m .0 .1) (m .1)) (omega (arith, h)) (c .match2 .keys1)
+returns-2 c =
+    let turn = c .before .before .before .before .before .before .loop in
+    let has = c .before .before .before .before .before .has in
+    let if1 = c .before .before .before .before .if1 in
+    let matched = c .before .before .match in
+    let h = has .ensures (if1 .taken) in
+    let m = matched .rest in
+    quoted-closed (quoted-plain (turn .inv) (omega (arith, h)) (m .0 .1) (m .1)) (omega (arith, h)) (c .match2 .keys1)
 
 add-i-2 : tie.Need-add-i-2 Inv-loop μ-loop
 add-i-2 c = omega (arith, c .before .before .before .before .before .has .ensures (c .before .before .before .before .if1 .taken))
@@ -53,7 +68,14 @@ loop-less-2 : tie.Need-loop-less-2 Inv-loop μ-loop
 loop-less-2 c = omega (arith, c .before .before .before .before .before .has .ensures (c .before .before .before .before .if1 .taken))
 
 loop-again-2 : tie.Need-loop-again-2 Inv-loop μ-loop
-loop-again-2 c = let h = c .before .before .before .before .before .has .ensures (c .before .before .before .before .if1 .taken) in let m = c .before .before .match .rest in quoted-far (quoted-plain (c .before .before .before .before .before .before .loop .inv) (omega (arith, h)) (m .0 .1) (m .1)) (omega (arith, h)) (c .match2 .keys2)
+loop-again-2 c =
+    let turn = c .before .before .before .before .before .before .loop in
+    let has = c .before .before .before .before .before .has in
+    let if1 = c .before .before .before .before .if1 in
+    let matched = c .before .before .match in
+    let h = has .ensures (if1 .taken) in
+    let m = matched .rest in
+    quoted-far (quoted-plain (turn .inv) (omega (arith, h)) (m .0 .1) (m .1)) (omega (arith, h)) (c .match2 .keys2)
 
 add-past-quotes : tie.Need-add-past-quotes Inv-loop μ-loop
 add-past-quotes c = omega (arith, c .before .before .before .before .before .has .ensures (c .before .before .before .before .if1 .taken))
@@ -62,10 +84,23 @@ past-quotes-requires : tie.Need-past-quotes-requires Inv-loop μ-loop
 past-quotes-requires c κs = search needs
 
 loop-less-3 : tie.Need-loop-less-3 Inv-loop μ-loop
-loop-less-3 c = omega (arith, c .before .before .before .before .before .before .has .ensures (c .before .before .before .before .before .if1 .taken), c .past-quotes .ensures .from)
+loop-less-3 c =
+    let has = c .before .before .before .before .before .before .has in
+    let if1 = c .before .before .before .before .before .if1 in
+    omega (arith, has .ensures (if1 .taken), c .past-quotes .ensures .from)
 
 loop-again-3 : tie.Need-loop-again-3 Inv-loop μ-loop
-loop-again-3 c = let h = c .before .before .before .before .before .before .has .ensures (c .before .before .before .before .before .if1 .taken) in let m = c .before .before .before .match .rest in let n = c .before .match2 .rest in quoted-clear (quoted-plain (quoted-plain (c .before .before .before .before .before .before .before .loop .inv) (omega (arith, h)) (m .0 .1) (m .1)) (omega (arith, h)) (n .0 .1) (n .1)) (omega (arith, h)) (c .past-quotes .ensures)
+loop-again-3 c =
+    let turn = c .before .before .before .before .before .before .before .loop in
+    let has = c .before .before .before .before .before .before .has in
+    let if1 = c .before .before .before .before .before .if1 in
+    let matched = c .before .before .before .match in
+    let match2 = c .before .match2 in
+    let h = has .ensures (if1 .taken) in
+    let m = matched .rest in
+    let n = match2 .rest in
+    quoted-clear (quoted-plain (quoted-plain (turn .inv) (omega (arith, h)) (m .0 .1) (m .1)) (omega (arith, h)) (n .0 .1) (n .1)) (omega (arith, h))
+    (c .past-quotes .ensures)
 
 quoted-end-requires : tie.Need-quoted-end-requires Inv-loop μ-loop
 quoted-end-requires c κs = search needs

@@ -33,13 +33,21 @@ loop-less : tie.Need-loop-less Inv-loop μ-loop
 loop-less c = omega arith
 
 loop-again : tie.Need-loop-again Inv-loop μ-loop
-loop-again c = quoted-escape (c .before .before .before .before .loop .inv) (c .before .before .before .loop-test .taken) (c .before .match .keys2) (c .if1 .taken)
+loop-again c =
+    let turn = c .before .before .before .before .loop in
+    let test = c .before .before .before .loop-test in
+    let matched = c .before .match in
+    quoted-escape (turn .inv) (test .taken) (matched .keys2) (c .if1 .taken)
 
 loop-less-2 : tie.Need-loop-less-2 Inv-loop μ-loop
 loop-less-2 c = omega arith
 
 loop-again-2 : tie.Need-loop-again-2 Inv-loop μ-loop
-loop-again-2 c = quoted-cut (c .before .before .before .before .loop .inv) (c .before .before .before .loop-test .taken) (c .before .match .keys2) (c .if1 .left)
+loop-again-2 c =
+    let turn = c .before .before .before .before .loop in
+    let test = c .before .before .before .loop-test in
+    let matched = c .before .match in
+    quoted-cut (turn .inv) (test .taken) (matched .keys2) (c .if1 .left)
 
 add-i-3 : tie.Need-add-i-3 Inv-loop μ-loop
 add-i-3 c = omega arith

@@ -21,7 +21,9 @@ enum-told c = search needs
 returns : tie.Need-returns
 returns c =
     let a = c .before .before .before .before .args in
-    off-onward (length (a .s .now)) 2 (a .at) (string-first-off (a .s .now) (a .at) (c .before .before .quote .ensures .0) (c .enum-told .given .1)) (c .enum-told .given .1)
+    let quote = c .before .before .quote in
+    off-onward (length (a .s .now)) 2 (a .at) (string-first-off (a .s .now) (a .at) (quote .ensures .0) (c .enum-told .given .1))
+    (c .enum-told .given .1)
 
 quoted-requires : tie.Need-quoted-requires
 quoted-requires c κs = search needs
@@ -35,11 +37,11 @@ enum-told-2 c = search needs
 returns-2 : tie.Need-returns-2
 returns-2 c =
     let a = c .before .before .before .before .before .before .before .before .args in
-    off-onward
-    (length (a .s .now))
-    2
-    (a .at)
-    (string-inside-off (a .s .now) (a .at) (c .before .before .before .before .before .before .quote .ensures .0) (c .before .before .before .before .r1 .given .1) (c .before .before .quoted .ensures .0) (c .enum-told2 .given .1))
+    let quote = c .before .before .before .before .before .before .quote in
+    let r1 = c .before .before .before .before .r1 in
+    let quoted = c .before .before .quoted in
+    off-onward (length (a .s .now)) 2 (a .at)
+    (string-inside-off (a .s .now) (a .at) (quote .ensures .0) (r1 .given .1) (quoted .ensures .0) (c .enum-told2 .given .1))
     (c .enum-told2 .given .1)
 
 quote-requires-2 : tie.Need-quote-requires-2
@@ -48,10 +50,16 @@ quote-requires-2 c κs = search needs
 returns-3 : tie.Need-returns-3
 returns-3 c =
     let a = c .before .before .before .before .before .before .before .before .before .before .args in
-    let k = step-ahead (length (a .s .now)) 1 (a .at) (c .before .before .before .before .before .before .r1 .given .1) (c .before .before .before .before .before .before .before .before .quote .ensures .1) in
-    let l = step-ahead (length (a .s .now)) 0 _ (c .before .before .r2 .given .1) (c .before .before .before .before .quoted .ensures .1) in
-    let e = string-rest (a .s .now) (a .at) (c .before .before .before .before .before .before .before .before .quote .ensures .0) (c .before .before .before .before .before .before .r1 .given .1) (c .before .before .before .before .quoted .ensures .0) (c .before .before .r2 .given .1) in
-    (c .quote2 .ensures .0 ∙ sym (ap stepOf e), onward-from (length (a .s .now)) 2 (a .at) 1 _ (c .quote2 .result) (c .quote2 .ensures .1) (omega arith) (omega arith))
+    let quote = c .before .before .before .before .before .before .before .before .quote in
+    let r1 = c .before .before .before .before .before .before .r1 in
+    let quoted = c .before .before .before .before .quoted in
+    let r2 = c .before .before .r2 in
+    let k = step-ahead (length (a .s .now)) 1 (a .at) (r1 .given .1) (quote .ensures .1) in
+    let l = step-ahead (length (a .s .now)) 0 _ (r2 .given .1) (quoted .ensures .1) in
+    let e = string-rest (a .s .now) (a .at) (quote .ensures .0) (r1 .given .1) (quoted .ensures .0) (r2 .given .1) in (
+      c .quote2 .ensures .0 ∙ sym (ap stepOf e),
+      onward-from (length (a .s .now)) 2 (a .at) 1 _ (c .quote2 .result) (c .quote2 .ensures .1) (omega arith) (omega arith),
+    )
 
 pub string-spec : {M : Type 1} → statement M
 string-spec =

@@ -25,7 +25,11 @@ returns : tie.Need-returns
 unfolding stringLiteral
 returns c =
     let a = c .before .before .before .before .before .before .args in
-    off-step (length (a .s .now)) 2 (a .at) (opens-off quote quoted quote (a .s .now) (a .at) (quote-bare (a .s .now) (a .at)) (quoted-bare (a .s .now)) (quote-bare (a .s .now)) (c .before .before .before .quote .ensures .0) (c .before .enum-told .given .1)) (c .before .enum-told .given .1) (c .refused .ensures)
+    let the-quote = c .before .before .before .quote in
+    let enum-told = c .before .enum-told in
+    off-step (length (a .s .now)) 2 (a .at)
+    (opens-off quote quoted quote (a .s .now) (a .at) (quote-bare (a .s .now) (a .at)) (quoted-bare (a .s .now)) (quote-bare (a .s .now))
+    (the-quote .ensures .0) (enum-told .given .1)) (enum-told .given .1) (c .refused .ensures)
 
 quoted-requires : tie.Need-quoted-requires
 quoted-requires c κs = search needs
@@ -43,7 +47,13 @@ returns-2 : tie.Need-returns-2
 unfolding stringLiteral
 returns-2 c =
     let a = c .before .before .before .before .before .before .before .before .before .before .args in
-    off-step (length (a .s .now)) 2 (a .at) (inside-off quote quoted quote (a .s .now) (a .at) (quote-bare (a .s .now) (a .at)) (quoted-bare (a .s .now)) (quote-bare (a .s .now)) (c .before .before .before .before .before .before .before .quote .ensures .0) (c .before .before .before .before .before .r1 .given .1) (c .before .before .before .quoted .ensures .0) (c .before .enum-told2 .given .1)) (c .before .enum-told2 .given .1) (c .refused2 .ensures)
+    let the-quote = c .before .before .before .before .before .before .before .quote in
+    let r1 = c .before .before .before .before .before .r1 in
+    let the-quoted = c .before .before .before .quoted in
+    let enum-told2 = c .before .enum-told2 in
+    off-step (length (a .s .now)) 2 (a .at)
+    (inside-off quote quoted quote (a .s .now) (a .at) (quote-bare (a .s .now) (a .at)) (quoted-bare (a .s .now)) (quote-bare (a .s .now))
+    (the-quote .ensures .0) (r1 .given .1) (the-quoted .ensures .0) (enum-told2 .given .1)) (enum-told2 .given .1) (c .refused2 .ensures)
 
 quote-requires-2 : tie.Need-quote-requires-2
 quote-requires-2 c κs = search needs
@@ -61,31 +71,55 @@ returns-3 : tie.Need-returns-3
 unfolding stringLiteral
 returns-3 c =
     let a = c .before .before .before .before .before .before .before .before .before .before .before .before .before .before .args in
-    off-step (length (a .s .now)) 2 (a .at) (closes-off quote quoted quote (a .s .now) (a .at) (quote-bare (a .s .now) (a .at)) (quoted-bare (a .s .now)) (quote-bare (a .s .now)) (c .before .before .before .before .before .before .before .before .before .before .before .quote .ensures .0) (c .before .before .before .before .before .before .before .before .before .r1 .given .1) (c .before .before .before .before .before .before .before .quoted .ensures .0) (c .before .before .before .before .before .r2 .given .1) (c .before .before .before .quote2 .ensures .0) (c .before .enum-told3 .given .1)) (c .before .enum-told3 .given .1) (c .refused3 .ensures)
+    let the-quote = c .before .before .before .before .before .before .before .before .before .before .before .quote in
+    let r1 = c .before .before .before .before .before .before .before .before .before .r1 in
+    let the-quoted = c .before .before .before .before .before .before .before .quoted in
+    let r2 = c .before .before .before .before .before .r2 in
+    let quote2 = c .before .before .before .quote2 in
+    let enum-told3 = c .before .enum-told3 in
+    off-step (length (a .s .now)) 2 (a .at)
+    (closes-off quote quoted quote (a .s .now) (a .at) (quote-bare (a .s .now) (a .at)) (quoted-bare (a .s .now)) (quote-bare (a .s .now))
+    (the-quote .ensures .0) (r1 .given .1) (the-quoted .ensures .0) (r2 .given .1) (quote2 .ensures .0) (enum-told3 .given .1))
+    (enum-told3 .given .1) (c .refused3 .ensures)
 
 add-put-row : tie.Need-add-put-row
 add-put-row c =
     let a = c .before .before .before .before .before .before .before .before .before .before .before .before .before .before .before .args in
+    let asked = c .before .before .before .before .before .before .before .before .before .before .before .before .before .before .before .pre in
+    let quote = c .before .before .before .before .before .before .before .before .before .before .before .before .quote in
+    let r1 = c .before .before .before .before .before .before .before .before .before .before .r1 in
+    let quoted = c .before .before .before .before .before .before .before .before .quoted in
+    let r2 = c .before .before .before .before .before .before .r2 in
     let len = length (a .s .now) in
-    let k = step-place len 1 (a .at) (c .before .before .before .before .before .before .before .before .before .before .r1 .given .1) (c .before .before .before .before .before .before .before .before .before .before .before .before .quote .ensures .1) (c .before .before .before .before .before .before .before .before .before .before .before .before .before .before .before .pre .place) in
-    let l = step-place len 0 _ (c .before .before .before .before .before .before .r2 .given .1) (c .before .before .before .before .before .before .before .before .quoted .ensures .1) (k .1) in
-    omega (arith, c .before .before .before .before .before .before .before .before .before .before .before .before .before .before .before .pre .file)
+    let k = step-place len 1 (a .at) (r1 .given .1) (quote .ensures .1) (asked .place) in
+    let l = step-place len 0 _ (r2 .given .1) (quoted .ensures .1) (k .1) in
+    omega (arith, asked .file)
 
 add-put-row-2 : tie.Need-add-put-row-2
 add-put-row-2 c =
     let a = c .before .before .before .before .before .before .before .before .before .before .before .before .before .before .before .args in
+    let asked = c .before .before .before .before .before .before .before .before .before .before .before .before .before .before .before .pre in
+    let quote = c .before .before .before .before .before .before .before .before .before .before .before .before .quote in
+    let r1 = c .before .before .before .before .before .before .before .before .before .before .r1 in
+    let quoted = c .before .before .before .before .before .before .before .before .quoted in
+    let r2 = c .before .before .before .before .before .before .r2 in
     let len = length (a .s .now) in
-    let k = step-place len 1 (a .at) (c .before .before .before .before .before .before .before .before .before .before .r1 .given .1) (c .before .before .before .before .before .before .before .before .before .before .before .before .quote .ensures .1) (c .before .before .before .before .before .before .before .before .before .before .before .before .before .before .before .pre .place) in
-    let l = step-place len 0 _ (c .before .before .before .before .before .before .r2 .given .1) (c .before .before .before .before .before .before .before .before .quoted .ensures .1) (k .1) in
-    omega (arith, c .before .before .before .before .before .before .before .before .before .before .before .before .before .before .before .pre .file)
+    let k = step-place len 1 (a .at) (r1 .given .1) (quote .ensures .1) (asked .place) in
+    let l = step-place len 0 _ (r2 .given .1) (quoted .ensures .1) (k .1) in
+    omega (arith, asked .file)
 
 put-row-requires : tie.Need-put-row-requires
 put-row-requires c κs =
     let a = c .before .before .before .before .before .before .before .before .before .before .before .before .before .before .before .args in
+    let asked = c .before .before .before .before .before .before .before .before .before .before .before .before .before .before .before .pre in
+    let quote = c .before .before .before .before .before .before .before .before .before .before .before .before .quote in
+    let r1 = c .before .before .before .before .before .before .before .before .before .before .r1 in
+    let quoted = c .before .before .before .before .before .before .before .before .quoted in
+    let r2 = c .before .before .before .before .before .before .r2 in
     let len = length (a .s .now) in
-    let k = step-place len 1 (a .at) (c .before .before .before .before .before .before .before .before .before .before .r1 .given .1) (c .before .before .before .before .before .before .before .before .before .before .before .before .quote .ensures .1) (c .before .before .before .before .before .before .before .before .before .before .before .before .before .before .before .pre .place) in
-    let l = step-place len 0 _ (c .before .before .before .before .before .before .r2 .given .1) (c .before .before .before .before .before .before .before .before .quoted .ensures .1) (k .1) in
-    (omega (arith, c .before .before .before .before .before .before .before .before .before .before .before .before .before .before .before .pre .file), omega (arith, c .before .before .before .before .before .before .before .before .before .before .before .before .before .before .before .pre .file))
+    let k = step-place len 1 (a .at) (r1 .given .1) (quote .ensures .1) (asked .place) in
+    let l = step-place len 0 _ (r2 .given .1) (quoted .ensures .1) (k .1) in
+    (omega (arith, asked .file), omega (arith, asked .file))
 
 add-t16 : tie.Need-add-t16
 add-t16 c = search needs
@@ -97,12 +131,21 @@ returns-4 : tie.Need-returns-4
 unfolding stringLiteral
 returns-4 c =
     let a = c .before .before .before .before .before .before .before .before .before .before .before .before .before .before .before .before .before .before .args in
+    let asked = c .before .before .before .before .before .before .before .before .before .before .before .before .before .before .before .before .before .before .pre in
+    let the-quote = c .before .before .before .before .before .before .before .before .before .before .before .before .before .before .before .quote in
+    let r1 = c .before .before .before .before .before .before .before .before .before .before .before .before .before .r1 in
+    let the-quoted = c .before .before .before .before .before .before .before .before .before .before .before .quoted in
+    let r2 = c .before .before .before .before .before .before .before .before .before .r2 in
+    let quote2 = c .before .before .before .before .before .before .before .quote2 in
+    let r3 = c .before .before .before .before .before .r3 in
+    let put-row = c .before .before .put-row in
     let len = length (a .s .now) in
-    let k = step-place len 1 (a .at) (c .before .before .before .before .before .before .before .before .before .before .before .before .before .r1 .given .1) (c .before .before .before .before .before .before .before .before .before .before .before .before .before .before .before .quote .ensures .1) (c .before .before .before .before .before .before .before .before .before .before .before .before .before .before .before .before .before .before .pre .place) in
-    let l = step-place len 0 _ (c .before .before .before .before .before .before .before .before .before .r2 .given .1) (c .before .before .before .before .before .before .before .before .before .before .before .quoted .ensures .1) (k .1) in
-    let m = step-place len 1 _ (c .before .before .before .before .before .r3 .given .1) (c .before .before .before .before .before .before .before .quote2 .ensures .1) (l .1) in
-    let e = closes-on quote quoted quote (a .s .now) (a .at) (quote-bare (a .s .now) (a .at)) (quoted-bare (a .s .now)) (quote-bare (a .s .now)) (c .before .before .before .before .before .before .before .before .before .before .before .before .before .before .before .quote .ensures .0) (c .before .before .before .before .before .before .before .before .before .before .before .before .before .r1 .given .1) (c .before .before .before .before .before .before .before .before .before .before .before .quoted .ensures .0) (c .before .before .before .before .before .before .before .before .before .r2 .given .1) (c .before .before .before .before .before .before .before .quote2 .ensures .0) (c .before .before .before .before .before .r3 .given .1) in
-    (rw (c .before .before .put-row .ensures) e, (omega arith, omega arith, omega arith))
+    let k = step-place len 1 (a .at) (r1 .given .1) (the-quote .ensures .1) (asked .place) in
+    let l = step-place len 0 _ (r2 .given .1) (the-quoted .ensures .1) (k .1) in
+    let m = step-place len 1 _ (r3 .given .1) (quote2 .ensures .1) (l .1) in
+    let e = closes-on quote quoted quote (a .s .now) (a .at) (quote-bare (a .s .now) (a .at)) (quoted-bare (a .s .now)) (quote-bare (a .s .now))
+    (the-quote .ensures .0) (r1 .given .1) (the-quoted .ensures .0) (r2 .given .1) (quote2 .ensures .0) (r3 .given .1) in
+    (rw (put-row .ensures) e, (omega arith, omega arith, omega arith))
 
 pub string-literal-spec : {M : Type 1} → statement M
 string-literal-spec =

@@ -66,25 +66,40 @@ enum-told c = search needs
 
 returns-2 : tie.Need-returns-2 Inv-loop μ-loop
 returns-2 c =
-    let l = c .before .before .before .before .before .before .before .before .before .before in
     let a = c .before .before .before .before .before .before .before .before .before .before .before .before .before .args in
+    let l = c .before .before .before .before .before .before .before .before .before .before in
+    let step = c .before .before .before .before .before .before .step in
+    let state = c .before .before .before .before .state in
+    let value-row = c .before .before .value-row in
     let m = l .loop .inv in
-    bad-rows (a .rows .now) (m .0) (named-other (a .rows .now) (l .loop .i) (l .loop .state) _ _ _ (omega arith) (c .before .before .before .before .before .before .step .ensures) (c .before .before .before .before .state .given .1) (c .before .before .value-row .ensures) (m .3) (c .enum-told .given .1))
+    bad-rows (a .rows .now) (m .0)
+    (named-other (a .rows .now) (l .loop .i) (l .loop .state) _ _ _ (omega arith) (step .ensures) (state .given .1) (value-row .ensures) (m .3)
+    (c .enum-told .given .1))
 
 loop-less-2 : tie.Need-loop-less-2 Inv-loop μ-loop
 loop-less-2 c =
-    let l = c .before .before .before .before .before .before .before .before .before .before .before in
     let a = c .before .before .before .before .before .before .before .before .before .before .before .before .before .before .args in
+    let l = c .before .before .before .before .before .before .before .before .before .before .before in
+    let step = c .before .before .before .before .before .before .before .step in
+    let state = c .before .before .before .before .before .state in
+    let value-row = c .before .before .before .value-row in
+    let next = c .before .next in
     let m = l .loop .inv in
-    let x = named-value (a .rows .now) (l .loop .i) (l .loop .state) _ _ _ (omega arith) (c .before .before .before .before .before .before .before .step .ensures) (c .before .before .before .before .before .state .given .1) (c .before .before .before .value-row .ensures) (m .3) _ (c .before .next .given .1) in
+    let x = named-value (a .rows .now) (l .loop .i) (l .loop .state) _ _ _ (omega arith) (step .ensures) (state .given .1) (value-row .ensures) (m .3)
+    _ (next .given .1) in
     omega (arith, x .0 .0, x .0 .1)
 
 loop-again-2 : tie.Need-loop-again-2 Inv-loop μ-loop
 loop-again-2 c =
-    let l = c .before .before .before .before .before .before .before .before .before .before .before in
     let a = c .before .before .before .before .before .before .before .before .before .before .before .before .before .before .args in
+    let l = c .before .before .before .before .before .before .before .before .before .before .before in
+    let step = c .before .before .before .before .before .before .before .step in
+    let state = c .before .before .before .before .before .state in
+    let value-row = c .before .before .before .value-row in
+    let next = c .before .next in
     let m = l .loop .inv in
-    let x = named-value (a .rows .now) (l .loop .i) (l .loop .state) _ _ _ (omega arith) (c .before .before .before .before .before .before .before .step .ensures) (c .before .before .before .before .before .state .given .1) (c .before .before .before .value-row .ensures) (m .3) _ (c .before .next .given .1) in
+    let x = named-value (a .rows .now) (l .loop .i) (l .loop .state) _ _ _ (omega arith) (step .ensures) (state .given .1) (value-row .ensures) (m .3)
+    _ (next .given .1) in
     (m .0, omega (arith, x .0 .0), omega (arith, x .0 .0, x .0 .1), x .1)
 
 is-whole-requires : tie.Need-is-whole-requires Inv-loop μ-loop
@@ -92,17 +107,21 @@ is-whole-requires c κs = search needs
 
 returns-3 : tie.Need-returns-3 Inv-loop μ-loop
 returns-3 c =
-    let l = c .before .before .before in
     let a = c .before .before .before .before .before .before .args in
+    let l = c .before .before .before in
+    let test = c .before .before .loop-test in
+    let is-whole = c .before .is-whole in
     let m = l .loop .inv in
-    rw (← c .before .is-whole .ensures, c .if2 .taken) at (ended (a .rows .now) (l .loop .i) (l .loop .state) (c .before .before .loop-test .left) (m .0) (m .3))
+    rw (← is-whole .ensures, c .if2 .taken) at (ended (a .rows .now) (l .loop .i) (l .loop .state) (test .left) (m .0) (m .3))
 
 returns-4 : tie.Need-returns-4 Inv-loop μ-loop
 returns-4 c =
-    let l = c .before .before .before in
     let a = c .before .before .before .before .before .before .args in
+    let l = c .before .before .before in
+    let test = c .before .before .loop-test in
+    let is-whole = c .before .is-whole in
     let m = l .loop .inv in
-    rw (← c .before .is-whole .ensures, c .if2 .left) at (ended (a .rows .now) (l .loop .i) (l .loop .state) (c .before .before .loop-test .left) (m .0) (m .3))
+    rw (← is-whole .ensures, c .if2 .left) at (ended (a .rows .now) (l .loop .i) (l .loop .state) (test .left) (m .0) (m .3))
 
 pub check-spec : {M : Type 1} → statement M
 check-spec =

@@ -75,11 +75,17 @@ returns-4 c = rw (c .before .enum-told2 .given .1) (c .or-wrong2 .ensures ∙ or
 
 returns-5 : tie.Need-returns-5
 unfolding next
-returns-5 c = rw (c .before .before .state2 .given .1) (c .or-wrong3 .ensures ∙ or-wrong (eqb (c .before .before .before .before .args .kind) 5) (chunk (c .before .before .state2 .given .0 .0)))
+returns-5 c =
+    let a = c .before .before .before .before .args in
+    let state2 = c .before .before .state2 in
+    rw (state2 .given .1) (c .or-wrong3 .ensures ∙ or-wrong (eqb (a .kind) 5) (chunk (state2 .given .0 .0)))
 
 returns-6 : tie.Need-returns-6
 unfolding next
-returns-6 c = rw (c .before .before .state3 .given .1) (c .or-wrong4 .ensures ∙ or-wrong (chunky (c .before .before .before .before .args .kind)) (chunks (c .before .before .state3 .given .0 .0)))
+returns-6 c =
+    let a = c .before .before .before .before .args in
+    let state3 = c .before .before .state3 in
+    rw (state3 .given .1) (c .or-wrong4 .ensures ∙ or-wrong (chunky (a .kind)) (chunks (state3 .given .0 .0)))
 
 returns-7 : tie.Need-returns-7
 unfolding next

@@ -35,18 +35,24 @@ returns-7 c = rw (c .match .keys7)
 
 returns-8 : tie.Need-returns-8
 returns-8 c =
-    let r = c .before .before .match .rest in
-    after-chunk _ _ (r .0 .0 .0 .0 .0 .0 .1) (r .0 .0 .0 .0 .0 .1) (r .0 .0 .0 .0 .1) (r .0 .0 .0 .1) (r .0 .0 .1) (c .before .if1 .left) (c .if2 .taken)
+    let matched = c .before .before .match in
+    let if1 = c .before .if1 in
+    let r = matched .rest in
+    after-chunk _ _ (r .0 .0 .0 .0 .0 .0 .1) (r .0 .0 .0 .0 .0 .1) (r .0 .0 .0 .0 .1) (r .0 .0 .0 .1) (r .0 .0 .1) (if1 .left) (c .if2 .taken)
 
 returns-9 : tie.Need-returns-9
 returns-9 c =
-    let r = c .before .match .rest in
-    after-else _ _ (r .0 .0 .0 .0 .0 .0 .1) (r .0 .0 .0 .0 .0 .1) (r .0 .0 .0 .0 .1) (r .0 .0 .0 .1) (r .0 .0 .1) (λ e. omega arith) (λ e. omega arith) (r .0 .1) (r .1)
+    let matched = c .before .match in
+    let r = matched .rest in
+    after-else _ _ (r .0 .0 .0 .0 .0 .0 .1) (r .0 .0 .0 .0 .0 .1) (r .0 .0 .0 .0 .1) (r .0 .0 .0 .1) (r .0 .0 .1) (λ e. omega arith)
+    (λ e. omega arith) (r .0 .1) (r .1)
 
 returns-10 : tie.Need-returns-10
 returns-10 c =
-    let r = c .before .before .match .rest in
-    after-else _ _ (r .0 .0 .0 .0 .0 .0 .1) (r .0 .0 .0 .0 .0 .1) (r .0 .0 .0 .0 .1) (r .0 .0 .0 .1) (r .0 .0 .1) (λ e. omega arith) (λ e. omega arith) (r .0 .1) (r .1)
+    let matched = c .before .before .match in
+    let r = matched .rest in
+    after-else _ _ (r .0 .0 .0 .0 .0 .0 .1) (r .0 .0 .0 .0 .0 .1) (r .0 .0 .0 .0 .1) (r .0 .0 .0 .1) (r .0 .0 .1) (λ e. omega arith)
+    (λ e. omega arith) (r .0 .1) (r .1)
 
 pub after-spec : {M : Type 1} → statement M
 after-spec =

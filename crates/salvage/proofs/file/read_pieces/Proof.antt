@@ -51,7 +51,8 @@ read-piece-requires c κs =
     let x = c .before .before .before in
     let l = x .before .before .loop in
     let b = x .before .before .before .before .before in
-    going-asks (b .args .s .now) (b .args .rows .now) (l .rows) (b .args .valid) (l .at) _ (l .n) (l .sound) (l .inv) (x .piece-end .ensures) (b .pre .short) (b .pre .valid)
+    going-asks (b .args .s .now) (b .args .rows .now) (l .rows) (b .args .valid) (l .at) _ (l .n) (l .sound) (l .inv) (x .piece-end .ensures)
+    (b .pre .short) (b .pre .valid)
 
 enum-known-k : tie.Need-enum-known-k Inv-loop μ-loop
 enum-known-k c = search needs
@@ -59,11 +60,13 @@ enum-known-k c = search needs
 add-n : tie.Need-add-n Inv-loop μ-loop
 add-n c =
     let y = c .before .before .before .before .before in
+    let k = c .before .k in
     let m = y .before .before .before in
     let x = m .before in
     let l = x .before .before .loop in
     let b = x .before .before .before .before .before in
-    let g = going-sound (b .args .s .now) (b .args .rows .now) (l .rows) (b .args .valid) (l .at) _ (l .n) (l .sound) (l .inv) (x .piece-end .ensures) (b .pre .valid) (m .least .ensures) (y .read-piece .last .1 .1 .0) (y .read-piece .ensures) (y .read-piece .kept .1 .1 .0) (c .before .k .given .1) in
+    let g = going-sound (b .args .s .now) (b .args .rows .now) (l .rows) (b .args .valid) (l .at) _ (l .n) (l .sound) (l .inv) (x .piece-end .ensures)
+    (b .pre .valid) (m .least .ensures) (y .read-piece .last .1 .1 .0) (y .read-piece .ensures) (y .read-piece .kept .1 .1 .0) (k .given .1) in
     omega (arith, g .most, g .place, b .pre .short)
 
 loop-less : tie.Need-loop-less Inv-loop μ-loop
@@ -72,11 +75,13 @@ loop-less c = let x = c .before .before .before .before .before .before .before 
 loop-again : tie.Need-loop-again Inv-loop μ-loop
 loop-again c =
     let y = c .before .before .before .before .before in
+    let k = c .before .k in
     let m = y .before .before .before in
     let x = m .before in
     let l = x .before .before .loop in
     let b = x .before .before .before .before .before in
-    going-sound (b .args .s .now) (b .args .rows .now) (l .rows) (b .args .valid) (l .at) _ (l .n) (l .sound) (l .inv) (x .piece-end .ensures) (b .pre .valid) (m .least .ensures) (y .read-piece .last .1 .1 .0) (y .read-piece .ensures) (y .read-piece .kept .1 .1 .0) (c .before .k .given .1)
+    going-sound (b .args .s .now) (b .args .rows .now) (l .rows) (b .args .valid) (l .at) _ (l .n) (l .sound) (l .inv) (x .piece-end .ensures)
+    (b .pre .valid) (m .least .ensures) (y .read-piece .last .1 .1 .0) (y .read-piece .ensures) (y .read-piece .kept .1 .1 .0) (k .given .1)
 
 enum-known-k-2 : tie.Need-enum-known-k-2 Inv-loop μ-loop
 enum-known-k-2 c = search needs
@@ -84,11 +89,14 @@ enum-known-k-2 c = search needs
 add-n-2 : tie.Need-add-n-2 Inv-loop μ-loop
 add-n-2 c =
     let y = c .before .before .before .before .before in
+    let k2 = c .before .k2 in
     let m = y .before .before .before in
     let x = m .before in
     let l = x .before .before .loop in
     let b = x .before .before .before .before .before in
-    let g = going-damaged (b .args .s .now) (b .args .rows .now) (l .rows) (b .args .valid) (l .at) _ (l .n) (l .sound) (l .inv) (x .piece-end .ensures) (b .pre .valid) (m .least .ensures) (y .read-piece .last .1 .1 .0) (y .read-piece .ensures) (y .read-piece .kept .1 .1 .0) (c .before .k2 .given .1) in
+    let g = going-damaged (b .args .s .now) (b .args .rows .now) (l .rows) (b .args .valid) (l .at) _ (l .n) (l .sound) (l .inv)
+    (x .piece-end .ensures) (b .pre .valid) (m .least .ensures) (y .read-piece .last .1 .1 .0) (y .read-piece .ensures)
+    (y .read-piece .kept .1 .1 .0) (k2 .given .1) in
     omega (arith, g .most, g .place, b .pre .short)
 
 loop-less-2 : tie.Need-loop-less-2 Inv-loop μ-loop
@@ -97,11 +105,13 @@ loop-less-2 c = let x = c .before .before .before .before .before .before .befor
 loop-again-2 : tie.Need-loop-again-2 Inv-loop μ-loop
 loop-again-2 c =
     let y = c .before .before .before .before .before in
+    let k2 = c .before .k2 in
     let m = y .before .before .before in
     let x = m .before in
     let l = x .before .before .loop in
     let b = x .before .before .before .before .before in
-    going-damaged (b .args .s .now) (b .args .rows .now) (l .rows) (b .args .valid) (l .at) _ (l .n) (l .sound) (l .inv) (x .piece-end .ensures) (b .pre .valid) (m .least .ensures) (y .read-piece .last .1 .1 .0) (y .read-piece .ensures) (y .read-piece .kept .1 .1 .0) (c .before .k2 .given .1)
+    going-damaged (b .args .s .now) (b .args .rows .now) (l .rows) (b .args .valid) (l .at) _ (l .n) (l .sound) (l .inv) (x .piece-end .ensures)
+    (b .pre .valid) (m .least .ensures) (y .read-piece .last .1 .1 .0) (y .read-piece .ensures) (y .read-piece .kept .1 .1 .0) (k2 .given .1)
 
 same-length : tie.Need-same-length Inv-loop μ-loop
 same-length c = c .before .before .loop .inv .same
@@ -109,8 +119,10 @@ same-length c = c .before .before .loop .inv .same
 returns : tie.Need-returns Inv-loop μ-loop
 returns c =
     let l = c .before .before in
+    let test = c .before .loop-test in
     let a = l .before .before .before .args in
-    gone-sound (a .s .now) (a .rows .now) (l .loop .rows) (a .valid) (l .loop .at) (l .loop .n) (l .loop .sound) (l .loop .inv) (c .before .loop-test .left) (c .if1 .taken)
+    gone-sound (a .s .now) (a .rows .now) (l .loop .rows) (a .valid) (l .loop .at) (l .loop .n) (l .loop .sound) (l .loop .inv) (test .left)
+    (c .if1 .taken)
 
 same-length-2 : tie.Need-same-length-2 Inv-loop μ-loop
 same-length-2 c = c .before .before .loop .inv .same
@@ -118,8 +130,10 @@ same-length-2 c = c .before .before .loop .inv .same
 returns-2 : tie.Need-returns-2 Inv-loop μ-loop
 returns-2 c =
     let l = c .before .before in
+    let test = c .before .loop-test in
     let a = l .before .before .before .args in
-    gone-damaged (a .s .now) (a .rows .now) (l .loop .rows) (a .valid) (l .loop .at) (l .loop .n) (l .loop .sound) (l .loop .inv) (c .before .loop-test .left) (c .if1 .left)
+    gone-damaged (a .s .now) (a .rows .now) (l .loop .rows) (a .valid) (l .loop .at) (l .loop .n) (l .loop .sound) (l .loop .inv) (test .left)
+    (c .if1 .left)
 
 pub read-pieces-spec : {M : Type 1} → statement M
 read-pieces-spec =

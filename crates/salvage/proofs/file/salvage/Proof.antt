@@ -31,9 +31,12 @@ enum-known-n-2 c = search needs
 write-damaged-requires : tie.Need-write-damaged-requires
 write-damaged-requires c κs =
     let r = c .before .before .before .before .before in
+    let n2 = c .before .before .n2 in
     let v = r .before .before in
-    let i = v .before in
-    (counted-damaged (i .before .before .before .args .s .now) (i .if1 .left) (r .read-pieces .ensures) (c .before .before .n2 .given .1), record { short = i .if1 .left; valid = v .valid-to .ensures })
+    let i = v .before in (
+      counted-damaged (i .before .before .before .args .s .now) (i .if1 .left) (r .read-pieces .ensures) (n2 .given .1),
+      record { short = i .if1 .left; valid = v .valid-to .ensures },
+    )
 
 same-length : tie.Need-same-length
 same-length c = search needs

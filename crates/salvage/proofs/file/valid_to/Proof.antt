@@ -17,7 +17,11 @@ returns : tie.Need-returns
 returns c = valid-all (c .before .before .before .before .args .s .now) (c .before .before .validate .ensures) (c .enum-told .given .1)
 
 returns-2 : tie.Need-returns-2
-returns-2 c = valid-part (c .before .before .before .before .before .args .s .now) (c .before .before .before .validate .ensures) (c .before .i .given .1)
+returns-2 c =
+    let a = c .before .before .before .before .before .args in
+    let validate = c .before .before .before .validate in
+    let i = c .before .i in
+    valid-part (a .s .now) (validate .ensures) (i .given .1)
 
 pub valid-to-spec : {M : Type 1} → statement M
 valid-to-spec = tie.close (tie.spec validate-requires enum-told enum-known-i returns returns-2)

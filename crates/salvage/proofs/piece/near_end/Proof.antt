@@ -37,10 +37,16 @@ loop-less c = omega arith
 loop-again : tie.Need-loop-again Inv-loop μ-loop
 loop-again c =
     let l = c .before .before .before in
+    let begins = c .before .begins in
     let a = l .before .before .args in
     let s = a .s .now in
-    let i = a .at + l .loop .k in
-    (omega arith, omega arith, λ e x. l .loop .inv .2 e (near-on s i (omega arith) (omega arith) (c .before .begins .ensures) (c .if1 .left) e (ends-place s e (a .at + (l .loop .k + 1) - 1) i (omega arith) x)))
+    let i = a .at + l .loop .k in (
+      omega arith,
+      omega arith,
+      λ e x. l .loop .inv .2 e
+          (near-on s i (omega arith) (omega arith) (begins .ensures) (c .if1 .left) e
+          (ends-place s e (a .at + (l .loop .k + 1) - 1) i (omega arith) x)),
+    )
 
 returns-2 : tie.Need-returns-2 Inv-loop μ-loop
 returns-2 c = λ h. absurd (omega arith)

@@ -43,8 +43,11 @@ returns-3 c =
     let p = c .before .before in
     let e = p .before .before in
     let v = e .before .before in
-    let b = v .before .before .before .before in
-    (alone-valid (b .args .w .now) (b .args .base) (b .args .rows .now) (b .pre) (v .validate .ensures) (e .enum-told .given .1) (p .parse2 .ensures .0), p .parse2 .ensures .1)
+    let b = v .before .before .before .before in (
+      alone-valid (b .args .w .now) (b .args .base) (b .args .rows .now) (b .pre) (v .validate .ensures) (e .enum-told .given .1)
+          (p .parse2 .ensures .0),
+      p .parse2 .ensures .1,
+    )
 
 pub read-alone-spec : {M : Type 1} → statement M
 read-alone-spec =

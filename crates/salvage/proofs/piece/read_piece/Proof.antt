@@ -36,11 +36,12 @@ same-length-2 c = search needs
 returns-2 : tie.Need-returns-2
 returns-2 c =
     let f = c .before .before .before .before .before in
+    let write-damage = c .before .before .write-damage in
     let r = f .before .before .before .before in
     let b = r .before .before .before .before in
     let w = b .args .w .now in
     let x = off-strict w (b .pre) (b .args .rows .now) (f .f .given .1) (r .read-alone .ensures .0) in
-    piece-damaged w (b .pre) (b .args .rows .now) x (r .read-alone .last .1 .1 .0) (r .read-alone .kept .1 .1 .0) (c .before .before .write-damage .ensures)
+    piece-damaged w (b .pre) (b .args .rows .now) x (r .read-alone .last .1 .1 .0) (r .read-alone .kept .1 .1 .0) (write-damage .ensures)
 
 pub read-piece-spec : {M : Type 1} → statement M
 read-piece-spec =

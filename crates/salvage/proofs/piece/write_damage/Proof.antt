@@ -29,9 +29,11 @@ same-length c = search needs
 returns : tie.Need-returns
 returns c =
     let r = c .before .before .before in
+    let write-row = c .before .before .write-row in
     let p = r .before .before .before .before in
     let a = p .before .before .before .before .args in
-    damage-put (a .w .now) (a .base) (a .rows .now) (a .fault) (omega arith) (omega arith) (omega arith) (r .number .ensures) (p .put-row .ensures) (c .before .before .write-row .ensures)
+    damage-put (a .w .now) (a .base) (a .rows .now) (a .fault) (omega arith) (omega arith) (omega arith) (r .number .ensures) (p .put-row .ensures)
+    (write-row .ensures)
 
 pub write-damage-spec : {M : Type 1} → statement M
 write-damage-spec =

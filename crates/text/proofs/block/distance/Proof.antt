@@ -20,8 +20,13 @@ lesser-requires-2 : tie.Need-lesser-requires-2
 lesser-requires-2 c κs = search needs
 
 returns : tie.Need-returns
-returns c = let a = c .before .before .before .before .before .before .before .before .args in
-    distance-none (a .x) (a .b) (c .before .before .before .before .apart .ensures) (c .before .before .before .apart2 .ensures) (c .before .before .apart3 .ensures) (c .before .lesser .ensures) (c .lesser2 .ensures)
+returns c =
+    let a = c .before .before .before .before .before .before .before .before .args in
+    let apart = c .before .before .before .before .apart in
+    let apart2 = c .before .before .before .apart2 in
+    let apart3 = c .before .before .apart3 in
+    let lesser = c .before .lesser in
+    distance-none (a .x) (a .b) (apart .ensures) (apart2 .ensures) (apart3 .ensures) (lesser .ensures) (c .lesser2 .ensures)
 
 pub distance-spec : {M : Type 1} → statement M
 distance-spec =

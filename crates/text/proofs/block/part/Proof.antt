@@ -40,14 +40,19 @@ loop-again : tie.Need-loop-again Inv-loop μ-loop
 loop-again c =
     let a = c .before .before .before .before .before .before .args in
     let v = c .before .before .before .before .loop in
-    let b = c .before .before .shared-slice-known2 .given (a .at + v .k) in
-    (omega arith, omega arith, part-more (a .x) (a .s .now) (a .at) (v .k) (v .m) _ (c .lesser .ensures) (v .inv .2) (omega arith) (c .before .place .ensures))
+    let shared-slice-known2 = c .before .before .shared-slice-known2 in
+    let place = c .before .place in
+    let b = shared-slice-known2 .given (a .at + v .k) in
+    (omega arith, omega arith, part-more (a .x) (a .s .now) (a .at) (v .k) (v .m) _ (c .lesser .ensures) (v .inv .2) (omega arith) (place .ensures))
 
 cast-result : tie.Need-cast-result Inv-loop μ-loop
 cast-result c = search needs
 
 returns : tie.Need-returns Inv-loop μ-loop
-returns c = let a = c .before .before .before .args in let v = c .before .loop in (part-done (a .x) (a .s .now) (a .at) (v .m) (omega arith) (omega arith) (v .inv .2), v .inv .1)
+returns c =
+    let a = c .before .before .before .args in
+    let v = c .before .loop in
+    (part-done (a .x) (a .s .now) (a .at) (v .m) (omega arith) (omega arith) (v .inv .2), v .inv .1)
 
 pub part-spec : {M : Type 1} → statement M
 part-spec =

@@ -29,7 +29,13 @@ has-requires : tie.Need-has-requires Inv-loop μ-loop
 has-requires c κs = search needs
 
 returns-2 : tie.Need-returns-2 Inv-loop μ-loop
-returns-2 c = let v = c .before .before .before .before .before .loop .inv in record { from = v .0; to = v .1; passed = v .2; stopped = λ l h. sym (ap (λ (y : Bool). Bool·beq y (c .before .before .before .before .before .before .before .args .want)) (c .before .has .ensures)) ∙ not-true _ (c .if2 .taken) }
+returns-2 c =
+    let a = c .before .before .before .before .before .before .before .args in
+    let turn = c .before .before .before .before .before .loop in
+    let has = c .before .has in
+    let v = turn .inv in
+    record
+    { from = v .0; to = v .1; passed = v .2; stopped = λ l h. sym (ap (λ (y : Bool). Bool·beq y (a .want)) (has .ensures)) ∙ not-true _ (c .if2 .taken) }
 
 add-i : tie.Need-add-i Inv-loop μ-loop
 add-i c = omega arith
@@ -38,7 +44,14 @@ loop-less : tie.Need-loop-less Inv-loop μ-loop
 loop-less c = omega arith
 
 loop-again : tie.Need-loop-again Inv-loop μ-loop
-loop-again c = let v = c .before .before .before .before .before .loop .inv in (omega arith, omega arith, passed-more _ _ _ (c .before .before .before .before .before .before .before .args .s .now) _ _ (v .2) (c .before .before .before .before .loop-test .taken) (c .before .before .if1 .left) (c .before .has .ensures) (not-false _ (c .if2 .left)))
+loop-again c =
+    let a = c .before .before .before .before .before .before .before .args in
+    let turn = c .before .before .before .before .before .loop in
+    let test = c .before .before .before .before .loop-test in
+    let if1 = c .before .before .if1 in
+    let has = c .before .has in
+    let v = turn .inv in
+    (omega arith, omega arith, passed-more _ _ _ (a .s .now) _ _ (v .2) (test .taken) (if1 .left) (has .ensures) (not-false _ (c .if2 .left)))
 
 returns-3 : tie.Need-returns-3 Inv-loop μ-loop
 returns-3 c = let v = c .before .loop .inv in record { from = v .0; to = v .1; passed = v .2; stopped = λ l h. absurd (omega arith) }

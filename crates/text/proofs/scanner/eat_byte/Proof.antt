@@ -14,10 +14,18 @@ add-result : tie.Need-add-result
 add-result c = search needs
 
 returns-2 : tie.Need-returns-2
-returns-2 c = let a = c .before .before .before .args in single-on (a .x) (c .before .before .before .pre) (a .s .now) (a .at) (c .before .before .if1 .left) (c .if2 .taken)
+returns-2 c =
+    let a = c .before .before .before .args in
+    let asked = c .before .before .before .pre in
+    let if1 = c .before .before .if1 in
+    single-on (a .x) (asked) (a .s .now) (a .at) (if1 .left) (c .if2 .taken)
 
 returns-3 : tie.Need-returns-3
-returns-3 c = let a = c .before .before .before .args in single-off (a .x) (c .before .before .before .pre) (a .s .now) (a .at) (c .before .before .if1 .left) (c .if2 .left)
+returns-3 c =
+    let a = c .before .before .before .args in
+    let asked = c .before .before .before .pre in
+    let if1 = c .before .before .if1 in
+    single-off (a .x) (asked) (a .s .now) (a .at) (if1 .left) (c .if2 .left)
 
 pub eat-byte-spec : {M : Type 1} → statement M
 eat-byte-spec =

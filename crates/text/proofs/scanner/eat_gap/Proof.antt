@@ -14,7 +14,10 @@ eat-whitespace-requires : tie.Need-eat-whitespace-requires
 eat-whitespace-requires c κs = search needs
 
 returns : tie.Need-returns
-returns c = let a = c .before .before .before .args in ran isWhitespace (a .s .now) (a .at) (c .eat-whitespace .ensures .0 ∙ sym (gap-over (a .s .now) (c .before .past-white .ensures)))
+returns c =
+    let a = c .before .before .before .args in
+    let past-white = c .before .past-white in
+    ran isWhitespace (a .s .now) (a .at) (c .eat-whitespace .ensures .0 ∙ sym (gap-over (a .s .now) (past-white .ensures)))
 
 pub eat-gap-spec : {M : Type 1} → statement M
 eat-gap-spec = tie.close (tie.spec past-white-requires eat-whitespace-requires returns)

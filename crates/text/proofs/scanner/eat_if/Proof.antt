@@ -27,10 +27,22 @@ add-result : tie.Need-add-result
 add-result c = search needs
 
 returns-3 : tie.Need-returns-3
-returns-3 c = let a = c .before .before .before .before .before .before .before .args in bit-on (a .t) (c .before .before .ascii .result) (c .before .before .ascii .ensures) (a .s .now) (a .at) (c .before .before .before .before .before .if1 .left) (c .before .before .before .if2 .left) (c .before .has .ensures) (c .if3 .taken)
+returns-3 c =
+    let a = c .before .before .before .before .before .before .before .args in
+    let if1 = c .before .before .before .before .before .if1 in
+    let if2 = c .before .before .before .if2 in
+    let ascii = c .before .before .ascii in
+    let has = c .before .has in
+    bit-on (a .t) (ascii .result) (ascii .ensures) (a .s .now) (a .at) (if1 .left) (if2 .left) (has .ensures) (c .if3 .taken)
 
 returns-4 : tie.Need-returns-4
-returns-4 c = let a = c .before .before .before .before .before .before .before .args in bit-off (a .t) (c .before .before .ascii .result) (c .before .before .ascii .ensures) (a .s .now) (a .at) (c .before .before .before .before .before .if1 .left) (c .before .before .before .if2 .left) (c .before .has .ensures) (c .if3 .left)
+returns-4 c =
+    let a = c .before .before .before .before .before .before .before .args in
+    let if1 = c .before .before .before .before .before .if1 in
+    let if2 = c .before .before .before .if2 in
+    let ascii = c .before .before .ascii in
+    let has = c .before .has in
+    bit-off (a .t) (ascii .result) (ascii .ensures) (a .s .now) (a .at) (if1 .left) (if2 .left) (has .ensures) (c .if3 .left)
 
 pub eat-if-spec : {M : Type 1} → statement M
 eat-if-spec =

@@ -35,7 +35,11 @@ loop-less : tie.Need-loop-less Inv-loop μ-loop
 loop-less c = omega arith
 
 loop-again : tie.Need-loop-again Inv-loop μ-loop
-loop-again c = letters-more (c .before .before .before .before .loop .inv) (c .before .before .before .loop-test .taken) (sym (c .before .is-letter .ensures) ∙ not-false _ (c .if1 .left))
+loop-again c =
+    let turn = c .before .before .before .before .loop in
+    let test = c .before .before .before .loop-test in
+    let is-letter = c .before .is-letter in
+    letters-more (turn .inv) (test .taken) (sym (is-letter .ensures) ∙ not-false _ (c .if1 .left))
 
 returns-2 : tie.Need-returns-2 Inv-loop μ-loop
 returns-2 c = c .before .loop .inv

@@ -13,19 +13,37 @@ ascii-run-requires : tie.Need-ascii-run-requires
 ascii-run-requires c κs = search needs
 
 returns : tie.Need-returns
-returns c = let a = c .before .before .before .before .args in let p = wants (a .t) (a .want) in let e = ran-on (a .t) (a .want) (c .before .before .ascii .result) (c .before .before .ascii .ensures) (a .s .now) (a .at) (c .before .ascii-run .ensures) in ran p (a .s .now) (a .at) (sym (e ∙ skip-end p (a .s .now) _ (c .if1 .taken)))
+returns c =
+    let a = c .before .before .before .before .args in
+    let ascii = c .before .before .ascii in
+    let ascii-run = c .before .ascii-run in
+    let p = wants (a .t) (a .want) in
+    let e = ran-on (a .t) (a .want) (ascii .result) (ascii .ensures) (a .s .now) (a .at) (ascii-run .ensures) in
+    ran p (a .s .now) (a .at) (sym (e ∙ skip-end p (a .s .now) _ (c .if1 .taken)))
 
 shared-slice-read-if2 : tie.Need-shared-slice-read-if2
 shared-slice-read-if2 c = search needs
 
 returns-2 : tie.Need-returns-2
-returns-2 c = let a = c .before .before .before .before .before .before .args in ran (wants (a .t) (a .want)) (a .s .now) (a .at) (sym (ran-stop (a .t) (a .want) (c .before .before .before .before .ascii .result) (c .before .before .before .before .ascii .ensures) (a .s .now) (a .at) (c .before .before .before .ascii-run .ensures) (c .before .before .if1 .left) (c .if2 .taken)))
+returns-2 c =
+    let a = c .before .before .before .before .before .before .args in
+    let ascii = c .before .before .before .before .ascii in
+    let ascii-run = c .before .before .before .ascii-run in
+    let if1 = c .before .before .if1 in
+    ran (wants (a .t) (a .want)) (a .s .now) (a .at)
+    (sym (ran-stop (a .t) (a .want) (ascii .result) (ascii .ensures) (a .s .now) (a .at) (ascii-run .ensures) (if1 .left) (c .if2 .taken)))
 
 eat-rest-requires : tie.Need-eat-rest-requires
 eat-rest-requires c κs = search needs
 
 returns-3 : tie.Need-returns-3
-returns-3 c = let a = c .before .before .before .before .before .before .before .args in let p = wants (a .t) (a .want) in let e = ran-on (a .t) (a .want) (c .before .before .before .before .before .ascii .result) (c .before .before .before .before .before .ascii .ensures) (a .s .now) (a .at) (c .before .before .before .before .ascii-run .ensures) in ran p (a .s .now) (a .at) (c .eat-rest .ensures .0 ∙ sym e)
+returns-3 c =
+    let a = c .before .before .before .before .before .before .before .args in
+    let ascii = c .before .before .before .before .before .ascii in
+    let ascii-run = c .before .before .before .before .ascii-run in
+    let p = wants (a .t) (a .want) in
+    let e = ran-on (a .t) (a .want) (ascii .result) (ascii .ensures) (a .s .now) (a .at) (ascii-run .ensures) in
+    ran p (a .s .now) (a .at) (c .eat-rest .ensures .0 ∙ sym e)
 
 pub eat-run-spec : {M : Type 1} → statement M
 eat-run-spec =

@@ -22,7 +22,11 @@ add-result : tie.Need-add-result
 add-result c = search needs
 
 returns-2 : tie.Need-returns-2
-returns-2 c = let a = c .before .before .before .before .before .args in letter-start (a .s .now) (a .at) (c .before .before .before .if1 .left) (sym (c .before .is-letter .ensures) ∙ c .if2 .taken)
+returns-2 c =
+    let a = c .before .before .before .before .before .args in
+    let if1 = c .before .before .before .if1 in
+    let is-letter = c .before .is-letter in
+    letter-start (a .s .now) (a .at) (if1 .left) (sym (is-letter .ensures) ∙ c .if2 .taken)
 
 eat-if-requires : tie.Need-eat-if-requires
 eat-if-requires c κs = search needs

@@ -26,14 +26,21 @@ shared-slice-read-b : tie.Need-shared-slice-read-b Inv-loop μ-loop
 shared-slice-read-b c = omega arith
 
 returns : tie.Need-returns Inv-loop μ-loop
-returns c = let a = c .before .before .before .before .before .before .args in ran isWhitespace (a .s .now) (a .at) (sym (c .before .before .before .before .loop .inv ∙ solid-stop (a .s .now) _ (c .before .before .before .loop-test .taken) (c .if2 .taken)))
+returns c =
+    let a = c .before .before .before .before .before .before .args in
+    let turn = c .before .before .before .before .loop in
+    let test = c .before .before .before .loop-test in
+    ran isWhitespace (a .s .now) (a .at) (sym (turn .inv ∙ solid-stop (a .s .now) _ (test .taken) (c .if2 .taken)))
 
 eat-rest-requires : tie.Need-eat-rest-requires Inv-loop μ-loop
 eat-rest-requires c κs = search needs
 
 returns-2 : tie.Need-returns-2 Inv-loop μ-loop
 unfolding holdsOf
-returns-2 c = let a = c .before .before .before .before .before .before .before .before .args in ran isWhitespace (a .s .now) (a .at) (c .eat-rest .ensures .0 ∙ sym (c .before .before .before .before .before .before .loop .inv))
+returns-2 c =
+    let a = c .before .before .before .before .before .before .before .before .args in
+    let turn = c .before .before .before .before .before .before .loop in
+    ran isWhitespace (a .s .now) (a .at) (c .eat-rest .ensures .0 ∙ sym (turn .inv))
 
 add-i : tie.Need-add-i Inv-loop μ-loop
 add-i c = omega arith
@@ -49,7 +56,10 @@ loop-again c =
     v .inv ∙ ⊎-elim (λ w. tab-on (a .s .now) (v .i) h (not-false _ (w .2 .left))) (λ w. space-on (a .s .now) (v .i) h (w .left)) (c .if1 .came)
 
 returns-3 : tie.Need-returns-3 Inv-loop μ-loop
-returns-3 c = let a = c .before .before .before .args in ran isWhitespace (a .s .now) (a .at) (sym (c .before .loop .inv ∙ skip-end isWhitespace (a .s .now) _ (c .loop-test .left)))
+returns-3 c =
+    let a = c .before .before .before .args in
+    let turn = c .before .loop in
+    ran isWhitespace (a .s .now) (a .at) (sym (turn .inv ∙ skip-end isWhitespace (a .s .now) _ (c .loop-test .left)))
 
 pub eat-whitespace-spec : {M : Type 1} → statement M
 eat-whitespace-spec =

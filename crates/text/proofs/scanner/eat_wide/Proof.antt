@@ -20,13 +20,28 @@ holds-requires : tie.Need-holds-requires
 holds-requires c κs = search needs
 
 returns : tie.Need-returns
-returns c = let a = c .before .before .before .before .before .before .before .args in past-hit (a .s .now) (a .at) (c .before .before .before .before .before .peek .ensures .0) (c .before .before .before .code .given .1) (wants (a .t) (a .want)) (sym (wants-told (a .t) _ (c .before .holds .ensures) (a .want)) ∙ c .if1 .taken)
+returns c =
+    let a = c .before .before .before .before .before .before .before .args in
+    let peek = c .before .before .before .before .before .peek in
+    let code = c .before .before .before .code in
+    let holds = c .before .holds in
+    past-hit (a .s .now) (a .at) (peek .ensures .0) (code .given .1) (wants (a .t) (a .want))
+    (sym (wants-told (a .t) _ (holds .ensures) (a .want)) ∙ c .if1 .taken)
 
 returns-2 : tie.Need-returns-2
-returns-2 c = let a = c .before .before .before .before .args in past-told (a .s .now) (a .at) (c .before .before .peek .ensures .0) (c .enum-told .given .1) (wants (a .t) (a .want))
+returns-2 c =
+    let a = c .before .before .before .before .args in
+    let peek = c .before .before .peek in
+    past-told (a .s .now) (a .at) (peek .ensures .0) (c .enum-told .given .1) (wants (a .t) (a .want))
 
 returns-3 : tie.Need-returns-3
-returns-3 c = let a = c .before .before .before .before .before .before .before .args in past-miss (a .s .now) (a .at) (c .before .before .before .before .before .peek .ensures .0) (c .before .before .before .code .given .1) (wants (a .t) (a .want)) (sym (wants-told (a .t) _ (c .before .holds .ensures) (a .want)) ∙ c .if1 .left)
+returns-3 c =
+    let a = c .before .before .before .before .before .before .before .args in
+    let peek = c .before .before .before .before .before .peek in
+    let code = c .before .before .before .code in
+    let holds = c .before .holds in
+    past-miss (a .s .now) (a .at) (peek .ensures .0) (code .given .1) (wants (a .t) (a .want))
+    (sym (wants-told (a .t) _ (holds .ensures) (a .want)) ∙ c .if1 .left)
 
 pub eat-wide-spec : {M : Type 1} → statement M
 eat-wide-spec =

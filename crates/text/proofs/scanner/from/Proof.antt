@@ -20,7 +20,11 @@ part-result-end : tie.Need-part-result-end
 part-result-end c = search needs
 
 returns : tie.Need-returns
-returns c = let a = c .before .before .before .before .args in part-clamped (a .s .now) (a .start) (a .at) (c .before .before .least .ensures) (c .before .least2 .ensures)
+returns c =
+    let a = c .before .before .before .before .args in
+    let least = c .before .before .least in
+    let least2 = c .before .least2 in
+    part-clamped (a .s .now) (a .start) (a .at) (least .ensures) (least2 .ensures)
 
 pub from-spec : {M : Type 1} → statement M
 from-spec =

@@ -20,13 +20,23 @@ add-t7 : tie.Need-add-t7
 add-t7 c = search needs
 
 returns : tie.Need-returns
-returns c = let a = c .before .before .before .before .args in seen-told (a .s .now) (a .at) (c .before .before .decode .ensures) (c .enum-told .given .1)
+returns c =
+    let a = c .before .before .before .before .args in
+    let decode = c .before .before .decode in
+    seen-told (a .s .now) (a .at) (decode .ensures) (c .enum-told .given .1)
 
 returns-2 : tie.Need-returns-2
-returns-2 c = let a = c .before .before .before .before .before .args in seen-told (a .s .now) (a .at) (c .before .before .before .decode .ensures) (c .before .code .given .1)
+returns-2 c =
+    let a = c .before .before .before .before .before .args in
+    let decode = c .before .before .before .decode in
+    let code = c .before .code in
+    seen-told (a .s .now) (a .at) (decode .ensures) (code .given .1)
 
 returns-3 : tie.Need-returns-3
-returns-3 c = let a = c .before .before .before .before .args in seen-told (a .s .now) (a .at) (c .before .before .decode .ensures) (c .enum-told2 .given .1)
+returns-3 c =
+    let a = c .before .before .before .before .args in
+    let decode = c .before .before .decode in
+    seen-told (a .s .now) (a .at) (decode .ensures) (c .enum-told2 .given .1)
 
 pub peek-wide-spec : {M : Type 1} → statement M
 peek-wide-spec =

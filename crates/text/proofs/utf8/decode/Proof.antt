@@ -15,7 +15,11 @@ sequence-requires : tie.Need-sequence-requires
 sequence-requires c κs = search needs
 
 returns-2 : tie.Need-returns-2
-returns-2 c = let a = c .before .before .before .before .args in sym (decode-none (a .s .now) (a .at) (c .before .before .if1 .left) (c .before .sequence .ensures .0) (c .if2 .taken))
+returns-2 c =
+    let a = c .before .before .before .before .args in
+    let if1 = c .before .before .if1 in
+    let sequence = c .before .sequence in
+    sym (decode-none (a .s .now) (a .at) (if1 .left) (sequence .ensures .0) (c .if2 .taken))
 
 value-at-requires : tie.Need-value-at-requires
 value-at-requires c κs = (omega arith, omega arith, omega arith)
@@ -24,7 +28,13 @@ add-t5 : tie.Need-add-t5
 add-t5 c = search needs
 
 returns-3 : tie.Need-returns-3
-returns-3 c = let a = c .before .before .before .before .before .args in ap (λ (v : ℕ). Char v (a .at + c .before .before .sequence .result)) (c .value-at .ensures) ∙ sym (decode-some (a .s .now) (a .at) (c .before .before .before .if1 .left) (c .before .before .sequence .ensures .0) (c .before .if2 .left))
+returns-3 c =
+    let a = c .before .before .before .before .before .args in
+    let if1 = c .before .before .before .if1 in
+    let sequence = c .before .before .sequence in
+    let if2 = c .before .if2 in
+    ap (λ (v : ℕ). Char v (a .at + sequence .result)) (c .value-at .ensures) ∙ sym
+    (decode-some (a .s .now) (a .at) (if1 .left) (sequence .ensures .0) (if2 .left))
 
 pub decode-spec : {M : Type 1} → statement M
 decode-spec =

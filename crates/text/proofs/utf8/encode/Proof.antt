@@ -12,10 +12,18 @@ is-scalar-requires : tie.Need-is-scalar-requires
 is-scalar-requires c κs = search needs
 
 returns : tie.Need-returns
-returns c = let a = c .before .before .before .args in encode-not (a .c) (a .out .now) (sym (c .before .is-scalar .ensures) ∙ not-true _ (c .if1 .taken))
+returns c =
+    let a = c .before .before .before .args in
+    let is-scalar = c .before .is-scalar in
+    encode-not (a .c) (a .out .now) (sym (is-scalar .ensures) ∙ not-true _ (c .if1 .taken))
 
 returns-2 : tie.Need-returns-2
-returns-2 c = let a = c .before .before .before .before .before .args in short-one (a .c) (a .out .now) (sym (c .before .before .before .is-scalar .ensures) ∙ not-false _ (c .before .before .if1 .left)) (c .before .if2 .taken) (c .if3 .taken)
+returns-2 c =
+    let a = c .before .before .before .before .before .args in
+    let is-scalar = c .before .before .before .is-scalar in
+    let if1 = c .before .before .if1 in
+    let if2 = c .before .if2 in
+    short-one (a .c) (a .out .now) (sym (is-scalar .ensures) ∙ not-false _ (if1 .left)) (if2 .taken) (c .if3 .taken)
 
 cast-out : tie.Need-cast-out
 cast-out c = search needs
@@ -27,10 +35,21 @@ same-length : tie.Need-same-length
 same-length c = search needs
 
 returns-3 : tie.Need-returns-3
-returns-3 c = let a = c .before .before .before .before .before .args in encode-one (a .c) (a .out .now) (sym (c .before .before .before .is-scalar .ensures) ∙ not-false _ (c .before .before .if1 .left)) (c .before .if2 .taken) (c .if3 .left)
+returns-3 c =
+    let a = c .before .before .before .before .before .args in
+    let is-scalar = c .before .before .before .is-scalar in
+    let if1 = c .before .before .if1 in
+    let if2 = c .before .if2 in
+    encode-one (a .c) (a .out .now) (sym (is-scalar .ensures) ∙ not-false _ (if1 .left)) (if2 .taken) (c .if3 .left)
 
 returns-4 : tie.Need-returns-4
-returns-4 c = let a = c .before .before .before .before .before .before .args in short-two (a .c) (a .out .now) (sym (c .before .before .before .before .is-scalar .ensures) ∙ not-false _ (c .before .before .before .if1 .left)) (c .before .before .if2 .left) (c .before .if4 .taken) (c .if5 .taken)
+returns-4 c =
+    let a = c .before .before .before .before .before .before .args in
+    let is-scalar = c .before .before .before .before .is-scalar in
+    let if1 = c .before .before .before .if1 in
+    let if2 = c .before .before .if2 in
+    let if4 = c .before .if4 in
+    short-two (a .c) (a .out .now) (sym (is-scalar .ensures) ∙ not-false _ (if1 .left)) (if2 .left) (if4 .taken) (c .if5 .taken)
 
 add-out : tie.Need-add-out
 add-out c = search needs
@@ -51,10 +70,23 @@ same-length-2 : tie.Need-same-length-2
 same-length-2 c = search needs
 
 returns-5 : tie.Need-returns-5
-returns-5 c = let a = c .before .before .before .before .before .before .before .args in encode-two (a .c) (a .out .now) (sym (c .before .before .before .before .before .is-scalar .ensures) ∙ not-false _ (c .before .before .before .before .if1 .left)) (c .before .before .before .if2 .left) (c .before .before .if4 .taken) (c .before .if5 .left) (c .further-of .ensures)
+returns-5 c =
+    let a = c .before .before .before .before .before .before .before .args in
+    let is-scalar = c .before .before .before .before .before .is-scalar in
+    let if1 = c .before .before .before .before .if1 in
+    let if2 = c .before .before .before .if2 in
+    let if4 = c .before .before .if4 in
+    let if5 = c .before .if5 in
+    encode-two (a .c) (a .out .now) (sym (is-scalar .ensures) ∙ not-false _ (if1 .left)) (if2 .left) (if4 .taken) (if5 .left) (c .further-of .ensures)
 
 returns-6 : tie.Need-returns-6
-returns-6 c = let a = c .before .before .before .before .before .before .before .args in short-three (a .c) (a .out .now) (sym (c .before .before .before .before .before .is-scalar .ensures) ∙ not-false _ (c .before .before .before .before .if1 .left)) (c .before .before .if4 .left) (c .before .if6 .taken) (c .if7 .taken)
+returns-6 c =
+    let a = c .before .before .before .before .before .before .before .args in
+    let is-scalar = c .before .before .before .before .before .is-scalar in
+    let if1 = c .before .before .before .before .if1 in
+    let if4 = c .before .before .if4 in
+    let if6 = c .before .if6 in
+    short-three (a .c) (a .out .now) (sym (is-scalar .ensures) ∙ not-false _ (if1 .left)) (if4 .left) (if6 .taken) (c .if7 .taken)
 
 add-out-2 : tie.Need-add-out-2
 add-out-2 c = search needs
@@ -81,16 +113,35 @@ same-length-3 : tie.Need-same-length-3
 same-length-3 c = search needs
 
 returns-7 : tie.Need-returns-7
-returns-7 c = let a = c .before .before .before .before .before .before .before .before .before .args in encode-three (a .c) (a .out .now) (sym (c .before .before .before .before .before .before .before .is-scalar .ensures) ∙ not-false _ (c .before .before .before .before .before .before .if1 .left)) (c .before .before .before .before .if4 .left) (c .before .before .before .if6 .taken) (c .before .before .if7 .left) (c .before .further-of2 .ensures) (c .further-of3 .ensures)
+returns-7 c =
+    let a = c .before .before .before .before .before .before .before .before .before .args in
+    let is-scalar = c .before .before .before .before .before .before .before .is-scalar in
+    let if1 = c .before .before .before .before .before .before .if1 in
+    let if4 = c .before .before .before .before .if4 in
+    let if6 = c .before .before .before .if6 in
+    let if7 = c .before .before .if7 in
+    let further-of2 = c .before .further-of2 in
+    encode-three (a .c) (a .out .now) (sym (is-scalar .ensures) ∙ not-false _ (if1 .left)) (if4 .left) (if6 .taken) (if7 .left) (further-of2 .ensures)
+    (c .further-of3 .ensures)
 
 returns-8 : tie.Need-returns-8
-returns-8 c = let a = c .before .before .before .before .before .before .before .args in short-four (a .c) (a .out .now) (sym (c .before .before .before .before .before .is-scalar .ensures) ∙ not-false _ (c .before .before .before .before .if1 .left)) (c .before .if6 .left) (c .if8 .taken)
+returns-8 c =
+    let a = c .before .before .before .before .before .before .before .args in
+    let is-scalar = c .before .before .before .before .before .is-scalar in
+    let if1 = c .before .before .before .before .if1 in
+    let if6 = c .before .if6 in
+    short-four (a .c) (a .out .now) (sym (is-scalar .ensures) ∙ not-false _ (if1 .left)) (if6 .left) (c .if8 .taken)
 
 add-out-3 : tie.Need-add-out-3
 add-out-3 c = search needs
 
 cast-out-4 : tie.Need-cast-out-4
-cast-out-4 c = let a = c .before .before .before .before .before .before .before .args in let h = scalar-high (a .c) (sym (c .before .before .before .before .before .is-scalar .ensures) ∙ not-false _ (c .before .before .before .before .if1 .left)) in omega arith
+cast-out-4 c =
+    let a = c .before .before .before .before .before .before .before .args in
+    let is-scalar = c .before .before .before .before .before .is-scalar in
+    let if1 = c .before .before .before .before .if1 in
+    let h = scalar-high (a .c) (sym (is-scalar .ensures) ∙ not-false _ (if1 .left)) in
+    omega arith
 
 slice-write-out-7 : tie.Need-slice-write-out-7
 slice-write-out-7 c = search needs
@@ -117,7 +168,16 @@ same-length-4 : tie.Need-same-length-4
 same-length-4 c = search needs
 
 returns-9 : tie.Need-returns-9
-returns-9 c = let a = c .before .before .before .before .before .before .before .before .before .before .args in encode-four (a .c) (a .out .now) (sym (c .before .before .before .before .before .before .before .before .is-scalar .ensures) ∙ not-false _ (c .before .before .before .before .before .before .before .if1 .left)) (c .before .before .before .before .if6 .left) (c .before .before .before .if8 .left) (c .before .before .further-of4 .ensures) (c .before .further-of5 .ensures) (c .further-of6 .ensures)
+returns-9 c =
+    let a = c .before .before .before .before .before .before .before .before .before .before .args in
+    let is-scalar = c .before .before .before .before .before .before .before .before .is-scalar in
+    let if1 = c .before .before .before .before .before .before .before .if1 in
+    let if6 = c .before .before .before .before .if6 in
+    let if8 = c .before .before .before .if8 in
+    let further-of4 = c .before .before .further-of4 in
+    let further-of5 = c .before .further-of5 in
+    encode-four (a .c) (a .out .now) (sym (is-scalar .ensures) ∙ not-false _ (if1 .left)) (if6 .left) (if8 .left) (further-of4 .ensures)
+    (further-of5 .ensures) (c .further-of6 .ensures)
 
 pub encode-spec : {M : Type 1} → statement M
 encode-spec =

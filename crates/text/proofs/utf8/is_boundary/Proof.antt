@@ -11,7 +11,10 @@ is-tail-requires : tie.Need-is-tail-requires
 is-tail-requires c κs = search needs
 
 returns : tie.Need-returns
-returns c = let a = c .before .before .before .before .args in rw (c .is-tail .ensures) (boundary-in (a .s .now) (a .n) (c .before .before .if1 .taken))
+returns c =
+    let a = c .before .before .before .before .args in
+    let if1 = c .before .before .if1 in
+    rw (c .is-tail .ensures) (boundary-in (a .s .now) (a .n) (if1 .taken))
 
 returns-2 : tie.Need-returns-2
 returns-2 c = let a = c .before .before .args in boundary-out (a .s .now) (a .n) (c .if1 .left)

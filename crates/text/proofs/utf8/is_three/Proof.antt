@@ -42,11 +42,11 @@ is-tail-requires-2 : tie.Need-is-tail-requires-2
 is-tail-requires-2 c κs = search needs
 
 returns-2 : tie.Need-returns-2
-returns-2 c = λ e.
-    let a = c .before .before .before .before .before .before .before .before .args in
-    let b = both-true _ (c .is-tail2 .result) e in
-    let d = both-true _ (c .before .before .is-tail .result) (b .0) in
-    (width-three (a .s .now) (a .at) (omega arith) (d .0) (sym (c .before .before .is-tail .ensures) ∙ d .1) (sym (c .is-tail2 .ensures) ∙ b .1), omega arith)
+returns-2 c =
+    let a· = c .before .before .before .before .before .before .before .before .args in
+    let is-tail = c .before .before .is-tail in
+    λ e. let a = a· in let b = both-true _ (c .is-tail2 .result) e in let d = both-true _ (is-tail .result) (b .0) in
+    (width-three (a .s .now) (a .at) (omega arith) (d .0) (sym (is-tail .ensures) ∙ d .1) (sym (c .is-tail2 .ensures) ∙ b .1), omega arith)
 
 pub is-three-spec : {M : Type 1} → statement M
 is-three-spec =

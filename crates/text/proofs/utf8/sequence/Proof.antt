@@ -13,10 +13,21 @@ shared-slice-read-a : tie.Need-shared-slice-read-a
 shared-slice-read-a c = search needs
 
 returns-2 : tie.Need-returns-2
-returns-2 c = let a = c .before .before .before .before .args in let g = c .before .shared-slice-known2 .given (a .at) in (sym (width-ascii (a .s .now) (a .at) (c .before .before .if1 .left) (omega arith) (c .if2 .taken)), omega arith, omega arith)
+returns-2 c =
+    let a = c .before .before .before .before .args in
+    let if1 = c .before .before .if1 in
+    let shared-slice-known2 = c .before .shared-slice-known2 in
+    let g = shared-slice-known2 .given (a .at) in
+    (sym (width-ascii (a .s .now) (a .at) (if1 .left) (omega arith) (c .if2 .taken)), omega arith, omega arith)
 
 returns-3 : tie.Need-returns-3
-returns-3 c = let a = c .before .before .before .before .before .args in let g = c .before .before .shared-slice-known2 .given (a .at) in (sym (width-none (a .s .now) (a .at) (c .before .before .before .if1 .left) (omega arith) (c .before .if2 .left) (c .if3 .taken)), omega arith, omega arith)
+returns-3 c =
+    let a = c .before .before .before .before .before .args in
+    let if1 = c .before .before .before .if1 in
+    let shared-slice-known2 = c .before .before .shared-slice-known2 in
+    let if2 = c .before .if2 in
+    let g = shared-slice-known2 .given (a .at) in
+    (sym (width-none (a .s .now) (a .at) (if1 .left) (omega arith) (if2 .left) (c .if3 .taken)), omega arith, omega arith)
 
 sequence-length-requires : tie.Need-sequence-length-requires
 sequence-length-requires c κs = search needs
@@ -25,16 +36,65 @@ sub-if4 : tie.Need-sub-if4
 sub-if4 c = search needs
 
 returns-4 : tie.Need-returns-4
-returns-4 c = let a = c .before .before .before .before .before .before .before .args in (sym (width-short (a .s .now) (a .at) (c .before .before .before .before .before .if1 .left) (omega (arith, c .before .before .before .before .shared-slice-known2 .given (a .at))) (c .before .before .before .if2 .left) (c .before .before .if3 .left) _ (c .before .sequence-length .ensures) (c .if4 .taken)), omega arith, omega arith)
+returns-4 c =
+    let a = c .before .before .before .before .before .before .before .args in
+    let if1 = c .before .before .before .before .before .if1 in
+    let shared-slice-known2 = c .before .before .before .before .shared-slice-known2 in
+    let if2 = c .before .before .before .if2 in
+    let if3 = c .before .before .if3 in
+    let sequence-length = c .before .sequence-length in (
+      sym
+          (width-short (a .s .now) (a .at) (if1 .left) (omega (arith, shared-slice-known2 .given (a .at))) (if2 .left) (if3 .left) _
+          (sequence-length .ensures) (c .if4 .taken)),
+      omega arith,
+      omega arith,
+    )
 
 goes-on-requires : tie.Need-goes-on-requires
-goes-on-requires c κs = let a = c .before .before .before .before .before .before .before .args in let r = length-range (a .s .now) (a .at) (c .before .before .before .before .before .if1 .left) (omega (arith, c .before .before .before .before .shared-slice-known2 .given (a .at))) (c .before .before .before .if2 .left) (c .before .before .if3 .left) _ (c .before .sequence-length .ensures) in (omega arith, r .0, r .1)
+goes-on-requires c κs =
+    let a = c .before .before .before .before .before .before .before .args in
+    let if1 = c .before .before .before .before .before .if1 in
+    let shared-slice-known2 = c .before .before .before .before .shared-slice-known2 in
+    let if2 = c .before .before .before .if2 in
+    let if3 = c .before .before .if3 in
+    let sequence-length = c .before .sequence-length in
+    let r = length-range (a .s .now) (a .at) (if1 .left) (omega (arith, shared-slice-known2 .given (a .at))) (if2 .left) (if3 .left) _
+    (sequence-length .ensures) in
+    (omega arith, r .0, r .1)
 
 returns-5 : tie.Need-returns-5
-returns-5 c = let a = c .before .before .before .before .before .before .before .before .before .args in let r = length-range (a .s .now) (a .at) (c .before .before .before .before .before .before .before .if1 .left) (omega (arith, c .before .before .before .before .before .before .shared-slice-known2 .given (a .at))) (c .before .before .before .before .before .if2 .left) (c .before .before .before .before .if3 .left) _ (c .before .before .before .sequence-length .ensures) in (sym (width-whole (a .s .now) (a .at) (c .before .before .before .before .before .before .before .if1 .left) (omega (arith, c .before .before .before .before .before .before .shared-slice-known2 .given (a .at))) (c .before .before .before .before .before .if2 .left) (c .before .before .before .before .if3 .left) _ (c .before .before .before .sequence-length .ensures) (c .before .goes-on .ensures) (c .if5 .taken)), omega arith, r .1)
+returns-5 c =
+    let a = c .before .before .before .before .before .before .before .before .before .args in
+    let if1 = c .before .before .before .before .before .before .before .if1 in
+    let shared-slice-known2 = c .before .before .before .before .before .before .shared-slice-known2 in
+    let if2 = c .before .before .before .before .before .if2 in
+    let if3 = c .before .before .before .before .if3 in
+    let sequence-length = c .before .before .before .sequence-length in
+    let goes-on = c .before .goes-on in
+    let r = length-range (a .s .now) (a .at) (if1 .left) (omega (arith, shared-slice-known2 .given (a .at))) (if2 .left) (if3 .left) _
+    (sequence-length .ensures) in (
+      sym
+          (width-whole (a .s .now) (a .at) (if1 .left) (omega (arith, shared-slice-known2 .given (a .at))) (if2 .left) (if3 .left) _
+          (sequence-length .ensures) (goes-on .ensures) (c .if5 .taken)),
+      omega arith,
+      r .1,
+    )
 
 returns-6 : tie.Need-returns-6
-returns-6 c = let a = c .before .before .before .before .before .before .before .before .before .args in (sym (width-broken (a .s .now) (a .at) (c .before .before .before .before .before .before .before .if1 .left) (omega (arith, c .before .before .before .before .before .before .shared-slice-known2 .given (a .at))) (c .before .before .before .before .before .if2 .left) (c .before .before .before .before .if3 .left) _ (c .before .before .before .sequence-length .ensures) (c .before .goes-on .ensures) (c .if5 .left)), omega arith, omega arith)
+returns-6 c =
+    let a = c .before .before .before .before .before .before .before .before .before .args in
+    let if1 = c .before .before .before .before .before .before .before .if1 in
+    let shared-slice-known2 = c .before .before .before .before .before .before .shared-slice-known2 in
+    let if2 = c .before .before .before .before .before .if2 in
+    let if3 = c .before .before .before .before .if3 in
+    let sequence-length = c .before .before .before .sequence-length in
+    let goes-on = c .before .goes-on in (
+      sym
+          (width-broken (a .s .now) (a .at) (if1 .left) (omega (arith, shared-slice-known2 .given (a .at))) (if2 .left) (if3 .left) _
+          (sequence-length .ensures) (goes-on .ensures) (c .if5 .left)),
+      omega arith,
+      omega arith,
+    )
 
 pub sequence-spec : {M : Type 1} → statement M
 sequence-spec =

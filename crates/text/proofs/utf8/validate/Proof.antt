@@ -81,7 +81,11 @@ sequence-requires : tie.Need-sequence-requires Inv-loop μ-loop
 sequence-requires c κs = search needs
 
 returns-2 : tie.Need-returns-2 Inv-loop μ-loop
-returns-2 c = sym (c .before .before .before .before .before .before .before .before .before .loop .inv .1 ∙ valid-stop (λ n. Valid) _ _ _ (c .before .sequence .ensures .0) (c .if5 .taken) (c .before .before .before .before .before .before .before .before .loop-test .taken))
+returns-2 c =
+    let turn = c .before .before .before .before .before .before .before .before .before .loop in
+    let test = c .before .before .before .before .before .before .before .before .loop-test in
+    let sequence = c .before .sequence in
+    sym (turn .inv .1 ∙ valid-stop (λ n. Valid) _ _ _ (sequence .ensures .0) (c .if5 .taken) (test .taken))
 
 add-at-3 : tie.Need-add-at-3 Inv-loop μ-loop
 add-at-3 c = omega arith
@@ -91,9 +95,11 @@ loop-less-4 c = omega arith
 
 loop-again-4 : tie.Need-loop-again-4 Inv-loop μ-loop
 loop-again-4 c =
+    let a = c .before .before .before .before .before .before .before .before .before .before .before .before .args in
     let v = c .before .before .before .before .before .before .before .before .before .loop in
-    let x = c .before .sequence .ensures in
-    let h : v .at + c .before .sequence .result ≤ length (c .before .before .before .before .before .before .before .before .before .before .before .before .args .s .now) = omega arith in
+    let sequence = c .before .sequence in
+    let x = sequence .ensures in
+    let h : v .at + sequence .result ≤ length (a .s .now) = omega arith in
     (h, v .inv .1 ∙ valid-on (λ n. Valid) _ (v .at) _ (x .0) (c .if5 .left) h)
 
 returns-3 : tie.Need-returns-3 Inv-loop μ-loop

@@ -26,7 +26,11 @@ sequence-requires : tie.Need-sequence-requires Inv-loop μ-loop
 sequence-requires c κs = search needs
 
 returns : tie.Need-returns Inv-loop μ-loop
-returns c = sym (c .before .before .before .loop .inv .1 ∙ valid-stop (λ n. Valid) _ _ _ (c .before .sequence .ensures .0) (c .if1 .taken) (c .before .before .loop-test .taken))
+returns c =
+    let turn = c .before .before .before .loop in
+    let test = c .before .before .loop-test in
+    let sequence = c .before .sequence in
+    sym (turn .inv .1 ∙ valid-stop (λ n. Valid) _ _ _ (sequence .ensures .0) (c .if1 .taken) (test .taken))
 
 add-at : tie.Need-add-at Inv-loop μ-loop
 add-at c = omega arith
@@ -36,9 +40,11 @@ loop-less c = omega arith
 
 loop-again : tie.Need-loop-again Inv-loop μ-loop
 loop-again c =
+    let a = c .before .before .before .before .before .args in
     let v = c .before .before .before .loop in
-    let x = c .before .sequence .ensures in
-    let h : v .at + c .before .sequence .result ≤ length (c .before .before .before .before .before .args .s .now) = omega arith in
+    let sequence = c .before .sequence in
+    let x = sequence .ensures in
+    let h : v .at + sequence .result ≤ length (a .s .now) = omega arith in
     (h, v .inv .1 ∙ valid-on (λ n. Valid) _ (v .at) _ (x .0) (c .if1 .left) h)
 
 returns-2 : tie.Need-returns-2 Inv-loop μ-loop

@@ -13,7 +13,10 @@ wide-requires : tie.Need-wide-requires
 wide-requires c κs = search needs
 
 returns : tie.Need-returns
-returns c = let a = c .before .before .before .before .args in rw (c .before .wide .ensures) (sym (value-one (a .s .now) (a .at) (a .n) (omega arith) (c .if1 .taken)))
+returns c =
+    let a = c .before .before .before .before .args in
+    let wide = c .before .wide in
+    rw (wide .ensures) (sym (value-one (a .s .now) (a .at) (a .n) (omega arith) (c .if1 .taken)))
 
 add-six : tie.Need-add-six
 add-six c = search needs
@@ -31,7 +34,11 @@ add-result : tie.Need-add-result
 add-result c = search needs
 
 returns-2 : tie.Need-returns-2
-returns-2 c = let a = c .before .before .before .before .before .before .before .args in rw (c .before .before .before .before .wide .ensures, c .before .six .ensures) (sym (value-two (a .s .now) (a .at) (a .n) (omega arith) (c .if2 .taken)))
+returns-2 c =
+    let a = c .before .before .before .before .before .before .before .args in
+    let wide = c .before .before .before .before .wide in
+    let six = c .before .six in
+    rw (wide .ensures, six .ensures) (sym (value-two (a .s .now) (a .at) (a .n) (omega arith) (c .if2 .taken)))
 
 add-six-2 : tie.Need-add-six-2
 add-six-2 c = search needs
@@ -55,7 +62,12 @@ add-result-3 : tie.Need-add-result-3
 add-result-3 c = search needs
 
 returns-3 : tie.Need-returns-3
-returns-3 c = let a = c .before .before .before .before .before .before .before .before .before .before .args in rw (c .before .before .before .before .before .before .before .wide .ensures, c .before .before .before .before .six .ensures, c .before .six2 .ensures) (sym (value-three (a .s .now) (a .at) (a .n) (omega arith) (c .if3 .taken)))
+returns-3 c =
+    let a = c .before .before .before .before .before .before .before .before .before .before .args in
+    let wide = c .before .before .before .before .before .before .before .wide in
+    let six = c .before .before .before .before .six in
+    let six2 = c .before .six2 in
+    rw (wide .ensures, six .ensures, six2 .ensures) (sym (value-three (a .s .now) (a .at) (a .n) (omega arith) (c .if3 .taken)))
 
 add-six-3 : tie.Need-add-six-3
 add-six-3 c = search needs
@@ -85,7 +97,12 @@ add-result-6 : tie.Need-add-result-6
 add-result-6 c = search needs
 
 returns-4 : tie.Need-returns-4
-returns-4 c = let a = c .before .before .before .before .before .before .before .before .before .before .before .before .args in rw (c .before .before .before .before .before .before .before .before .before .wide .ensures, c .before .before .before .before .before .before .six .ensures, c .before .before .before .six2 .ensures, c .six3 .ensures) (sym (value-four (a .s .now) (a .at) (a .n) (omega arith) (omega arith)))
+returns-4 c =
+    let a = c .before .before .before .before .before .before .before .before .before .before .before .before .args in
+    let wide = c .before .before .before .before .before .before .before .before .before .wide in
+    let six = c .before .before .before .before .before .before .six in
+    let six2 = c .before .before .before .six2 in
+    rw (wide .ensures, six .ensures, six2 .ensures, c .six3 .ensures) (sym (value-four (a .s .now) (a .at) (a .n) (omega arith) (omega arith)))
 
 pub value-at-spec : {M : Type 1} → statement M
 value-at-spec =

@@ -41,10 +41,22 @@ print-hex-requires : tie.Need-print-hex-requires Inv-loop μ-loop
 print-hex-requires c κs = search needs
 
 loop-less : tie.Need-loop-less Inv-loop μ-loop
-loop-less c = let h = char-inside (c .before .before .before .before .before .before .before .before .before .args .s .now) (c .before .before .before .before .before .before .before .loop .at) (c .before .before .before .before .before .before .peek .ensures .1) (c .before .before .before .before .code .given .1) in omega arith
+loop-less c =
+    let a = c .before .before .before .before .before .before .before .before .before .args in
+    let turn = c .before .before .before .before .before .before .before .loop in
+    let peek = c .before .before .before .before .before .before .peek in
+    let code = c .before .before .before .before .code in
+    let h = char-inside (a .s .now) (turn .at) (peek .ensures .1) (code .given .1) in
+    omega arith
 
 loop-again : tie.Need-loop-again Inv-loop μ-loop
-loop-again c = let h = char-inside (c .before .before .before .before .before .before .before .before .before .args .s .now) (c .before .before .before .before .before .before .before .loop .at) (c .before .before .before .before .before .before .peek .ensures .1) (c .before .before .before .before .code .given .1) in omega arith
+loop-again c =
+    let a = c .before .before .before .before .before .before .before .before .before .args in
+    let turn = c .before .before .before .before .before .before .before .loop in
+    let peek = c .before .before .before .before .before .before .peek in
+    let code = c .before .before .before .before .code in
+    let h = char-inside (a .s .now) (turn .at) (peek .ensures .1) (code .given .1) in
+    omega arith
 
 pub walk-spec : {M : Type 1} → statement M
 walk-spec =
