@@ -13,6 +13,7 @@ ghost use mathlib.Core.Path.{_≡_};
 ghost use mathlib.Core.Bool.{_&&_};
 ghost use Prim.Native.Nat.{_+_, _-_, _≤_, _<_};
 ghost use lib.ListN.{length, getD, drop};
+ghost use Rattle.text.specs.Utf8.{validityOf};
 ghost use Rattle.row.specs.Row.{moved, overlay};
 ghost use Rattle.raw.specs.Read.{strict};
 ghost use Rattle.raw.specs.Says.{Says, Within};
@@ -85,6 +86,16 @@ pub fn piece_end(s: &[u8], at: usize) -> usize
     far_end(s, at)
 }
 
+// The UTF-8 of a piece. A piece of a few bytes, as a damaged one may be, is not worth the preparations for blocks.
+fn validate(w: &[u8]) -> Validity
+    ensures { λ r. ⌜ r ≡ validityOf (now (w .entry)) ⌝ }
+{
+    if w.len() < 16 {
+        return utf8::validate_short(w);
+    }
+    utf8::validate(w)
+}
+
 // Strict reading of a piece that stands base bytes into the file. Its UTF-8 is checked unless it is known to be valid.
 fn read_alone(w: &[u8], base: usize, rows: &mut [u32], valid: bool) -> Answer
     requires { ⌜ Piece (now w) base valid ⌝ }
@@ -94,7 +105,7 @@ fn read_alone(w: &[u8], base: usize, rows: &mut [u32], valid: bool) -> Answer
     if valid {
         return file::parse(w, base, rows, 0);
     }
-    match utf8::validate(w) {
+    match validate(w) {
         Validity::IllFormed(i) => Answer::Refused(Fault {
             reason: Reason::NotUtf8,
             start: i,

@@ -13,6 +13,8 @@ use Rattle.text.proofs.utf8.sequence_length.Kinds as sequence-length-ki
 use Rattle.text.proofs.utf8.sequence_length.Reads as sequence-length
 use Rattle.text.proofs.utf8.validate.Kinds as validate-kinds
 use Rattle.text.proofs.utf8.validate.Reads as validate
+use Rattle.text.proofs.utf8.validate_short.Kinds as validate-short-kinds
+use Rattle.text.proofs.utf8.validate_short.Reads as validate-short
 use Rattle.text.proofs.utf8.decode.Kinds as decode-kinds
 use Rattle.text.proofs.utf8.decode.Reads as decode
 use Rattle.text.proofs.utf8.encode.Kinds as encode-kinds
@@ -69,6 +71,9 @@ one-sequence-length κs a x y s t p q = p ∙ sym q
 
 pub one-validate : One 1 validate-kinds.ps validate-kinds.r validate.Post
 one-validate κs a x y s t p q = p ∙ sym q
+
+pub one-validate-short : One 1 validate-short-kinds.ps validate-short-kinds.r validate-short.Post
+one-validate-short κs a x y s t p q = p ∙ sym q
 
 pub one-decode : One 1 decode-kinds.ps decode-kinds.r decode.Post
 one-decode κs a x y s t p q = p ∙ sym q

@@ -124,8 +124,8 @@ fn is_three(s: &[u8], at: usize) -> bool
     (0xe1 <= s[at]) & (s[at] <= 0xec) & is_tail(s[at + 1]) & is_tail(s[at + 2])
 }
 
-// `validate`, sequence by sequence.
-fn validate_short(s: &[u8]) -> Validity
+// `validate`, sequence by sequence: quicker for a text of a few bytes.
+pub fn validate_short(s: &[u8]) -> Validity
     ensures { λ r. ⌜ r ≡ validityOf (now (s .entry)) ⌝ }
 {
     let mut at = 0;
@@ -139,14 +139,10 @@ fn validate_short(s: &[u8]) -> Validity
     Validity::Valid
 }
 
-// Whether all of s is UTF-8, or the first byte of its first ill-formed sequence. A text of less than sixteen bytes, as a damaged piece may be, is not
-// worth the preparations for blocks.
+// Whether all of s is UTF-8, or the first byte of its first ill-formed sequence.
 pub fn validate(s: &[u8]) -> Validity
     ensures { λ r. ⌜ r ≡ validityOf (now (s .entry)) ⌝ }
 {
-    if s.len() < 16 {
-        return validate_short(s);
-    }
     let mut at = 0;
     while at < s.len() {
         if s[at] < 0x80 {

@@ -18,18 +18,12 @@ Inv-loop s at₀ at = (at ≤ length s) × (validityOf s ≡ walk lookValid (λ 
 abbrev μ-loop : tie.MeasureT-loop
 μ-loop s at₀ at = length s - at
 
-validate-short-requires : tie.Need-validate-short-requires Inv-loop μ-loop
-validate-short-requires c κs = search needs
-
-returns : tie.Need-returns Inv-loop μ-loop
-returns c = c .validate-short .ensures
-
 loop-holds : tie.Need-loop-holds Inv-loop μ-loop
 unfolding validityOf
 loop-holds c = (omega arith, refl)
 
-shared-slice-read-if2 : tie.Need-shared-slice-read-if2 Inv-loop μ-loop
-shared-slice-read-if2 c = omega arith
+shared-slice-read-if1 : tie.Need-shared-slice-read-if1 Inv-loop μ-loop
+shared-slice-read-if1 c = omega arith
 
 add-past-ascii : tie.Need-add-past-ascii Inv-loop μ-loop
 add-past-ascii c = omega arith
@@ -45,47 +39,47 @@ loop-again c =
     let v = c .before .before .before .before .loop in
     let h = c .before .before .before .loop-test .taken in
     let x = c .past-ascii .ensures in
-    (omega (arith, x .from, x .to), v .inv .1 ∙ valid-ascii (λ n. Valid) _ (v .at) h (c .before .if2 .taken) x)
+    (omega (arith, x .from, x .to), v .inv .1 ∙ valid-ascii (λ n. Valid) _ (v .at) h (c .before .if1 .taken) x)
 
 is-two-requires : tie.Need-is-two-requires Inv-loop μ-loop
 is-two-requires c κs = search needs
 
 add-at : tie.Need-add-at Inv-loop μ-loop
-add-at c = omega (arith, c .before .is-two .ensures (c .if3 .taken) .1)
+add-at c = omega (arith, c .before .is-two .ensures (c .if2 .taken) .1)
 
 loop-less-2 : tie.Need-loop-less-2 Inv-loop μ-loop
-loop-less-2 c = omega (arith, c .before .is-two .ensures (c .if3 .taken) .1)
+loop-less-2 c = omega (arith, c .before .is-two .ensures (c .if2 .taken) .1)
 
 loop-again-2 : tie.Need-loop-again-2 Inv-loop μ-loop
 loop-again-2 c =
     let v = c .before .before .before .before .before .loop in
-    let x = c .before .is-two .ensures (c .if3 .taken) in
+    let x = c .before .is-two .ensures (c .if2 .taken) in
     (x .1, v .inv .1 ∙ valid-on (λ n. Valid) _ (v .at) 2 (sym (x .0)) (λ z. omega arith) (x .1))
 
 is-three-requires : tie.Need-is-three-requires Inv-loop μ-loop
 is-three-requires c κs = search needs
 
 add-at-2 : tie.Need-add-at-2 Inv-loop μ-loop
-add-at-2 c = omega (arith, c .before .is-three .ensures (c .if4 .taken) .1)
+add-at-2 c = omega (arith, c .before .is-three .ensures (c .if3 .taken) .1)
 
 loop-less-3 : tie.Need-loop-less-3 Inv-loop μ-loop
-loop-less-3 c = omega (arith, c .before .is-three .ensures (c .if4 .taken) .1)
+loop-less-3 c = omega (arith, c .before .is-three .ensures (c .if3 .taken) .1)
 
 loop-again-3 : tie.Need-loop-again-3 Inv-loop μ-loop
 loop-again-3 c =
     let v = c .before .before .before .before .before .before .before .loop in
-    let x = c .before .is-three .ensures (c .if4 .taken) in
+    let x = c .before .is-three .ensures (c .if3 .taken) in
     (x .1, v .inv .1 ∙ valid-on (λ n. Valid) _ (v .at) 3 (sym (x .0)) (λ z. omega arith) (x .1))
 
 sequence-requires : tie.Need-sequence-requires Inv-loop μ-loop
 sequence-requires c κs = search needs
 
-returns-2 : tie.Need-returns-2 Inv-loop μ-loop
-returns-2 c =
+returns : tie.Need-returns Inv-loop μ-loop
+returns c =
     let turn = c .before .before .before .before .before .before .before .before .before .loop in
     let test = c .before .before .before .before .before .before .before .before .loop-test in
     let sequence = c .before .sequence in
-    sym (turn .inv .1 ∙ valid-stop (λ n. Valid) _ _ _ (sequence .ensures .0) (c .if5 .taken) (test .taken))
+    sym (turn .inv .1 ∙ valid-stop (λ n. Valid) _ _ _ (sequence .ensures .0) (c .if4 .taken) (test .taken))
 
 add-at-3 : tie.Need-add-at-3 Inv-loop μ-loop
 add-at-3 c = omega arith
@@ -95,15 +89,15 @@ loop-less-4 c = omega arith
 
 loop-again-4 : tie.Need-loop-again-4 Inv-loop μ-loop
 loop-again-4 c =
-    let a = c .before .before .before .before .before .before .before .before .before .before .before .before .args in
+    let a = c .before .before .before .before .before .before .before .before .before .before .before .args in
     let v = c .before .before .before .before .before .before .before .before .before .loop in
     let sequence = c .before .sequence in
     let x = sequence .ensures in
     let h : v .at + sequence .result ≤ length (a .s .now) = omega arith in
-    (h, v .inv .1 ∙ valid-on (λ n. Valid) _ (v .at) _ (x .0) (c .if5 .left) h)
+    (h, v .inv .1 ∙ valid-on (λ n. Valid) _ (v .at) _ (x .0) (c .if4 .left) h)
 
-returns-3 : tie.Need-returns-3 Inv-loop μ-loop
-returns-3 c = sym (c .before .loop .inv .1 ∙ walk-end lookValid (λ n. Valid) _ _ (c .loop-test .left))
+returns-2 : tie.Need-returns-2 Inv-loop μ-loop
+returns-2 c = sym (c .before .loop .inv .1 ∙ walk-end lookValid (λ n. Valid) _ _ (c .loop-test .left))
 
 pub validate-spec : {M : Type 1} → statement M
 validate-spec =
@@ -111,10 +105,8 @@ validate-spec =
     (tie.spec
     Inv-loop
     μ-loop
-    validate-short-requires
-    returns
     loop-holds
-    shared-slice-read-if2
+    shared-slice-read-if1
     add-past-ascii
     past-ascii-requires
     loop-less
@@ -128,8 +120,8 @@ validate-spec =
     loop-less-3
     loop-again-3
     sequence-requires
-    returns-2
+    returns
     add-at-3
     loop-less-4
     loop-again-4
-    returns-3)
+    returns-2)
