@@ -1,7 +1,7 @@
 -- Readers that look at one character, by what the code saw of it.
 --     eaten-off, eaten-on      by the place that `eat_if` told
 --     byte-on, byte-off, byte-end    by the byte, where only ASCII passes the test: `narrow-is`, `narrow-or`
---     need-off, need-on, need-end, need-other, need-byte, need-bare    the readers that want one character
+--     need-end, need-other, need-byte, need-bare    the readers that want one character
 -- Assumes nothing.
 use Prim.Native.Nat.{ℕ, zero, suc, _+_, _≤_, _<_, max}
 use mathlib.Core.Path.{_≡_, refl, sym, ap, _∙_, subst}
@@ -98,15 +98,6 @@ module _ (t : ℕ → Bool) (reason : Reason) (s : List ℕ) (i : ℕ) where
 
   on-told : {r : ℕ} → need t reason s i ≡ ok r [] → i + 1 ≤ r → r ≤ max i (length s) → (step.At r ≡ stepOf (need t reason s i)) × Onward (length s) 1 i (step.At r)
   on-told e h l = (sym (ap stepOf e), (h, l))
-
-  -- by `eat_if`
-  module _ {r : ℕ} (e : r ≡ pastOne t i (see s i)) where
-    pub need-off : r ≡ i → (step.Refused (faultAt reason i) ≡ stepOf (need t reason s i)) × Unit {0}
-    need-off h = off-told (eaten-off t s i (λ n. ok n []) (bad (faultAt reason i)) e h)
-
-    pub need-on : Ahead s i r → (r ≡ i → ⊥) → (step.At r ≡ stepOf (need t reason s i)) × Onward (length s) 1 i (step.At r)
-    need-on a h =
-        let l : i + 1 ≤ r = not-at (a .from) h in on-told (eaten-on t s i (λ n. ok n []) (bad (faultAt reason i)) e h) l (a .to)
 
   -- by the byte
   pub need-end : length s ≤ i → (step.Refused (faultAt reason i) ≡ stepOf (need t reason s i)) × Unit {0}

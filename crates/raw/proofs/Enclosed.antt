@@ -1,20 +1,21 @@
 -- A literal between two delimiters: the ways through `string_literal` and `braced`, whose three parts put no rows.
 -- Assumes nothing.
-use Prim.Native.Nat.{ℕ, _+_}
+use Prim.Native.Nat.{ℕ, _+_, _≤_}
+use native.Mathlib.Omega.{arith}
 use mathlib.Core.Path.{_≡_, refl, sym, ap, _∙_}
-use mathlib.Core.List.{List, []}
+use mathlib.Core.List.{List, [], _∷_}
 use Rattle.row.specs.declared.form.Kind.the-variants as kind
 use Rattle.row.specs.declared.fault.Fault.{Fault}
 use Rattle.raw.specs.declared.answer.Step.{Step}
 use Rattle.raw.specs.declared.answer.Step.the-variants as step
-use Rattle.raw.specs.declared.answer.Answer.the-variants as answer
-use Rattle.row.specs.Row.{row, putRow}
-use Rattle.raw.specs.Reader.{Out, ok, bad, Reader, _then_, over}
+use Rattle.raw.specs.declared.answer.Answer.{Answer}
+use Rattle.row.specs.Row.{row}
+use Rattle.raw.specs.Reader.{Out, ok, bad, Reader, more, _then_, over}
 use Rattle.raw.specs.Grammar.{quote, quoted, string}
-use Rattle.raw.specs.Says.{stepOf, Says}
-use Rattle.raw.proofs.Bare.{Bare, bare-at, bare-off, then-on, then-off}
+use Rattle.raw.specs.Says.{stepOf, Onward, Within, Says}
+use Rattle.raw.specs.Inner.{literalOf}
+use Rattle.raw.proofs.Bare.{Bare, bare-ok, bare-bad, bare-at, bare-off, then-on, then-off}
 use Rattle.raw.proofs.Steps.{quote-bare, quoted-bare}
-use Rattle.raw.proofs.Saying.{says-of, says-on, says-mark}
 
 -- f opens, g reads the inside, h closes
 module _ (f g h : Reader) (s : List ℕ) (i : ℕ) (F : Bare (f s i)) (G : (p : ℕ) → Bare (g s p)) (H : (p : ℕ) → Bare (h s p)) where
@@ -32,12 +33,18 @@ module _ (f g h : Reader) (s : List ℕ) (i : ℕ) (F : Bare (f s i)) (G : (p : 
       pub inside-off : {x : Fault} → r₂ ≡ step.Refused x → enclosed ≡ bad x
       inside-off d = then-on _ first ∙ rw (bare-off (g s p₁) e₂ d)
 
-      module _ {p₂ : ℕ} (d₂ : r₂ ≡ step.At p₂) {r₃ : Step} (e₃ : r₃ ≡ stepOf (h s p₂)) where
-        pub closes-off : {x : Fault} → r₃ ≡ step.Refused x → enclosed ≡ bad x
-        closes-off d = then-on _ first ∙ rw (bare-at (G p₁) e₂ d₂, bare-off (h s p₂) e₃ d)
+      pub closes : {p₂ : ℕ} → r₂ ≡ step.At p₂ → {r₃ : Step} → r₃ ≡ stepOf (h s p₂) → enclosed ≡ literalOf p₁ p₂ r₃
+      closes {p₂} d {r₃} e = then-on _ first ∙ rw (bare-at (G p₁) e₂ d) (by (h s p₂) (H p₂) r₃ e)
+        where
+          by : (o : Out) → Bare o → (r : Step) → r ≡ stepOf o → more (row kind.Literal p₁ p₂ ∷ []) o ≡ literalOf p₁ p₂ r
+          by (ok q rs) bare-ok r k = rw k
+          by (bad f) bare-bad r k = rw k
 
-        pub closes-on : {p₃ : ℕ} → r₃ ≡ step.At p₃ → {base n : ℕ} {b : List ℕ} → Says base enclosed n b (answer.Next p₃ (n + 1)) (putRow b n (row kind.Literal (base + p₁) (base + p₂)))
-        closes-on d = says-of (then-on _ first) (says-mark kind.Literal p₁ _ (bare-at (G p₁) e₂ d₂) (says-on (bare-at (H p₂) e₃ d)))
+-- a literal's answer is two places on at least: one for each delimiter
+pub literal-within : (len p a e base n : ℕ) (r : Step) {b b′ : List ℕ} {x : Answer} →
+    p + 1 ≤ e → e ≤ len → Onward len 1 e r → Says base (literalOf a e r) n b x b′ → Within len 2 p n x
+literal-within len p a e base n (step.At q) k l h y = rw (y .told) (omega arith, omega arith, omega arith)
+literal-within len p a e base n (step.Refused f) k l h y = rw (y .told) tt
 
 -- a string, with no row
 module _ (s : List ℕ) (i : ℕ) {r₁ : Step} (e₁ : r₁ ≡ stepOf (quote s i)) where

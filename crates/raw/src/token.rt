@@ -5,37 +5,56 @@ use row::fault::Reason;
 use text::class::Test;
 use text::scanner;
 ghost use mathlib.Core.Path.{_≡_};
-ghost use Prim.Native.Nat.{_≤_, max};
+ghost use mathlib.Core.Bool.{_||_};
+ghost use Prim.Native.Nat.{_≤_, _<_, max};
 ghost use lib.ListN.{length};
-ghost use Rattle.raw.specs.Grammar.{comma, atSign, opening, closing, quote, equals, comment, key, ident};
+ghost use Rattle.raw.specs.Grammar.{is, need, comma, atSign, opening, closing, quote, equals, comment, key, ident};
 ghost use Rattle.raw.specs.Says.{stepOf, Onward};
+
+// Eat a byte of ASCII, or refuse with a reason.
+fn need(s: &[u8], at: usize, byte: u8, reason: Reason) -> Step
+    requires { ⌜ byte < 128 ⌝ }
+    ensures { λ r. ⌜ (r ≡ stepOf (need (is byte) reason (now (s .entry)) at)) × Onward (length (now (s .entry))) 1 at r ⌝ }
+{
+    if at < s.len() {
+        if s[at] == byte {
+            return Step::At(at + 1);
+        }
+    }
+    Step::Refused(Fault {
+        reason,
+        start: at,
+        end: at,
+    })
+}
 
 // Eat a comma.
 pub fn comma(s: &[u8], at: usize) -> Step
     ensures { λ r. ⌜ (r ≡ stepOf (comma (now (s .entry)) at)) × Onward (length (now (s .entry))) 1 at r ⌝ }
 {
-    let next = scanner::eat_byte(s, at, 0x2c);
-    if next == at {
-        return Step::Refused(Fault {
-            reason: Reason::ExpectedComma,
-            start: at,
-            end: at,
-        });
-    }
-    Step::At(next)
+    need(s, at, 0x2c, Reason::ExpectedComma)
 }
 
 // Eat the "@" that an entry begins with.
 pub fn at_sign(s: &[u8], at: usize) -> Step
     ensures { λ r. ⌜ (r ≡ stepOf (atSign (now (s .entry)) at)) × Onward (length (now (s .entry))) 1 at r ⌝ }
 {
+    need(s, at, 0x40, Reason::ExpectedIdentifier)
+}
+
+// Eat a delimiter, or refuse with a reason: the brace that is named, or a double quote.
+fn brace(s: &[u8], at: usize, byte: u8, reason: Reason) -> Step
+    requires { ⌜ byte < 128 ⌝ }
+    ensures { λ r. ⌜ (r ≡ stepOf (need (λ c. is byte c || is 0x22 c) reason (now (s .entry)) at)) × Onward (length (now (s .entry))) 1 at r ⌝ }
+{
     if at < s.len() {
-        if s[at] == 0x40 {
+        let b = s[at];
+        if (b == byte) | (b == 0x22) {
             return Step::At(at + 1);
         }
     }
     Step::Refused(Fault {
-        reason: Reason::ExpectedIdentifier,
+        reason,
         start: at,
         end: at,
     })
@@ -45,64 +64,28 @@ pub fn at_sign(s: &[u8], at: usize) -> Step
 pub fn opening(s: &[u8], at: usize) -> Step
     ensures { λ r. ⌜ (r ≡ stepOf (opening (now (s .entry)) at)) × Onward (length (now (s .entry))) 1 at r ⌝ }
 {
-    if at < s.len() {
-        let b = s[at];
-        if (b == 0x7b) | (b == 0x22) {
-            return Step::At(at + 1);
-        }
-    }
-    Step::Refused(Fault {
-        reason: Reason::ExpectedOpeningBrace,
-        start: at,
-        end: at,
-    })
+    brace(s, at, 0x7b, Reason::ExpectedOpeningBrace)
 }
 
 // Eat the delimiter that closes: a brace, or a double quote.
 pub fn closing(s: &[u8], at: usize) -> Step
     ensures { λ r. ⌜ (r ≡ stepOf (closing (now (s .entry)) at)) × Onward (length (now (s .entry))) 1 at r ⌝ }
 {
-    if at < s.len() {
-        let b = s[at];
-        if (b == 0x7d) | (b == 0x22) {
-            return Step::At(at + 1);
-        }
-    }
-    Step::Refused(Fault {
-        reason: Reason::ExpectedClosingBrace,
-        start: at,
-        end: at,
-    })
+    brace(s, at, 0x7d, Reason::ExpectedClosingBrace)
 }
 
 // Eat a quote.
 pub fn quote(s: &[u8], at: usize) -> Step
     ensures { λ r. ⌜ (r ≡ stepOf (quote (now (s .entry)) at)) × Onward (length (now (s .entry))) 1 at r ⌝ }
 {
-    let next = scanner::eat_byte(s, at, 0x22);
-    if next == at {
-        return Step::Refused(Fault {
-            reason: Reason::ExpectedQuotationMark,
-            start: at,
-            end: at,
-        });
-    }
-    Step::At(next)
+    need(s, at, 0x22, Reason::ExpectedQuotationMark)
 }
 
 // Eat an equals sign.
 pub fn equals(s: &[u8], at: usize) -> Step
     ensures { λ r. ⌜ (r ≡ stepOf (equals (now (s .entry)) at)) × Onward (length (now (s .entry))) 1 at r ⌝ }
 {
-    let next = scanner::eat_byte(s, at, 0x3d);
-    if next == at {
-        return Step::Refused(Fault {
-            reason: Reason::ExpectedEquals,
-            start: at,
-            end: at,
-        });
-    }
-    Step::At(next)
+    need(s, at, 0x3d, Reason::ExpectedEquals)
 }
 
 // The place after an inline comment, if there is one.

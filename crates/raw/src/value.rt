@@ -11,9 +11,9 @@ use text::block;
 use text::class::Test;
 use text::scanner;
 ghost use mathlib.Core.Path.{_≡_};
-ghost use Prim.Native.Nat.{_+_};
+ghost use Prim.Native.Nat.{_+_, _≤_};
 ghost use lib.ListN.{length};
-ghost use Rattle.raw.specs.Inner.{Undelimited};
+ghost use Rattle.raw.specs.Inner.{Undelimited, literalOf};
 ghost use Rattle.raw.specs.Grammar.{quoted, string, stringLiteral, number, inBraces, braced, abbrElement, abbrTurn, abbrField};
 ghost use Rattle.raw.specs.Says.{stepOf, Onward, refusedOf, Says, Within, SaysTurn, WithinTurn, Ready};
 
@@ -175,6 +175,18 @@ pub fn refused(r: Step) -> Answer
     }
 }
 
+// The literal between two delimiters: row n, at its place in the file, unless the delimiter that closes is refused.
+fn literal(base: usize, from: usize, to: usize, closed: Step, rows: &mut [u32], n: usize) -> Answer
+    requires { ⌜ (from ≤ to) × Ready base to to n ⌝ }
+    ensures { λ r. ⌜ Says base (literalOf from to closed) n (now (rows .entry)) r (now (rows .exit)) ⌝ }
+{
+    let Step::At(at) = closed else {
+        return refused(closed);
+    };
+    form::put_row(rows, n, Kind::Literal, base + from, base + to);
+    Answer::Next { at, n: n + 1 }
+}
+
 // Eat a string whose inside is a literal: row n, at its place in the file.
 fn string_literal(s: &[u8], base: usize, at: usize, rows: &mut [u32], n: usize) -> Answer
     requires { ⌜ Ready base (length (now s)) at n ⌝ }
@@ -189,12 +201,7 @@ fn string_literal(s: &[u8], base: usize, at: usize, rows: &mut [u32], n: usize) 
     let Step::At(p2) = r2 else {
         return refused(r2);
     };
-    let r3 = token::quote(s, p2);
-    let Step::At(p3) = r3 else {
-        return refused(r3);
-    };
-    form::put_row(rows, n, Kind::Literal, base + p1, base + p2);
-    Answer::Next { at: p3, n: n + 1 }
+    literal(base, p1, p2, token::quote(s, p2), rows, n)
 }
 
 // Eat a braced value.
@@ -211,12 +218,7 @@ fn braced(s: &[u8], base: usize, at: usize, rows: &mut [u32], n: usize) -> Answe
     let Step::At(p2) = r2 else {
         return refused(r2);
     };
-    let r3 = token::closing(s, p2);
-    let Step::At(p3) = r3 else {
-        return refused(r3);
-    };
-    form::put_row(rows, n, Kind::Literal, base + p1, base + p2);
-    Answer::Next { at: p3, n: n + 1 }
+    literal(base, p1, p2, token::closing(s, p2), rows, n)
 }
 
 // Eat an element of an abbreviation that begins with neither a brace nor a quote.

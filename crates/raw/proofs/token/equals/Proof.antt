@@ -1,28 +1,16 @@
 -- `raw::token::equals` meets its contract. Assumes nothing.
-use borrow.Author.Needs.{needs}
+use native.Mathlib.Omega.{arith}
 use Rattle.text.specs.Class.{holdsOf}
-use Rattle.text.specs.declared.class.Test.the-variants.{Equals}
-use Rattle.row.specs.declared.fault.Reason.the-variants.{ExpectedEquals}
 use Rattle.raw.specs.Grammar.{equals}
-use Rattle.raw.proofs.Eaten.{need-off, need-on}
 use Rattle.raw.proofs.token.equals.Statement.{statement}
 use Rattle.raw.proofs.token.equals.Tie as tie
 
-eat-byte-requires : tie.Need-eat-byte-requires
-eat-byte-requires c κs = search needs
+need-requires : tie.Need-need-requires
+need-requires c κs = omega arith
 
 returns : tie.Need-returns
 unfolding equals holdsOf
-returns c =
-    let a = c .before .before .before .args in
-    need-off (holdsOf Equals) ExpectedEquals (a .s .now) (a .at) (c .before .eat-byte .ensures .0) (c .if1 .taken)
-
-returns-2 : tie.Need-returns-2
-unfolding equals holdsOf
-returns-2 c =
-    let a = c .before .before .before .args in
-    let eat-byte = c .before .eat-byte in
-    need-on (holdsOf Equals) ExpectedEquals (a .s .now) (a .at) (eat-byte .ensures .0) (eat-byte .ensures .1) (c .if1 .left)
+returns c = c .need .ensures
 
 pub equals-spec : {M : Type 1} → statement M
-equals-spec = tie.close (tie.spec eat-byte-requires returns returns-2)
+equals-spec = tie.close (tie.spec need-requires returns)

@@ -1,38 +1,15 @@
 -- `raw::token::opening` meets its contract. Assumes nothing.
-use mathlib.Core.Bool.{_||_}
 use native.Mathlib.Omega.{arith}
-use borrow.Author.Needs.{needs}
-use Rattle.row.specs.declared.fault.Reason.the-variants.{ExpectedOpeningBrace}
-use Rattle.raw.specs.Grammar.{is, opening}
-use Rattle.raw.proofs.Eaten.{narrow-is, narrow-or, need-end, need-other, need-byte}
+use Rattle.raw.specs.Grammar.{opening}
 use Rattle.raw.proofs.token.opening.Statement.{statement}
 use Rattle.raw.proofs.token.opening.Tie as tie
 
-shared-slice-read-b : tie.Need-shared-slice-read-b
-shared-slice-read-b c = search needs
-
-add-t11 : tie.Need-add-t11
-add-t11 c = search needs
+brace-requires : tie.Need-brace-requires
+brace-requires c κs = omega arith
 
 returns : tie.Need-returns
 unfolding opening
-returns c =
-    let a = c .before .before .before .args in
-    let if1 = c .before .before .if1 in
-    need-byte (λ x. is 0x7B x || is 0x22 x) ExpectedOpeningBrace (a .s .now) (a .at)
-    (narrow-or (is 0x7B) (is 0x22) (narrow-is 0x7B (omega arith)) (narrow-is 0x22 (omega arith))) (if1 .taken) (c .if2 .taken)
-
-returns-2 : tie.Need-returns-2
-unfolding opening
-returns-2 c =
-    let a = c .before .before .before .args in
-    let if1 = c .before .before .if1 in
-    need-other (λ x. is 0x7B x || is 0x22 x) ExpectedOpeningBrace (a .s .now) (a .at)
-    (narrow-or (is 0x7B) (is 0x22) (narrow-is 0x7B (omega arith)) (narrow-is 0x22 (omega arith))) (if1 .taken) (c .if2 .left)
-
-returns-3 : tie.Need-returns-3
-unfolding opening
-returns-3 c = let a = c .before .args in need-end (λ x. is 0x7B x || is 0x22 x) ExpectedOpeningBrace (a .s .now) (a .at) (c .if1 .left)
+returns c = c .brace .ensures
 
 pub opening-spec : {M : Type 1} → statement M
-opening-spec = tie.close (tie.spec shared-slice-read-b add-t11 returns returns-2 returns-3)
+opening-spec = tie.close (tie.spec brace-requires returns)
