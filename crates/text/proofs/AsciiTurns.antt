@@ -146,7 +146,8 @@ letters-more {s} {i} {j} a h e =
     go k p q false d = a .letters k p (omega (arith, eqb-false k j d))
 
 -- an identifier of letters alone, with what ends most identifiers behind it
-pub letters-id : {s : List ℕ} {i r : ℕ} → Letters s i r → i < r → r < length s → (eqb (getD s r 0) 0x20 || eqb (getD s r 0) 0x3D) ≡ true → (i + 1 ≡ pastOne isIdStart i (see s i)) × (r ≡ skip isIdContinue s (i + 1))
+pub letters-id : {s : List ℕ} {i r : ℕ} → Letters s i r → i < r → r < length s → (eqb (getD s r 0) 0x20 || eqb (getD s r 0) 0x3D) ≡ true →
+    (i + 1 ≡ pastOne isIdStart i (see s i)) × (r ≡ skip isIdContinue s (i + 1))
 letters-id {s} {i} {r} a l h t = (
   letter-start s i (omega arith) (a .letters i (omega arith) l) .0,
   sym (skip-over isIdContinue s (omega arith) (omega arith) (λ k p q b. letter-on s k b (a .letters k (omega arith) q)) ∙ id-stop s r h t),

@@ -48,7 +48,8 @@ unfolding decodeFrom
 decode-char [] t i e = absurd (omega (arith, char-some [] e .0))
 decode-char (b ∷ w) t i e = rw (char-width (b ∷ w) t e, ne-eqb (length (b ∷ w)) 0 (λ z. omega arith), take-append-seam (b ∷ w) t)
 
-pub decodes : (c : ℕ) (before after : List ℕ) → isScalar c ≡ true → decodeAt (before ++ octets c ++ after) (length before) ≡ decoded.Char c (length before + length (octets c))
+pub decodes : (c : ℕ) (before after : List ℕ) → isScalar c ≡ true →
+    decodeAt (before ++ octets c ++ after) (length before) ≡ decoded.Char c (length before + length (octets c))
 decodes c before after e =
     rw (append-assoc before (octets c) after, drop-append-seam before (octets c ++ after), decode-char (octets c) after (length before) (writes c e), reads c e)
 
@@ -108,7 +109,8 @@ boundary s n o = (boundary-cut s n o, cut-boundary s n)
 -- ---- the scanner
 
 -- past a sequence at a place
-cut-char : (s : List ℕ) (i : ℕ) (w t : List ℕ) → Cut s i → w ++ t ≡ drop i s → isChar w ≡ true → Octets t → (t ≡ drop (i + length w) s) × Cut s (i + length w)
+cut-char : (s : List ℕ) (i : ℕ) (w t : List ℕ) → Cut s i → w ++ t ≡ drop i s → isChar w ≡ true → Octets t →
+    (t ≡ drop (i + length w) s) × Cut s (i + length w)
 cut-char s i w t c q e o =
     let d : t ≡ drop (i + length w) s = sym (drop-append-seam w t) ∙ ap (drop (length w)) q ∙ drop-drop (length w) i s in
     let f : take (length w) (drop i s) ≡ w = ap (take (length w)) (sym q) ∙ take-append-seam w t in
@@ -116,7 +118,8 @@ cut-char s i w t c q e o =
     let h = c .inside in
     (d, record { inside = omega arith; before = rw (take-add i (length w) s, f) (octets-append (c .before) (octets-char w e)); after = rw (sym d) o })
 
-sees-from : {u : List ℕ} (s : List ℕ) (i c n : ℕ) → Octets u → u ≡ drop i s → Cut s i → seeFrom u i ≡ Char c n → (decodeFrom u i ≡ decoded.Char c n) × (isBoundary s n ≡ true)
+sees-from : {u : List ℕ} (s : List ℕ) (i c n : ℕ) → Octets u → u ≡ drop i s → Cut s i → seeFrom u i ≡ Char c n →
+    (decodeFrom u i ≡ decoded.Char c n) × (isBoundary s n ≡ true)
 unfolding seeFrom
 sees-from s i c n none q k e = let z : _≡_ {A = ℕ} 0 1 = cc in absurd (omega arith)
 sees-from s i c n (next w {s = t} x o) q k e =
@@ -125,7 +128,8 @@ sees-from s i c n (next w {s = t} x o) q k e =
     let b : i + length w ≡ n = cc in
     (decode-char w t i x ∙ rw (a, b), rw b at (cut-boundary s (i + length w) (cut-char s i w t k q x o .1)))
 
-pub sees : (s : List ℕ) (i c n : ℕ) → Octets s → isBoundary s i ≡ true → see s i ≡ Char c n → (decodeAt s i ≡ decoded.Char c n) × (isBoundary s n ≡ true)
+pub sees : (s : List ℕ) (i c n : ℕ) → Octets s → isBoundary s i ≡ true → see s i ≡ Char c n →
+    (decodeAt s i ≡ decoded.Char c n) × (isBoundary s n ≡ true)
 sees s i c n o b e = let k = boundary-cut s i o b in sees-from s i c n (k .after) refl k e
 
 skip-pass : (p : ℕ → Bool) (i : ℕ) (w t : List ℕ) → isChar w ≡ true → p (code (w ++ t)) ≡ true → lookPast p i (w ++ t) ≡ pass (length w - 1)
@@ -140,7 +144,8 @@ skip-stop p i u q = rw q
 abbrev skipFrom : (ℕ → Bool) → ℕ → List ℕ → ℕ
 skipFrom p i u = walkFrom (lookPast p) (λ n. n) i 0 u
 
-skip-turn : (p : ℕ → Bool) (s : List ℕ) (i : ℕ) (w t : List ℕ) → isChar w ≡ true → Cut s i → Cut s (skipFrom p (i + length w) t) → (x : Bool) → p (code (w ++ t)) ≡ x → Cut s (skipFrom p i (w ++ t))
+skip-turn : (p : ℕ → Bool) (s : List ℕ) (i : ℕ) (w t : List ℕ) → isChar w ≡ true → Cut s i → Cut s (skipFrom p (i + length w) t) → (x : Bool) →
+    p (code (w ++ t)) ≡ x → Cut s (skipFrom p i (w ++ t))
 skip-turn p s i w t e k ih true q = rw (walk-char (lookPast p) (λ n. n) i w t e (skip-pass p i w t e q)) ih
 skip-turn p s i w t e k ih false q =
     rw (from-answer (lookPast p) (λ n. n) i (w ++ t) i (omega (arith, char-some w e .0, length-append w t)) (skip-stop p i (w ++ t) q)) k

@@ -38,7 +38,8 @@ apart-none x b {k} q h = go (ltb b (x .first)) refl
 least-three : (a b c : ℕ) → 0 < min a (min b c) → (0 < a) × (0 < b) × (0 < c)
 least-three a b c h = (omega arith, omega arith, omega arith)
 
-pub distance-none : (x : Set) (b : ℕ) {p q r m n : ℕ} → p ≡ apart (x .one) b → q ≡ apart (x .two) b → r ≡ apart (x .three) b → m ≡ min q r → n ≡ min p m → 0 < n → inSet x b ≡ false
+pub distance-none : (x : Set) (b : ℕ) {p q r m n : ℕ} → p ≡ apart (x .one) b → q ≡ apart (x .two) b → r ≡ apart (x .three) b → m ≡ min q r →
+    n ≡ min p m → 0 < n → inSet x b ≡ false
 unfolding inSet
 distance-none x b {p} {q} {r} e f g d c h =
     let l = least-three p q r (subst (λ (k : ℕ). 0 < k) (c ∙ ap (min p) d) h) in
@@ -77,7 +78,8 @@ clear-not x y t {b} f e =
 abbrev pub Before : Set → List ℕ → ℕ → ℕ → ℕ → Type 0
 Before x s i k m = (j : ℕ) → j < k → j < m → (getD s (i + j) 0 < 256) × (inSet x (getD s (i + j) 0) ≡ false)
 
-pub part-more : (x : Set) (s : List ℕ) (i k m p : ℕ) {r : ℕ} → r ≡ min m p → Before x s i k m → getD s (i + k) 0 < 256 → (k < p → inSet x (getD s (i + k) 0) ≡ false) → Before x s i (k + 1) r
+pub part-more : (x : Set) (s : List ℕ) (i k m p : ℕ) {r : ℕ} → r ≡ min m p → Before x s i k m → getD s (i + k) 0 < 256 →
+    (k < p → inSet x (getD s (i + k) 0) ≡ false) → Before x s i (k + 1) r
 part-more x s i k m p e h b one j l n = go (eqb j k) refl
   where
     go : (t : Bool) → eqb j k ≡ t → (getD s (i + j) 0 < 256) × (inSet x (getD s (i + j) 0) ≡ false)

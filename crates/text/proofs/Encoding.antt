@@ -70,10 +70,12 @@ module _ (c : ℕ) (b : List ℕ) where
       pub short-three : length b < 3 → Encode c b NoRoom b
       short-three h = short ((0xE0 + c / 64 / 64) ∷ further (c / 64) ∷ further c ∷ []) three h
 
-      pub encode-three : 3 ≤ length b → {x y : ℕ} → x ≡ further (c / 64) → y ≡ further c → Encode c b (Wrote 3) (set (set (set b 0 (0xE0 + c / 64 / 64)) 1 x) 2 y)
+      pub encode-three : 3 ≤ length b → {x y : ℕ} → x ≡ further (c / 64) → y ≡ further c →
+          Encode c b (Wrote 3) (set (set (set b 0 (0xE0 + c / 64 / 64)) 1 x) 2 y)
       encode-three h {x} {y} p q = wrote ((0xE0 + c / 64 / 64) ∷ further (c / 64) ∷ further c ∷ []) (set (set (set b 0 (0xE0 + c / 64 / 64)) 1 x) 2 y) three h (go b h)
         where
-          go : (l : List ℕ) → 3 ≤ length l → set (set (set l 0 (0xE0 + c / 64 / 64)) 1 x) 2 y ≡ (0xE0 + c / 64 / 64) ∷ further (c / 64) ∷ further c ∷ drop 3 l
+          go : (l : List ℕ) → 3 ≤ length l →
+              set (set (set l 0 (0xE0 + c / 64 / 64)) 1 x) 2 y ≡ (0xE0 + c / 64 / 64) ∷ further (c / 64) ∷ further c ∷ drop 3 l
           go [] h = absurd (omega arith)
           go (p₀ ∷ []) h = absurd (omega arith)
           go (p₀ ∷ p₁ ∷ []) h = absurd (omega arith)
@@ -87,10 +89,15 @@ module _ (c : ℕ) (b : List ℕ) where
       pub short-four : length b < 4 → Encode c b NoRoom b
       short-four h = short ((0xF0 + c / 64 / 64 / 64) ∷ further (c / 64 / 64) ∷ further (c / 64) ∷ further c ∷ []) four h
 
-      pub encode-four : 4 ≤ length b → {x y z : ℕ} → x ≡ further (c / 64 / 64) → y ≡ further (c / 64) → z ≡ further c → Encode c b (Wrote 4) (set (set (set (set b 0 (0xF0 + c / 64 / 64 / 64)) 1 x) 2 y) 3 z)
-      encode-four h {x} {y} {z} p q r = wrote ((0xF0 + c / 64 / 64 / 64) ∷ further (c / 64 / 64) ∷ further (c / 64) ∷ further c ∷ []) (set (set (set (set b 0 (0xF0 + c / 64 / 64 / 64)) 1 x) 2 y) 3 z) four h (go b h)
+      pub encode-four : 4 ≤ length b → {x y z : ℕ} → x ≡ further (c / 64 / 64) → y ≡ further (c / 64) → z ≡ further c →
+          Encode c b (Wrote 4) (set (set (set (set b 0 (0xF0 + c / 64 / 64 / 64)) 1 x) 2 y) 3 z)
+      encode-four h {x} {y} {z} p q r =
+          wrote ((0xF0 + c / 64 / 64 / 64) ∷ further (c / 64 / 64) ∷ further (c / 64) ∷ further c ∷ [])
+          (set (set (set (set b 0 (0xF0 + c / 64 / 64 / 64)) 1 x) 2 y) 3 z) four h (go b h)
         where
-          go : (l : List ℕ) → 4 ≤ length l → set (set (set (set l 0 (0xF0 + c / 64 / 64 / 64)) 1 x) 2 y) 3 z ≡ (0xF0 + c / 64 / 64 / 64) ∷ further (c / 64 / 64) ∷ further (c / 64) ∷ further c ∷ drop 4 l
+          go : (l : List ℕ) → 4 ≤ length l →
+              set (set (set (set l 0 (0xF0 + c / 64 / 64 / 64)) 1 x) 2 y) 3 z
+              ≡ (0xF0 + c / 64 / 64 / 64) ∷ further (c / 64 / 64) ∷ further (c / 64) ∷ further c ∷ drop 4 l
           go [] h = absurd (omega arith)
           go (p₀ ∷ []) h = absurd (omega arith)
           go (p₀ ∷ p₁ ∷ []) h = absurd (omega arith)

@@ -89,7 +89,8 @@ begins-take (r ∷ rs) (b ∷ u) e =
 abbrev Leads : List (List Range) → List ℕ → ℕ → Type 0
 Leads alts u n = Any alts (take n u) × (n ≤ length u)
 
-leads-step : (a : List Range) (others : List (List Range)) (u : List ℕ) (n : ℕ) → (0 < n → Leads others u n) → (x : Bool) → begins a u ≡ x → 0 < cond x (length a) n → Leads (a ∷ others) u (cond x (length a) n)
+leads-step : (a : List Range) (others : List (List Range)) (u : List ℕ) (n : ℕ) → (0 < n → Leads others u n) → (x : Bool) → begins a u ≡ x →
+    0 < cond x (length a) n → Leads (a ∷ others) u (cond x (length a) n)
 leads-step a others u n ih true e h = let k = begins-take a u e in (here (k .0), k .1)
 leads-step a others u n ih false e h = let k = ih h in (there (k .0), k .1)
 
@@ -106,7 +107,8 @@ width-char u h = let k = widthBy-leads alternatives u h in (of-any (k .0), k .1)
 -- the first ranges rise from n on
 data Rising : ℕ → List (List Range) → Type 0 where
   last : {n : ℕ} → Rising n []
-  step : {n : ℕ} {r : Range} {rs : List Range} {others : List (List Range)} → n ≤ r .first → n ≤ r .last → Rising (suc (r .last)) others → Rising n ((r ∷ rs) ∷ others)
+  step : {n : ℕ} {r : Range} {rs : List Range} {others : List (List Range)} → n ≤ r .first → n ≤ r .last → Rising (suc (r .last)) others →
+      Rising n ((r ∷ rs) ∷ others)
 
 abbrev rising : ℕ → List (List Range) → Bool
 rising n [] = true

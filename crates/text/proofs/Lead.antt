@@ -55,7 +55,8 @@ width-rests [] a s = refl
 width-rests ([] ∷ others) a s = refl
 width-rests ((r ∷ rs) ∷ others) a s = go (within r a) (begins rs s) refl (width-rests others a s)
   where
-    go : (t u : Bool) → begins rs s ≡ u → widthBy others (a ∷ s) ≡ restWidth (rests a others) s → cond (t && u) (suc (length rs)) (widthBy others (a ∷ s)) ≡ restWidth (cond t (rs ∷ rests a others) (rests a others)) s
+    go : (t u : Bool) → begins rs s ≡ u → widthBy others (a ∷ s) ≡ restWidth (rests a others) s →
+        cond (t && u) (suc (length rs)) (widthBy others (a ∷ s)) ≡ restWidth (cond t (rs ∷ rests a others) (rests a others)) s
     go true true q e = rw q
     go true false q e = rw q e
     go false u q e = e
@@ -138,7 +139,8 @@ range a h high leads =
 
 -- ---- at a place
 
-begins-at : (r : Range) (rs : List Range) (s : List ℕ) (i : ℕ) → i < length s → begins (r ∷ rs) (drop i s) ≡ (within r (getD s i 0) && begins rs (drop (i + 1) s))
+begins-at : (r : Range) (rs : List Range) (s : List ℕ) (i : ℕ) → i < length s →
+    begins (r ∷ rs) (drop i s) ≡ (within r (getD s i 0) && begins rs (drop (i + 1) s))
 unfolding begins
 begins-at r rs s i h = rw (drop-cons s i 0 h, add-one i)
 
@@ -170,14 +172,18 @@ module _ (s : List ℕ) (i a n : ℕ) {x : Bool} (room : i + n ≤ length s) (se
     pub on-three : n ≡ 3 → (x && y) ≡ begins (seconds a ∷ replicate (n - 2) tail) (drop (i + 1) s)
     unfolding begins goesSecond
     on-three e =
-        rw (second, third, e, begins-at (seconds a) (tail ∷ []) s (i + 1) (omega arith), step s i 1 2 refl, begins-at tail [] s (i + 2) (omega arith), and-true (within tail (getD s (i + 2) 0)))
+        rw (second, third, e) (rw (begins-at (seconds a) (tail ∷ []) s (i + 1) (omega arith), step s i 1 2 refl)
+        (rw (begins-at tail [] s (i + 2) (omega arith), and-true (within tail (getD s (i + 2) 0)))))
 
-    pub on-four : (n ≡ 2 → ⊥) → (n ≡ 3 → ⊥) → 2 ≤ n → n ≤ 4 → {z : Bool} → z ≡ within tail (getD s (i + 3) 0) → (x && y && z) ≡ begins (seconds a ∷ replicate (n - 2) tail) (drop (i + 1) s)
+    pub on-four : (n ≡ 2 → ⊥) → (n ≡ 3 → ⊥) → 2 ≤ n → n ≤ 4 → {z : Bool} → z ≡ within tail (getD s (i + 3) 0) →
+        (x && y && z) ≡ begins (seconds a ∷ replicate (n - 2) tail) (drop (i + 1) s)
     unfolding begins goesSecond
     on-four p q l h fourth =
         let e : n ≡ 4 = omega arith in
-        rw (second, third, fourth, e, begins-at (seconds a) (tail ∷ tail ∷ []) s (i + 1) (omega arith), step s i 1 2 refl, begins-at tail (tail ∷ []) s (i + 2) (omega arith), step s i 2 3 refl, begins-at tail [] s (i + 3) (omega arith), and-true (within tail (getD s (i + 3) 0)))
-        (and-assoc (within (seconds a) (getD s (i + 1) 0)) (within tail (getD s (i + 2) 0)) (within tail (getD s (i + 3) 0)))
+        rw (second, third, fourth, e) (rw (begins-at (seconds a) (tail ∷ tail ∷ []) s (i + 1) (omega arith), step s i 1 2 refl)
+        (rw (begins-at tail (tail ∷ []) s (i + 2) (omega arith), step s i 2 3 refl)
+        (rw (begins-at tail [] s (i + 3) (omega arith), and-true (within tail (getD s (i + 3) 0)))
+        (and-assoc (within (seconds a) (getD s (i + 1) 0)) (within tail (getD s (i + 2) 0)) (within tail (getD s (i + 3) 0))))))
 
 pub width-end : (s : List ℕ) (i : ℕ) → length s ≤ i → width (drop i s) ≡ 0
 unfolding alternatives widthBy begins
@@ -234,8 +240,11 @@ module _ (s : List ℕ) (i : ℕ) where
       rw (drop-next s i (omega arith), drop-more s i 1 2 (omega arith) refl, above 0x00 0x7F (getD s i 0) (omega arith), t, u)
 
   -- [RFC3629:4] the second alternative of UTF8-3
-  pub width-three : i + 3 ≤ length s → within (0xE1 – 0xEC) (getD s i 0) ≡ true → within tail (getD s (i + 1) 0) ≡ true → within tail (getD s (i + 2) 0) ≡ true → width (drop i s) ≡ 3
+  pub width-three : i + 3 ≤ length s → within (0xE1 – 0xEC) (getD s i 0) ≡ true → within tail (getD s (i + 1) 0) ≡ true →
+      within tail (getD s (i + 2) 0) ≡ true → width (drop i s) ≡ 3
   unfolding widthBy begins alternatives
   width-three h t u v =
       let b = within-true (0xE1 – 0xEC) (getD s i 0) t in
-      rw (drop-next s i (omega arith), drop-more s i 1 2 (omega arith) refl, drop-more s i 2 3 (omega arith) refl, above 0x00 0x7F (getD s i 0) (omega arith), above 0xC2 0xDF (getD s i 0) (omega arith), above 0xE0 0xE0 (getD s i 0) (omega arith), t, u, v)
+      rw (drop-next s i (omega arith), drop-more s i 1 2 (omega arith) refl, drop-more s i 2 3 (omega arith) refl)
+      (rw (above 0x00 0x7F (getD s i 0) (omega arith), above 0xC2 0xDF (getD s i 0) (omega arith), above 0xE0 0xE0 (getD s i 0) (omega arith))
+      (rw (t, u, v)))

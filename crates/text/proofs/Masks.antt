@@ -22,7 +22,8 @@ beq-eq true false t = absurd t
 beq-eq false true t = absurd t
 beq-eq false false t = refl
 
-pub masks : (t : Test) (low high : ℕ) (narrow : Bool) → T (below (λ b. Bool·beq (hasBit low high b) (holdsOf t b)) 128) → (narrow ≡ true → (c : ℕ) → 128 ≤ c → holdsOf t c ≡ false) → {u : Test} {m : Masks} → u ≡ t → m ≡ masksOf low high narrow → AsciiOf u m
+pub masks : (t : Test) (low high : ℕ) (narrow : Bool) → T (below (λ b. Bool·beq (hasBit low high b) (holdsOf t b)) 128) →
+    (narrow ≡ true → (c : ℕ) → 128 ≤ c → holdsOf t c ≡ false) → {u : Test} {m : Masks} → u ≡ t → m ≡ masksOf low high narrow → AsciiOf u m
 masks t low high narrow computed others {u} {m} p q =
     subst (λ (v : Test). AsciiOf v m) (sym p)
     (subst (AsciiOf t) (sym q)
@@ -48,5 +49,6 @@ pub told : {u t : Test} (c : ℕ) → u ≡ t → holdsOf t c ≡ holdsOf u c
 told c p = ap (λ (v : Test). holdsOf v c) (sym p)
 
 -- thirteen tests in a row, as the code joins them and as `mark` does
-pub thirteen : (a b c d e f g h i j k l m : Bool) → (a || b || c || d || e || f || g || h || i || j || k || l || m) ≡ (a || (b || (c || (d || (e || (f || (g || (h || (i || (j || (k || (l || (m || false)))))))))))))
+pub thirteen : (a b c d e f g h i j k l m : Bool) →
+    (a || b || c || d || e || f || g || h || i || j || k || l || m) ≡ (a || (b || (c || (d || (e || (f || (g || (h || (i || (j || (k || (l || (m || false)))))))))))))
 thirteen a b c d e f g h i j k l m = simp (or-assoc, or-false)

@@ -52,7 +52,8 @@ see-up a s p =
 width-more : (u t : List ℕ) (n : ℕ) → width u ≡ suc n → width (u ++ t) ≡ suc n
 width-more u t n e =
     let k = rw e at (width-char u (omega arith)) in
-    let f : take (suc n) u ++ (drop (suc n) u ++ t) ≡ u ++ t = sym (append-assoc (take (suc n) u) (drop (suc n) u) t) ∙ ap (λ (v : List ℕ). v ++ t) (take-append-drop (suc n) u) in
+    let f : take (suc n) u ++ (drop (suc n) u ++ t) ≡ u ++ t =
+    sym (append-assoc (take (suc n) u) (drop (suc n) u) t) ∙ ap (λ (v : List ℕ). v ++ t) (take-append-drop (suc n) u) in
     sym (ap width f) ∙ char-width (take (suc n) u) (drop (suc n) u ++ t) (k .0) ∙ length-take-le (suc n) u (k .1)
 
 -- and one that ends inside it
@@ -90,7 +91,8 @@ front-width u t n h f e = go (leb n (length u)) refl
         let k = rw e at (width-char (u ++ t) (omega arith)) in
         let c = char-further (take n (u ++ t)) (length u) 256 (k .0) h (omega (arith, length-take-le n (u ++ t) (k .1))) in
         let z : length u + 0 ≡ length u = omega arith in
-        let g : getD (take n (u ++ t)) (length u) 256 ≡ getD t 0 256 = getD-take n (u ++ t) (length u) 256 l ∙ ap (λ (m : ℕ). getD (u ++ t) m 256) (sym z) ∙ getD-append-add u t 0 256 in
+        let g : getD (take n (u ++ t)) (length u) 256 ≡ getD t 0 256 =
+        getD-take n (u ++ t) (length u) 256 l ∙ ap (λ (m : ℕ). getD (u ++ t) m 256) (sym z) ∙ getD-append-add u t 0 256 in
         let b = ap (within tail) g in let o : _≡_ {A = ℕ} 0 1 = cc in absurd (omega arith)
 
 pub see-front : (s t : List ℕ) (p : ℕ) → within tail (getD t 0 256) ≡ false → p < length s → see (s ++ t) p ≡ see s p

@@ -47,7 +47,8 @@ octets-after t (next w {s} e o) q = octets-after t o (octets-rest w (s ++ t) e (
 -- ---- walks over them
 
 module _ {R : Type 0} (f : ℕ → List ℕ → Look R) (e : ℕ → R) where
-  pub walk-char : (i : ℕ) (w t : List ℕ) → isChar w ≡ true → f i (w ++ t) ≡ pass (length w - 1) → walkFrom f e i 0 (w ++ t) ≡ walkFrom f e (i + length w) 0 t
+  pub walk-char : (i : ℕ) (w t : List ℕ) → isChar w ≡ true → f i (w ++ t) ≡ pass (length w - 1) →
+      walkFrom f e i 0 (w ++ t) ≡ walkFrom f e (i + length w) 0 t
   walk-char i w t c q =
       let h = char-some w c .0 in
       let n : suc (length w - 1) ≡ length w = omega arith in
@@ -79,7 +80,8 @@ valid-answer : (i : ℕ) (u : List ℕ) (r : Validity) → lookValid i u ≡ ans
 unfolding lookValid
 valid-answer i u r q = go (eqb (width u) 0) refl q
   where
-    go : (x : Bool) → eqb (width u) 0 ≡ x → cond x (answer (validity.IllFormed i)) (pass (width u - 1)) ≡ answer r → (width u ≡ 0) × (validity.IllFormed i ≡ r)
+    go : (x : Bool) → eqb (width u) 0 ≡ x → cond x (answer (validity.IllFormed i)) (pass (width u - 1)) ≡ answer r →
+        (width u ≡ 0) × (validity.IllFormed i ≡ r)
     go true e q = (eqb-true _ _ e, cc)
     go false e q = let z : _≡_ {A = ℕ} 0 1 = cc in absurd (omega arith)
 

@@ -71,7 +71,8 @@ module _ (s : List ℕ) (i n : ℕ) (room : i + n ≤ length s) where
   unfolding value gather
   value-three e = rw (e, drop-next s i (omega arith), drop-more s i 1 2 (omega arith) refl, drop-more s i 2 3 (omega arith) refl)
 
-  pub value-four : n ≡ 4 → value (take n (drop i s)) ≡ ((getD s i 0 % 8 * 64 + getD s (i + 1) 0 % 64) * 64 + getD s (i + 2) 0 % 64) * 64 + getD s (i + 3) 0 % 64
+  pub value-four : n ≡ 4 →
+      value (take n (drop i s)) ≡ ((getD s i 0 % 8 * 64 + getD s (i + 1) 0 % 64) * 64 + getD s (i + 2) 0 % 64) * 64 + getD s (i + 3) 0 % 64
   unfolding value gather
   value-four e =
       rw (

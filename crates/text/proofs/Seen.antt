@@ -55,7 +55,8 @@ unfolding seeFrom decodeFrom code rest
 from-decoded [] i = refl
 from-decoded (b ∷ s) i = go (width (b ∷ s)) (eqb (width (b ∷ s)) 0) refl
   where
-    go : (w : ℕ) (t : Bool) → eqb w 0 ≡ t → seen.Char (cond t 0xFFFD (value (take w (b ∷ s)))) (i + 1 + (w - 1)) ≡ seenOf i (cond t decoded.IllFormed (decoded.Char (value (take w (b ∷ s))) (i + w)))
+    go : (w : ℕ) (t : Bool) → eqb w 0 ≡ t →
+        seen.Char (cond t 0xFFFD (value (take w (b ∷ s)))) (i + 1 + (w - 1)) ≡ seenOf i (cond t decoded.IllFormed (decoded.Char (value (take w (b ∷ s))) (i + w)))
     go w true e = let q = eqb-true w 0 e in ap (seen.Char 0xFFFD) (omega arith)
     go w false e = let q = eqb-false w 0 e in ap (seen.Char (value (take w (b ∷ s)))) (omega arith)
 
@@ -81,7 +82,9 @@ pub see-ascii : (s : List ℕ) (i : ℕ) → i < length s → getD s i 0 < 0x80 
 unfolding code rest
 see-ascii s i h a =
     let w = width-ascii s i h (omega arith) a in
-    see-at s i h ∙ rw w (ap (λ (c : ℕ). seen.Char c (i + 1 + 0)) (value-one s i 1 (omega arith) refl ∙ mod-eq-of-lt (omega arith)) ∙ ap (seen.Char (getD s i 0)) (omega arith))
+    see-at s i h
+    ∙ rw w (ap (λ (c : ℕ). seen.Char c (i + 1 + 0)) (value-one s i 1 (omega arith) refl ∙ mod-eq-of-lt (omega arith))
+    ∙ ap (seen.Char (getD s i 0)) (omega arith))
 
 -- ---- by what a call answered: g is what was seen, and x what it was told to be
 

@@ -51,10 +51,12 @@ tail-of b l h = record { low = l; high = h }
 
 -- ---- from the grammar
 
-three-of : (a b : ℕ) {s : List ℕ} → (a ≡ 0xED → b ≤ 0x9F) → Match (tail ∷ []) s → 0xE0 * 64 + 0xA0 ≤ a * 64 + b → a ≤ 0xEF → 0x80 ≤ b → b ≤ 0xBF → Shape (a ∷ b ∷ s)
+three-of : (a b : ℕ) {s : List ℕ} → (a ≡ 0xED → b ≤ 0x9F) → Match (tail ∷ []) s → 0xE0 * 64 + 0xA0 ≤ a * 64 + b → a ≤ 0xEF → 0x80 ≤ b → b ≤ 0xBF →
+    Shape (a ∷ b ∷ s)
 three-of a b n (on {b = c} x y end) l h p q = three (record { low = l; high = h; second = tail-of b p q; third = tail-of c x y; plain = n })
 
-four-of : (a b : ℕ) {s : List ℕ} → Match (tail ∷ tail ∷ []) s → 0xF0 * 64 + 0x90 ≤ a * 64 + b → a * 64 + b ≤ 0xF4 * 64 + 0x8F → 0x80 ≤ b → b ≤ 0xBF → Shape (a ∷ b ∷ s)
+four-of : (a b : ℕ) {s : List ℕ} → Match (tail ∷ tail ∷ []) s → 0xF0 * 64 + 0x90 ≤ a * 64 + b → a * 64 + b ≤ 0xF4 * 64 + 0x8F → 0x80 ≤ b → b ≤ 0xBF →
+    Shape (a ∷ b ∷ s)
 four-of a b (on {b = c} x y (on {b = d} v z end)) l h p q = four (record { low = l; high = h; second = tail-of b p q; third = tail-of c x y; fourth = tail-of d v z })
 
 any-shape : {w : List ℕ} → Any alternatives w → Shape w
@@ -64,10 +66,12 @@ any-shape (there (here (on l h (on {b = b} p q end)))) = two l h (tail-of b p q)
 any-shape (there (there (here (on {b = a} l h (on {b = b} p q m))))) = three-of a b (λ e. omega arith) m (omega arith) (omega arith) (omega arith) (omega arith)
 any-shape (there (there (there (here (on {b = a} l h (on {b = b} p q m)))))) = three-of a b (λ e. omega arith) m (omega arith) (omega arith) (omega arith) (omega arith)
 any-shape (there (there (there (there (here (on {b = a} l h (on {b = b} p q m))))))) = three-of a b (λ e. omega arith) m (omega arith) (omega arith) (omega arith) (omega arith)
-any-shape (there (there (there (there (there (here (on {b = a} l h (on {b = b} p q m)))))))) = three-of a b (λ e. omega arith) m (omega arith) (omega arith) (omega arith) (omega arith)
+any-shape (there (there (there (there (there (here (on {b = a} l h (on {b = b} p q m)))))))) =
+    three-of a b (λ e. omega arith) m (omega arith) (omega arith) (omega arith) (omega arith)
 any-shape (there (there (there (there (there (there (here (on {b = a} l h (on {b = b} p q m))))))))) = four-of a b m (omega arith) (omega arith) (omega arith) (omega arith)
 any-shape (there (there (there (there (there (there (there (here (on {b = a} l h (on {b = b} p q m)))))))))) = four-of a b m (omega arith) (omega arith) (omega arith) (omega arith)
-any-shape (there (there (there (there (there (there (there (there (here (on {b = a} l h (on {b = b} p q m))))))))))) = four-of a b m (omega arith) (omega arith) (omega arith) (omega arith)
+any-shape (there (there (there (there (there (there (there (there (here (on {b = a} l h (on {b = b} p q m))))))))))) =
+    four-of a b m (omega arith) (omega arith) (omega arith) (omega arith)
 
 pub char-shape : (w : List ℕ) → isChar w ≡ true → Shape w
 char-shape w e = any-shape (any-of alternatives w e)
@@ -80,7 +84,8 @@ tail-match c = on (c .low) (c .high) end
 tails-match : {c d : ℕ} → Tail c → Tail d → Match (tail ∷ tail ∷ []) (c ∷ d ∷ [])
 tails-match c d = on (c .low) (c .high) (tail-match d)
 
-also : (a b : ℕ) {r q : Range} {rs : List Range} {s : List ℕ} → Match rs s → r .first ≤ a → a ≤ r .last → q .first ≤ b → b ≤ q .last → Match (r ∷ q ∷ rs) (a ∷ b ∷ s)
+also : (a b : ℕ) {r q : Range} {rs : List Range} {s : List ℕ} → Match rs s → r .first ≤ a → a ≤ r .last → q .first ≤ b → b ≤ q .last →
+    Match (r ∷ q ∷ rs) (a ∷ b ∷ s)
 also a b m l h x y = on l h (on x y m)
 
 -- which alternative it is, by what the first octet is not above

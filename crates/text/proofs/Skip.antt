@@ -51,7 +51,8 @@ pub code-wide : (b : ℕ) (s : List ℕ) → 0x80 ≤ b → 0x80 ≤ code (b ∷
 unfolding code
 code-wide b s h = go (width (b ∷ s)) refl (width-char (b ∷ s))
   where
-    go : (w : ℕ) → width (b ∷ s) ≡ w → (0 < w → (isChar (take w (b ∷ s)) ≡ true) × (w ≤ length (b ∷ s))) → 0x80 ≤ cond (eqb w 0) 0xFFFD (value (take w (b ∷ s)))
+    go : (w : ℕ) → width (b ∷ s) ≡ w → (0 < w → (isChar (take w (b ∷ s)) ≡ true) × (w ≤ length (b ∷ s))) →
+        0x80 ≤ cond (eqb w 0) 0xFFFD (value (take w (b ∷ s)))
     go zero e c = omega arith
     go (suc w) e c = rw (ne-eqb (suc w) 0 (λ z. omega arith)) (value-wide (take (suc w) (b ∷ s)) (c (omega arith) .0) h)
 
@@ -115,7 +116,8 @@ module _ (p : ℕ → Bool) (s : List ℕ) where
       over i n (omega arith) (λ k l m q. f k l (omega arith) q) ∙ f (i + n) (omega arith) (omega arith) (omega arith)
       ∙ ap (skip p s) (add-one (i + n) ∙ sym (add-suc i n))
 
-  pub skip-over : {i r : ℕ} → i ≤ r → r ≤ max i (length s) → ((k : ℕ) → i ≤ k → k < r → k < length s → skip p s k ≡ skip p s (k + 1)) → skip p s i ≡ skip p s r
+  pub skip-over : {i r : ℕ} → i ≤ r → r ≤ max i (length s) → ((k : ℕ) → i ≤ k → k < r → k < length s → skip p s k ≡ skip p s (k + 1)) →
+      skip p s i ≡ skip p s r
   skip-over {i} {r} h m f = go (ltb r (length s + 1)) refl
     where
       e : i + (r - i) ≡ r
@@ -136,7 +138,8 @@ module _ (p : ℕ → Bool) (s : List ℕ) (i : ℕ) (h : i < length s) (b : 0x8
 
 module _ (p : ℕ → Bool) (on : (c : ℕ) → 0x80 ≤ c → p c ≡ true) where
   -- tails, looked at one by one, pass like those of the character before
-  pass-tails : (k i : ℕ) (t : List ℕ) → k ≤ length t → ((j : ℕ) → j < k → within tail (getD t j 0) ≡ true) → walkFrom (lookPast p) (λ n. n) i k t ≡ walkFrom (lookPast p) (λ n. n) i 0 t
+  pass-tails : (k i : ℕ) (t : List ℕ) → k ≤ length t → ((j : ℕ) → j < k → within tail (getD t j 0) ≡ true) →
+      walkFrom (lookPast p) (λ n. n) i k t ≡ walkFrom (lookPast p) (λ n. n) i 0 t
   unfolding walkFrom lookPast code rest
   pass-tails zero i t h a = refl
   pass-tails (suc k) i [] h a = absurd (not-suc-le-zero h)
@@ -232,7 +235,8 @@ wants-on t c w e h = rw (e, h)
 abbrev pub Passed : ℕ → ℕ → Bool → List ℕ → ℕ → ℕ → Type 0
 Passed low high w s i r = (k : ℕ) → i ≤ k → k < r → (k < length s) × (getD s k 0 < 0x80) × (Bool·beq (hasBit low high (getD s k 0)) w ≡ true)
 
-pub passed-more : (low high : ℕ) (w : Bool) (s : List ℕ) (i r : ℕ) {x : Bool} → Passed low high w s i r → r < length s → getD s r 0 < 0x80 → x ≡ hasBit low high (getD s r 0) → Bool·beq x w ≡ true → Passed low high w s i (r + 1)
+pub passed-more : (low high : ℕ) (w : Bool) (s : List ℕ) (i r : ℕ) {x : Bool} → Passed low high w s i r → r < length s → getD s r 0 < 0x80 →
+    x ≡ hasBit low high (getD s r 0) → Bool·beq x w ≡ true → Passed low high w s i (r + 1)
 passed-more low high w s i r {x} p h a q e k l n = go (eqb k r) refl
   where
     go : (t : Bool) → eqb k r ≡ t → (k < length s) × (getD s k 0 < 0x80) × (Bool·beq (hasBit low high (getD s k 0)) w ≡ true)
@@ -276,7 +280,8 @@ pub passed : (p : ℕ → Bool) (s : List ℕ) (i : ℕ) {r : ℕ} → r ≡ pas
 passed p s i e = (e, subst (Ahead s i) (sym e) (past-ahead p s i (see s i) (see-inside s i)))
 
 -- one byte of ASCII, by its bit
-module _ (t : Test) (m : Masks) (masks : AsciiOf t m) (s : List ℕ) (i : ℕ) (h : i < length s) (a : getD s i 0 < 0x80) {x : Bool} (q : x ≡ hasBit (m .low) (m .high) (getD s i 0)) where
+module _ (t : Test) (m : Masks) (masks : AsciiOf t m) (s : List ℕ) (i : ℕ) (h : i < length s) (a : getD s i 0 < 0x80) {x : Bool}
+    (q : x ≡ hasBit (m .low) (m .high) (getD s i 0)) where
   pub bit-on : x ≡ true → (i + 1 ≡ pastOne (holdsOf t) i (see s i)) × Ahead s i (i + 1)
   bit-on e = passed (holdsOf t) s i (rw (see-ascii s i h a, sym (masks .bits (getD s i 0) a), sym q, e))
 

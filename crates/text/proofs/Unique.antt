@@ -59,8 +59,11 @@ use Rattle.text.proofs.scanner.from.Kinds as from-kinds
 use Rattle.text.proofs.scanner.from.Reads as from
 
 -- what holds of any two outcomes, with what is left behind the lent references
-abbrev pub Both : (n : ℕ) (ps : List (PK n)) (r : RK n) → Out n ps r → ((κs : Lfts n) → resT r κs .Denot → AtExit (endedOf n ps r) κs → resT r κs .Denot → AtExit (endedOf n ps r) κs → Type 0) → Type 0
-Both n ps r allowed same = (κs : Lfts n) (a : Dens κs ps) (x y : resT r κs .Denot) (s t : AtExit (endedOf n ps r) κs) → allowed κs a x s → allowed κs a y t → same κs x s y t
+abbrev pub Both : (n : ℕ) (ps : List (PK n)) (r : RK n) → Out n ps r →
+    ((κs : Lfts n) → resT r κs .Denot → AtExit (endedOf n ps r) κs → resT r κs .Denot → AtExit (endedOf n ps r) κs → Type 0) → Type 0
+Both n ps r allowed same =
+    (κs : Lfts n) (a : Dens κs ps) (x y : resT r κs .Denot) (s t : AtExit (endedOf n ps r) κs) →
+    allowed κs a x s → allowed κs a y t → same κs x s y t
 
 -- the same result
 abbrev pub One : (n : ℕ) (ps : List (PK n)) (r : RK n) → Out n ps r → Type 0

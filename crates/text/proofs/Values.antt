@@ -87,8 +87,12 @@ tail-further c = record { low = omega arith; high = omega arith }
 line-shape : (c : ℕ) {w : List ℕ} → Scalar c → Line c w → Shape w
 line-shape c s (in7F h) = one h
 line-shape c s (in7FF l h) = two {a = 0xC0 + c / 64} (omega arith) (omega arith) (tail-further c)
-line-shape c s (inFFFF l h) = three {a = 0xE0 + c / 64 / 64} {b = further (c / 64)} (record { low = omega arith; high = omega arith; second = tail-further (c / 64); third = tail-further c; plain = λ e. omega (arith, s .plain (omega arith)) })
-line-shape c s (above l) = four {a = 0xF0 + c / 64 / 64 / 64} {b = further (c / 64 / 64)} (record { low = omega arith; high = omega arith; second = tail-further (c / 64 / 64); third = tail-further (c / 64); fourth = tail-further c })
+line-shape c s (inFFFF l h) =
+    three {a = 0xE0 + c / 64 / 64} {b = further (c / 64)}
+    (record { low = omega arith; high = omega arith; second = tail-further (c / 64); third = tail-further c; plain = λ e. omega (arith, s .plain (omega arith)) })
+line-shape c s (above l) =
+    four {a = 0xF0 + c / 64 / 64 / 64} {b = further (c / 64 / 64)}
+    (record { low = omega arith; high = omega arith; second = tail-further (c / 64 / 64); third = tail-further (c / 64); fourth = tail-further c })
 
 first-four : (c : ℕ) → c ≤ 0x10FFFF → (0xF0 + c / 64 / 64 / 64) % 8 ≡ c / 64 / 64 / 64
 first-four c h = omega arith
@@ -114,7 +118,8 @@ reads c e = line-value c (scalar-of c e) (line c)
 value-three : (a b c : ℕ) → Three a b c → (0x7FF < (a % 16 * 64 + b % 64) * 64 + c % 64) × ((a % 16 * 64 + b % 64) * 64 + c % 64 ≤ 0xFFFF)
 value-three a b c t = (omega arith, omega arith)
 
-value-four : (a b c d : ℕ) → Four a b c d → (0xFFFF < ((a % 8 * 64 + b % 64) * 64 + c % 64) * 64 + d % 64) × (((a % 8 * 64 + b % 64) * 64 + c % 64) * 64 + d % 64 ≤ 0x10FFFF)
+value-four : (a b c d : ℕ) → Four a b c d →
+    (0xFFFF < ((a % 8 * 64 + b % 64) * 64 + c % 64) * 64 + d % 64) × (((a % 8 * 64 + b % 64) * 64 + c % 64) * 64 + d % 64 ≤ 0x10FFFF)
 value-four a b c d t = (omega arith, omega arith)
 
 three-plain : (a b c : ℕ) → Three a b c → (a % 16 * 64 + b % 64) * 64 + c % 64 ≤ 0xDFFF → (a % 16 * 64 + b % 64) * 64 + c % 64 < 0xD800
@@ -154,7 +159,8 @@ octets-shape (four {a} {b} {c} {d} t) =
     let x = a % 8 * 64 + b % 64 in
     let y = x * 64 + c % 64 in
     octets-four (y * 64 + d % 64) (value-four a b c d t .0)
-    ∙ rw (further-gathered y d (t .fourth), rest-gathered y d, further-gathered x c (t .third), rest-gathered x c, further-gathered (a % 8) b (t .second), rest-gathered (a % 8) b, f)
+    ∙ rw (further-gathered y d (t .fourth), rest-gathered y d, further-gathered x c (t .third), rest-gathered x c)
+    (rw (further-gathered (a % 8) b (t .second), rest-gathered (a % 8) b, f))
 
 pub encodes : (w : List ℕ) → isChar w ≡ true → (isScalar (value w) ≡ true) × (octets (value w) ≡ w)
 encodes w e = let s = char-shape w e in (of-scalar (value w) (shape-scalar s), octets-shape s)

@@ -50,12 +50,14 @@ module _ {R : Type 0} (f : ℕ → List ℕ → Look R) (e : ℕ → R) where
       (go : (i k : ℕ) (s : List ℕ) → 0 < length s → P i s → f i s ≡ pass k → (k < length s) × P (i + suc k) (drop (suc k) s))
       (stop : (i : ℕ) (s : List ℕ) (r : R) → P i s → f i s ≡ answer r → Q r)
       (end : (i : ℕ) → P i [] → Q (e i)) where
-    looked : (i b : ℕ) (s : List ℕ) → P i (b ∷ s) → ((k : ℕ) → P (i + suc k) (drop k s) → Q (walkFrom f e (i + suc k) 0 (drop k s))) → (t : Look R) → f i (b ∷ s) ≡ t → Q (walkFrom f e i 0 (b ∷ s))
+    looked : (i b : ℕ) (s : List ℕ) → P i (b ∷ s) → ((k : ℕ) → P (i + suc k) (drop k s) → Q (walkFrom f e (i + suc k) 0 (drop k s))) → (t : Look R) →
+        f i (b ∷ s) ≡ t → Q (walkFrom f e i 0 (b ∷ s))
     looked i b s p ih (answer r) q = rw (from-answer i (b ∷ s) r (omega arith) q) (stop i (b ∷ s) r p q)
     looked i b s p ih (pass k) q =
         let g = go i k (b ∷ s) (omega arith) p q in rw (from-passed i k (b ∷ s) (g .0) q) (ih k (g .1))
 
-    turn : (n i : ℕ) (s : List ℕ) → length s ≤ suc n → P i s → ((j : ℕ) (t : List ℕ) → length t ≤ n → P j t → Q (walkFrom f e j 0 t)) → Q (walkFrom f e i 0 s)
+    turn : (n i : ℕ) (s : List ℕ) → length s ≤ suc n → P i s → ((j : ℕ) (t : List ℕ) → length t ≤ n → P j t → Q (walkFrom f e j 0 t)) →
+        Q (walkFrom f e i 0 s)
     unfolding walkFrom
     turn n i [] h p ih = end i p
     turn n i (b ∷ s) h p ih = looked i b s p (λ k q. ih (i + suc k) (drop k s) (omega (arith, length-drop k s)) q) (f i (b ∷ s)) refl

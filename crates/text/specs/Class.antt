@@ -7,7 +7,8 @@ use mathlib.Core.List.{List, [], _∷_}
 use lib.Dec.{eqb, ltb}
 use Rattle.text.specs.Range.{Range, _–_, within, among}
 use Rattle.text.specs.declared.class.Test.{Test}
-use Rattle.text.specs.declared.class.Test.the-variants.{Whitespace, Key, IdStart, IdContinue, Digit, Comma, QuotationMark, Equals, Hash, Percent, OpeningBrace, ClosingBrace, Brace, Newline, Dollar}
+use Rattle.text.specs.declared.class.Test.the-variants.{Whitespace, Key, IdStart, IdContinue, Digit, Comma, QuotationMark, Equals}
+use Rattle.text.specs.declared.class.Test.the-variants.{Hash, Percent, OpeningBrace, ClosingBrace, Brace, Newline, Dollar}
 
 -- [01:Strict reading] [Unicode:PropList] White_Space
 unfoldable pub whiteSpace : List Range

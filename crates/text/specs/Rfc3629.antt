@@ -28,7 +28,8 @@ pub record Rfc3629 : Type 0 where
   pub refuses : (s : List ℕ) (n : ℕ) → (validityOf s ≡ validity.IllFormed n) ↔ Longest s n
   -- what `encode` writes is a sequence, and `decode` gives the scalar value back, wherever it stands
   pub writes : (c : ℕ) → isScalar c ≡ true → isChar (octets c) ≡ true
-  pub decodes : (c : ℕ) (before after : List ℕ) → isScalar c ≡ true → decodeAt (before ++ octets c ++ after) (length before) ≡ decoded.Char c (length before + length (octets c))
+  pub decodes : (c : ℕ) (before after : List ℕ) → isScalar c ≡ true →
+      decodeAt (before ++ octets c ++ after) (length before) ≡ decoded.Char c (length before + length (octets c))
   -- every sequence is what `encode` writes of its value, which is no surrogate and not above 10FFFF
   pub encodes : (w : List ℕ) → isChar w ≡ true → (isScalar (value w) ≡ true) × (octets (value w) ≡ w)
   -- no overlong form: a value has one sequence

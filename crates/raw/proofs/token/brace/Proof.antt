@@ -18,7 +18,7 @@ returns c =
     let a = c .before .before .before .args in
     let small = c .before .before .before .pre in
     let inside = c .before .before .if1 .taken in
-    need-byte (λ x. is (a .byte) x || is 0x22 x) (a .reason) (a .s .now) (a .at) 
+    need-byte (λ x. is (a .byte) x || is 0x22 x) (a .reason) (a .s .now) (a .at)
     (narrow-or (is (a .byte)) (is 0x22) (narrow-is (a .byte) small) (narrow-is 0x22 (omega arith))) inside (c .if2 .taken)
 
 returns-2 : tie.Need-returns-2
@@ -26,7 +26,7 @@ returns-2 c =
     let a = c .before .before .before .args in
     let small = c .before .before .before .pre in
     let inside = c .before .before .if1 .taken in
-    need-other (λ x. is (a .byte) x || is 0x22 x) (a .reason) (a .s .now) (a .at) 
+    need-other (λ x. is (a .byte) x || is 0x22 x) (a .reason) (a .s .now) (a .at)
     (narrow-or (is (a .byte)) (is 0x22) (narrow-is (a .byte) small) (narrow-is 0x22 (omega arith))) inside (c .if2 .left)
 
 returns-3 : tie.Need-returns-3

@@ -93,9 +93,11 @@ returns-3 c =
     let k = step-place len 1 (a .at) (first .r1 .given .1) (opened .opening .ensures .1) (asked .pre .place) in
     let l = step-place len 0 _ (second .r2 .given .1) (read .in-braces .ensures .1) (k .1) in
     let e = closes opening inBraces closing s (a .at) (opening-bare s (a .at)) (in-braces-bare s) (closing-bare s) (opened .opening .ensures .0) (first .r1 .given .1)
-    (read .in-braces .ensures .0) (second .r2 .given .1) (closed .closing .ensures .0) in
-    (says-of e (put .ensures), literal-within len (a .at) (first .r1 .given .0 .0) _ (a .base) (a .n) (closed .closing .result) (omega arith) (l .1)
-    (closed .closing .ensures .1) (put .ensures))
+    (read .in-braces .ensures .0) (second .r2 .given .1) (closed .closing .ensures .0) in (
+      says-of e (put .ensures),
+      literal-within len (a .at) (first .r1 .given .0 .0) _ (a .base) (a .n) (closed .closing .result) (omega arith) (l .1)
+          (closed .closing .ensures .1) (put .ensures),
+    )
 
 pub braced-spec : {M : Type 1} → statement M
 braced-spec =

@@ -93,9 +93,11 @@ returns-3 c =
     let k = step-place len 1 (a .at) (first .r1 .given .1) (opened .quote .ensures .1) (asked .pre .place) in
     let l = step-place len 0 _ (second .r2 .given .1) (read .quoted .ensures .1) (k .1) in
     let e = closes quote quoted quote s (a .at) (quote-bare s (a .at)) (quoted-bare s) (quote-bare s) (opened .quote .ensures .0) (first .r1 .given .1)
-    (read .quoted .ensures .0) (second .r2 .given .1) (closed .quote2 .ensures .0) in
-    (says-of e (put .ensures), literal-within len (a .at) (first .r1 .given .0 .0) _ (a .base) (a .n) (closed .quote2 .result) (omega arith) (l .1)
-    (closed .quote2 .ensures .1) (put .ensures))
+    (read .quoted .ensures .0) (second .r2 .given .1) (closed .quote2 .ensures .0) in (
+      says-of e (put .ensures),
+      literal-within len (a .at) (first .r1 .given .0 .0) _ (a .base) (a .n) (closed .quote2 .result) (omega arith) (l .1)
+          (closed .quote2 .ensures .1) (put .ensures),
+    )
 
 pub string-literal-spec : {M : Type 1} → statement M
 string-literal-spec =

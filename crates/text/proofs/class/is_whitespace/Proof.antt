@@ -47,7 +47,9 @@ returns c =
     let c3 = c4 .before in
     let c2 = c3 .before in
     let c1 = c2 .before in
-    simp (or-assoc, or-false) (rw (c1 .is-within .ensures, c2 .is-within2 .ensures, c3 .is-within3 .ensures, c4 .is-within4 .ensures, c5 .is-within5 .ensures, c6 .is-within6 .ensures, c7 .is-within7 .ensures, c8 .is-within8 .ensures, c9 .is-within9 .ensures, c .is-within10 .ensures))
+    simp (or-assoc, or-false)
+    (rw (c1 .is-within .ensures, c2 .is-within2 .ensures, c3 .is-within3 .ensures, c4 .is-within4 .ensures, c5 .is-within5 .ensures)
+    (rw (c6 .is-within6 .ensures, c7 .is-within7 .ensures, c8 .is-within8 .ensures, c9 .is-within9 .ensures, c .is-within10 .ensures)))
 
 pub is-whitespace-spec : {M : Type 1} → statement M
 is-whitespace-spec =
