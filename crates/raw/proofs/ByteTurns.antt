@@ -132,32 +132,32 @@ module _ {s : List ℕ} {at i : ℕ} (h : i < length s) (e : getD s i 0 ≡ 0x2E
 braces-un : Unrolls bracedTurn
 braces-un = many-turn (λ a. braced-turn-good a .kept)
 
-slash-on : (d : ℕ) (s : List ℕ) (i n : ℕ) → see s i ≡ Char 0x5C n → bracedTurn d s i ≡ escape d s n
+pub slash-on : (d : ℕ) (s : List ℕ) (i n : ℕ) → see s i ≡ Char 0x5C n → bracedTurn d s i ≡ escape d s n
 unfolding bracedTurn
 slash-on zero s i n e = rw e
 slash-on (suc d) s i n e = rw e
 
-open-on : (d : ℕ) (s : List ℕ) (i n : ℕ) → see s i ≡ Char 0x7B n → bracedTurn d s i ≡ again n [] (d + 1)
+pub open-on : (d : ℕ) (s : List ℕ) (i n : ℕ) → see s i ≡ Char 0x7B n → bracedTurn d s i ≡ again n [] (d + 1)
 unfolding bracedTurn
 open-on zero s i n e = rw e
 open-on (suc d) s i n e = rw e (ap (again n []) (omega arith))
 
-close-on : (d : ℕ) (s : List ℕ) (i n : ℕ) → see s i ≡ Char 0x7D n → (d ≡ 0 → ⊥) → bracedTurn d s i ≡ again n [] (d - 1)
+pub close-on : (d : ℕ) (s : List ℕ) (i n : ℕ) → see s i ≡ Char 0x7D n → (d ≡ 0 → ⊥) → bracedTurn d s i ≡ again n [] (d - 1)
 unfolding bracedTurn
 close-on zero s i n e z = absurd (z refl)
 close-on (suc d) s i n e z = rw e (ap (again n []) (omega arith))
 
-close-stop : (d : ℕ) (s : List ℕ) (i n : ℕ) → see s i ≡ Char 0x7D n → d ≡ 0 → bracedTurn d s i ≡ ok i []
+pub close-stop : (d : ℕ) (s : List ℕ) (i n : ℕ) → see s i ≡ Char 0x7D n → d ≡ 0 → bracedTurn d s i ≡ ok i []
 unfolding bracedTurn
 close-stop zero s i n e z = rw e
 close-stop (suc d) s i n e z = absurd (omega arith)
 
-braces-cut-off : (d : ℕ) (s : List ℕ) (i : ℕ) → see s i ≡ End → bracedTurn d s i ≡ bad (faultAt UnexpectedEof i)
+pub braces-cut-off : (d : ℕ) (s : List ℕ) (i : ℕ) → see s i ≡ End → bracedTurn d s i ≡ bad (faultAt UnexpectedEof i)
 unfolding bracedTurn
 braces-cut-off zero s i e = rw e
 braces-cut-off (suc d) s i e = rw e
 
-braces-other : (d : ℕ) (s : List ℕ) (i c n : ℕ) → see s i ≡ Char c n → is 0x7B c ≡ false → is 0x7D c ≡ false → is 0x5C c ≡ false → bracedTurn d s i ≡ again n [] d
+pub braces-other : (d : ℕ) (s : List ℕ) (i c n : ℕ) → see s i ≡ Char c n → is 0x7B c ≡ false → is 0x7D c ≡ false → is 0x5C c ≡ false → bracedTurn d s i ≡ again n [] d
 unfolding bracedTurn
 braces-other zero s i c n e p q r = rw (e, p, q, r)
 braces-other (suc d) s i c n e p q r = rw (e, p, q, r)

@@ -18,6 +18,7 @@ pub mod Refusals
 pub mod Bare
 pub mod Bounds
 pub mod ByteTurns
+pub mod Braces
 pub mod Bytes
 pub mod ValueBlocks
 pub mod Eaten

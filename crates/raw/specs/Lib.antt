@@ -5,4 +5,5 @@ pub mod Read
 pub mod Strict
 pub mod Refusals
 pub mod Worked
+pub mod Braces
 pub mod Inner
