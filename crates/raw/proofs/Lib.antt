@@ -19,6 +19,7 @@ pub mod Bare
 pub mod Bounds
 pub mod ByteTurns
 pub mod Braces
+pub mod Comments
 pub mod Bytes
 pub mod ValueBlocks
 pub mod Eaten

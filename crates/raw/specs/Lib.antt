@@ -6,4 +6,5 @@ pub mod Strict
 pub mod Refusals
 pub mod Worked
 pub mod Braces
+pub mod Comments
 pub mod Inner
