@@ -33,7 +33,7 @@ fn name(s: &[u8], at: usize) -> Step
 }
 
 // Eat a field: a row over its name, of the kind given, and its value's rows.
-pub fn field(s: &[u8], base: usize, at: usize, rows: &mut [u32], n: usize, kind: Kind) -> Answer
+fn field(s: &[u8], base: usize, at: usize, rows: &mut [u32], n: usize, kind: Kind) -> Answer
     requires { ⌜ Ready base (length (now s)) at n ⌝ }
     ensures says { λ r. ⌜ Says base (field kind (now (s .entry)) at) n (now (rows .entry)) r (now (rows .exit)) ⌝ }
     ensures within { λ r. ⌜ Within (length (now (s .entry))) 3 at n r ⌝ }
