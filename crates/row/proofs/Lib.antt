@@ -4,4 +4,5 @@ pub mod Joins
 pub mod Numbers
 pub mod Halves
 pub mod Masks
+pub mod Sequence
 pub mod Unique

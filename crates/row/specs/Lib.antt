@@ -4,3 +4,4 @@ pub mod Row
 pub mod Rules
 pub mod Numbers
 pub mod Masks
+pub mod Sequence
