@@ -17,7 +17,7 @@ ghost use Rattle.row.specs.Row.{moved, overlay};
 ghost use Rattle.raw.specs.Read.{strict};
 ghost use Rattle.raw.specs.Says.{Says, Within};
 ghost use Rattle.salvage.specs.Salvage.{head, newline, damaged};
-ghost use Rattle.salvage.specs.Inner.{Ends, Puts, Piece, Damage};
+ghost use Rattle.salvage.specs.Inner.{Ends, Puts, PieceToRead, DamageToWrite};
 
 // A number of rows, and whether damage is among them.
 pub enum Tally {
@@ -87,7 +87,7 @@ pub fn piece_end(s: &[u8], at: usize) -> usize
 
 // Strict reading of a piece that stands base bytes into the file. Its UTF-8 is checked unless it is known to be valid.
 fn read_alone(w: &[u8], base: usize, rows: &mut [u32], valid: bool) -> Answer
-    requires { ⌜ Piece (now w) base valid ⌝ }
+    requires { ⌜ PieceToRead (now w) base valid ⌝ }
     ensures says { λ r. ⌜ Says base (strict (now (w .entry))) 0 (now (rows .entry)) r (now (rows .exit)) ⌝ }
     ensures within { λ r. ⌜ Within (length (now (w .entry))) 0 0 0 r ⌝ }
 {
@@ -106,7 +106,7 @@ fn read_alone(w: &[u8], base: usize, rows: &mut [u32], valid: bool) -> Answer
 
 // The damage of a piece that is refused, and the cause.
 fn write_damage(w: &[u8], base: usize, rows: &mut [u32], fault: Fault)
-    requires { ⌜ Damage (now w) base fault ⌝ }
+    requires { ⌜ DamageToWrite (now w) base fault ⌝ }
     ensures { λ _. ⌜ now (rows .exit) ≡ overlay (now (rows .entry)) 0 (moved base (damaged (now (w .entry)) fault)) ⌝ }
 {
     form::put_row(rows, 0, Kind::Damage, base, base + w.len());
@@ -121,7 +121,7 @@ fn write_damage(w: &[u8], base: usize, rows: &mut [u32], fault: Fault)
 // Reads a piece, whose rows then stand in front of the lent numbers where all of them fit. What a refused piece wrote before its fault is
 // overwritten by its damage and cause, or stands behind these, where the rows of later pieces go.
 pub fn read_piece(w: &[u8], base: usize, rows: &mut [u32], valid: bool) -> Tally
-    requires { ⌜ Piece (now w) base valid ⌝ }
+    requires { ⌜ PieceToRead (now w) base valid ⌝ }
     ensures { λ r. ⌜ Puts (now (w .entry)) base (now (rows .entry)) r (now (rows .exit)) ⌝ }
 {
     match read_alone(w, base, rows, valid) {

@@ -1,6 +1,6 @@
 -- `salvage::piece::read_alone` meets its contract. Assumes nothing.
 use borrow.Author.Needs.{needs}
-use Rattle.salvage.proofs.PieceWays.{alone-known, alone-ill, alone-valid}
+use Rattle.salvage.proofs.ways.ReadPiece.{alone-known, alone-ill, alone-valid}
 use Rattle.salvage.proofs.piece.read_alone.Statement.{statement}
 use Rattle.salvage.proofs.piece.read_alone.Tie as tie
 
