@@ -3,12 +3,9 @@ use raw::answer::Answer;
 use raw::file;
 use row::fault;
 use row::fault::Fault;
-use row::fault::Reason;
 use row::form;
 use row::form::Kind;
 use text::block;
-use text::utf8;
-use text::utf8::Validity;
 ghost use mathlib.Core.Path.{_≡_};
 ghost use mathlib.Core.Bool.{_&&_};
 ghost use Prim.Native.Nat.{_+_, _-_, _≤_, _<_};
@@ -94,14 +91,7 @@ fn read_alone(w: &[u8], base: usize, rows: &mut [u32], valid: bool) -> Answer
     if valid {
         return file::parse(w, base, rows, 0);
     }
-    match utf8::validate(w) {
-        Validity::IllFormed(i) => Answer::Refused(Fault {
-            reason: Reason::NotUtf8,
-            start: i,
-            end: i,
-        }),
-        Validity::Valid => file::parse(w, base, rows, 0),
-    }
+    file::parse_bytes(w, base, rows)
 }
 
 // The damage of a piece that is refused, and the cause.

@@ -1,5 +1,5 @@
 -- The ways through the functions of src/piece.rt that read a piece, over what their calls told.
---     alone-known, alone-ill, alone-valid     `read_alone`, by what is known of the UTF-8
+--     alone-known                             `read_alone` of a piece that is known to be valid
 --     damage-put                              `write_damage`
 --     piece-sound                             `read_piece`, where the piece is accepted
 --     off-strict, off-damage, piece-damaged   `read_piece`, where the piece is refused
@@ -11,24 +11,19 @@ use mathlib.Core.Bool.{Bool, true}
 use mathlib.Core.List.{List}
 use lib.ListN.{length, take, drop}
 use lib.Seq.{take-at}
-use Rattle.text.specs.Utf8.{validityOf}
-use Rattle.text.specs.declared.utf8.Validity.{Validity}
-use Rattle.text.specs.declared.utf8.Validity.the-variants as validity
 use Rattle.row.specs.declared.form.Kind.the-variants as kind
 use Rattle.row.specs.declared.fault.Fault.{Fault}
-use Rattle.row.specs.declared.fault.Reason.the-variants.{NotUtf8}
-use Rattle.row.specs.Fault.{numberOf, faultAt}
+use Rattle.row.specs.Fault.{numberOf}
 use Rattle.raw.specs.declared.answer.Answer.{Answer}
 use Rattle.raw.specs.declared.answer.Answer.the-variants as answer
 use Rattle.row.specs.Row.{Row, rowWith, row, moved, flat, putRow, overlay}
 use Rattle.raw.specs.Reader.{Out, ok, again, bad}
 use Rattle.raw.specs.Grammar.{file}
-use Rattle.row.specs.Limits.{mostBytes}
 use Rattle.raw.specs.Read.{strict}
 use Rattle.row.specs.Rules.{clean}
 use Rattle.raw.specs.Says.{answerOf, Room, Says, Within}
 use Rattle.raw.proofs.Strict.{strict-reading}
-use Rattle.raw.proofs.StrictSteps.{strict-ill, strict-valid, strict-is}
+use Rattle.raw.proofs.StrictSteps.{strict-is}
 use Rattle.row.proofs.numbers.Overlay.{moved-length, overlay-fits}
 use Rattle.row.proofs.numbers.Flat.{flat-length}
 use Rattle.salvage.specs.Salvage.{damaged, told}
@@ -38,23 +33,8 @@ use Rattle.salvage.specs.declared.piece.Tally.the-variants.{Sound, Damag
 -- ---- `read_alone`
 
 module _ (w : List ℕ) (base : ℕ) (b : List ℕ) {valid : Bool} (k : PieceToRead w base valid) where
-  short : length w ≤ mostBytes
-  short = omega (arith, k .file)
-
-  says-file : strict w ≡ file w 0 → {r : Answer} {b′ : List ℕ} → Says base (file w 0) 0 b r b′ → Says base (strict w) 0 b r b′
-  says-file e {r} {b′} p = subst (λ (o : Out). Says base o 0 b r b′) (sym e) p
-
   pub alone-known : valid ≡ true → {r : Answer} {b′ : List ℕ} → Says base (file w 0) 0 b r b′ → Says base (strict w) 0 b r b′
-  alone-known e p = says-file (strict-is w short (k .known e)) p
-
-  module _ {v : Validity} (d : v ≡ validityOf w) where
-    pub alone-ill : {i : ℕ} {b′ : List ℕ} → v ≡ validity.IllFormed i → Says base (strict w) 0 b (answer.Refused (faultAt NotUtf8 i)) b′
-    alone-ill {i} {b′} e =
-        subst (λ (o : Out). Says base o 0 b (answer.Refused (faultAt NotUtf8 i)) b′) (sym (strict-ill w short i (sym d ∙ e)))
-        (record { told = refl; room = tt })
-
-    pub alone-valid : v ≡ validity.Valid → {r : Answer} {b′ : List ℕ} → Says base (file w 0) 0 b r b′ → Says base (strict w) 0 b r b′
-    alone-valid e p = says-file (strict-valid w short (sym d ∙ e)) p
+  alone-known e {r} {b′} p = subst (λ (o : Out). Says base o 0 b r b′) (sym (strict-is w (omega (arith, k .file)) (k .known e))) p
 
 -- ---- `write_damage`
 
