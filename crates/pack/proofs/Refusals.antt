@@ -20,7 +20,9 @@ pack-fault : (l : List ℕ) (n : ℕ) (f : Fault) → packed.Refused f ≡ packe
 unfolding packedOf
 pack-fault l n f = by (isPackable l) (leb (bytesFor (length l)) n)
   where
-    by : (x y : Bool) → packed.Refused f ≡ cond x (cond y (packed.Bytes (bytesFor (length l))) (packed.Refused (nowhere NoRoom))) (packed.Refused (nowhere BadRows)) → PackFault f
+    by : (x y : Bool)
+        → packed.Refused f ≡ cond x (cond y (packed.Bytes (bytesFor (length l))) (packed.Refused (nowhere NoRoom))) (packed.Refused (nowhere BadRows))
+        → PackFault f
     by true true e = let z : _≡_ {A = ℕ} 0 1 = cc in absurd (omega arith)
     by true false e = let q : nowhere NoRoom ≡ f = cc in subst PackFault q full
     by false y e = let q : nowhere BadRows ≡ f = cc in subst PackFault q unsound
@@ -29,10 +31,13 @@ unpack-fault : (s : List ℕ) (n : ℕ) (f : Fault) → unpacked.Refused f ≡ u
 unfolding unpackedOf
 unpack-fault s n f = by (isUnpackable s) (leb (length s / 7) (n / 4))
   where
-    by : (x y : Bool) → unpacked.Refused f ≡ cond x (cond y (unpacked.Rows (length s / 7)) (unpacked.Refused (nowhere NoRoom))) (unpacked.Refused (nowhere BadRows)) → PackFault f
+    by : (x y : Bool)
+        → unpacked.Refused f ≡ cond x (cond y (unpacked.Rows (length s / 7)) (unpacked.Refused (nowhere NoRoom))) (unpacked.Refused (nowhere BadRows))
+        → PackFault f
     by true true e = let z : _≡_ {A = ℕ} 0 1 = cc in absurd (omega arith)
     by true false e = let q : nowhere NoRoom ≡ f = cc in subst PackFault q full
     by false y e = let q : nowhere BadRows ≡ f = cc in subst PackFault q unsound
 
 pub refusals : Refusals
-refusals = record { packs = λ l b b′ f r. pack-fault l (length b) f (r .answer); unpacks = λ s b b′ f r. unpack-fault s (length b) f (r .answer) }
+refusals =
+    record { packs = λ l b b′ f r. pack-fault l (length b) f (r .answer); unpacks = λ s b b′ f r. unpack-fault s (length b) f (r .answer) }

@@ -10,39 +10,44 @@ use lib.Seq.{take-at}
 use Rattle.row.specs.Row.{flat}
 use Rattle.row.specs.Rules.{isRows, run, next}
 use Rattle.row.specs.Numbers.{rowsOf, isSound}
+use Rattle.row.proofs.numbers.Flat.{rows-flat, flat-rows, flat-length, rows-length}
 use Rattle.pack.specs.declared.packing.Packed.{Packed}
 use Rattle.pack.specs.declared.packing.Packed.the-variants as packed
 use Rattle.pack.specs.declared.unpacking.Unpacked.{Unpacked}
 use Rattle.pack.specs.declared.unpacking.Unpacked.the-variants as unpacked
-use Rattle.pack.specs.Big.{big, Bytes}
+use Rattle.pack.specs.Digits.{digits, Bytes}
 use Rattle.pack.specs.Seven.{packing, unpacking, every}
 use Rattle.pack.specs.Pack.{isPackable, bytesFor, Pack}
 use Rattle.pack.specs.Unpack.{isUnpackable, Unpack}
 use Rattle.pack.specs.RoundTrip.{edgeRows, edgeBytes, RoundTrip}
-use Rattle.pack.proofs.Sevens.{unpacking-length}
-use Rattle.pack.proofs.Checks.{packable, packable-fit}
-use Rattle.pack.proofs.Inverse.{rows-flat, flat-rows, flat-length, rows-length, packs-back, packing-length, unpacks-back, unpackable, ends-of-spans, spans-of-ends, flat-packable}
-use Rattle.pack.proofs.Told.{pack-told, pack-gives, unpack-told, unpack-gives}
-use Rattle.pack.proofs.Readings.{strictly, readings}
+use Rattle.pack.proofs.bytes.SevenBytes.{unpacking-length}
+use Rattle.pack.proofs.bytes.Accepted.{packable, packable-seven, unpackable, ends-of-spans, spans-of-ends, flat-packable}
+use Rattle.pack.proofs.bytes.Inverse.{packs-back, packing-length, unpacks-back}
+use Rattle.pack.proofs.contracts.KnownAnswers.{pack-told, pack-gives, unpack-told, unpack-gives}
+use Rattle.pack.proofs.contracts.StrictPacks.{strictly, readings}
 
 -- ---- the definitions
 
-rows : (l : List ℕ) → isPackable l ≡ true → (isUnpackable (packing (rowsOf l)) ≡ true) × (flat (unpacking (packing (rowsOf l))) ≡ l)
+rows : (l : List ℕ) → isPackable l ≡ true
+    → (isUnpackable (packing (rowsOf l)) ≡ true) × (flat (unpacking (packing (rowsOf l))) ≡ l)
 unfolding isUnpackable
 rows l p =
     let k = packable l p in
-    let x = packs-back (rowsOf l) (packable-fit l k) in
+    let x = packs-back (rowsOf l) (packable-seven l k) in
     let e : length (packing (rowsOf l)) % 7 ≡ 0 = omega (arith, packing-length (rowsOf l)) in
     (rw (e, x, k .rules) (ends-of-spans (rowsOf l) (k .spans)), ap flat x ∙ flat-rows l (k .count))
 
-bytes : (s : List ℕ) → Bytes s → isUnpackable s ≡ true → (isPackable (flat (unpacking s)) ≡ true) × (packing (rowsOf (flat (unpacking s))) ≡ s)
+bytes : (s : List ℕ) → Bytes s → isUnpackable s ≡ true
+    → (isPackable (flat (unpacking s)) ≡ true) × (packing (rowsOf (flat (unpacking s))) ≡ s)
 bytes s w p =
     let k = unpackable s p in
     (flat-packable (unpacking s) (k .rules) (spans-of-ends s (k .ends)), ap packing (rows-flat (unpacking s)) ∙ unpacks-back s w (k .count))
 
 -- ---- the round trips
 
-unpacks : (l b b′ : List ℕ) (n : ℕ) → Pack l b (packed.Bytes n) b′ → (c c′ : List ℕ) (r : Unpacked) → Unpack (take n b′) c r c′ → length l ≤ length c → (r ≡ unpacked.Rows (length l / 4)) × (c′ ≡ l ++ drop (length l) c)
+unpacks : (l b b′ : List ℕ) (n : ℕ) → Pack l b (packed.Bytes n) b′
+    → (c c′ : List ℕ) (r : Unpacked) → Unpack (take n b′) c r c′ → length l ≤ length c
+    → (r ≡ unpacked.Rows (length l / 4)) × (c′ ≡ l ++ drop (length l) c)
 unpacks l b b′ n p c c′ r u h =
     let t = pack-told l b b′ n p in
     let k = packable l (t .fits) in
@@ -54,7 +59,9 @@ unpacks l b b′ n p c c′ r u h =
     let g = unpack-gives (packing (rowsOf l)) c c′ r (d .0) (omega (arith, e₀)) (subst (λ (s : List ℕ). Unpack s c r c′) x u) in
     (g .0 ∙ ap unpacked.Rows e₀, g .1 ∙ rw (d .1, e₀, e₁))
 
-packs : (s c c′ : List ℕ) (n : ℕ) → Bytes s → Unpack s c (unpacked.Rows n) c′ → (b b′ : List ℕ) (r : Packed) → Pack (take (n * 4) c′) b r b′ → length s ≤ length b → (r ≡ packed.Bytes (length s)) × (b′ ≡ s ++ drop (length s) b)
+packs : (s c c′ : List ℕ) (n : ℕ) → Bytes s → Unpack s c (unpacked.Rows n) c′
+    → (b b′ : List ℕ) (r : Packed) → Pack (take (n * 4) c′) b r b′ → length s ≤ length b
+    → (r ≡ packed.Bytes (length s)) × (b′ ≡ s ++ drop (length s) b)
 packs s c c′ n w u b b′ r p h =
     let t = unpack-told s c c′ n u in
     let k = unpackable s (t .fits) in
@@ -72,10 +79,11 @@ unfolding isPackable isSound isRows run next every rowsOf
 edge-fits = refl
 
 edge-bytes : packing (rowsOf edgeRows) ≡ edgeBytes
-unfolding packing big rowsOf
+unfolding packing digits rowsOf
 edge-bytes = refl
 
-edge : (b b′ : List ℕ) (r : Packed) → Pack edgeRows b r b′ → 14 ≤ length b → (r ≡ packed.Bytes 14) × (b′ ≡ edgeBytes ++ drop 14 b)
+edge : (b b′ : List ℕ) (r : Packed) → Pack edgeRows b r b′ → 14 ≤ length b
+    → (r ≡ packed.Bytes 14) × (b′ ≡ edgeBytes ++ drop 14 b)
 edge b b′ r p h =
     let g = pack-gives edgeRows b b′ r edge-fits h p in
     (g .0, g .1 ∙ ap (λ (l : List ℕ). l ++ drop 14 b) edge-bytes)

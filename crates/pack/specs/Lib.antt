@@ -1,4 +1,4 @@
-pub mod Big
+pub mod Digits
 pub mod Seven
 pub mod Pack
 pub mod Unpack

@@ -22,11 +22,14 @@ abbrev pub bytesFor : ℕ → ℕ
 bytesFor n = n / 4 * 7
 
 unfoldable pub packedOf : List ℕ → ℕ → Packed
-packedOf l size = cond (isPackable l) (cond (leb (bytesFor (length l)) size) (packed.Bytes (bytesFor (length l))) (packed.Refused (nowhere NoRoom))) (packed.Refused (nowhere BadRows))
+packedOf l size =
+    cond (isPackable l) (cond (leb (bytesFor (length l)) size) (packed.Bytes (bytesFor (length l))) (packed.Refused (nowhere NoRoom)))
+    (packed.Refused (nowhere BadRows))
 
 -- the lent bytes: the rows' in front of what they held, or as they were
 unfoldable pub packedInto : List ℕ → List ℕ → List ℕ
-packedInto l b = cond (isPackable l) (cond (leb (bytesFor (length l)) (length b)) (packing (rowsOf l) ++ drop (bytesFor (length l)) b) b) b
+packedInto l b =
+    cond (isPackable l) (cond (leb (bytesFor (length l)) (length b)) (packing (rowsOf l) ++ drop (bytesFor (length l)) b) b) b
 
 -- `pack` of the numbers l over the lent bytes b answers r and leaves b′
 pub record Pack (l b : List ℕ) (r : Packed) (b′ : List ℕ) : Type 0 where

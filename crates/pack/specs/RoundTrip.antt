@@ -15,7 +15,7 @@ use Rattle.pack.specs.declared.packing.Packed.{Packed}
 use Rattle.pack.specs.declared.packing.Packed.the-variants as packed
 use Rattle.pack.specs.declared.unpacking.Unpacked.{Unpacked}
 use Rattle.pack.specs.declared.unpacking.Unpacked.the-variants as unpacked
-use Rattle.pack.specs.Big.{Bytes}
+use Rattle.pack.specs.Digits.{Bytes}
 use Rattle.pack.specs.Seven.{packing, unpacking}
 use Rattle.pack.specs.Pack.{isPackable, Pack}
 use Rattle.pack.specs.Unpack.{isUnpackable, Unpack}
@@ -29,14 +29,22 @@ edgeBytes = 0x90 ∷ 0x00 ∷ 0x00 ∷ 0x00 ∷ 0x00 ∷ 0x00 ∷ 0x04 ∷ 0xA7 
 
 pub record RoundTrip : Type 0 where
   -- the definitions: on all that they accept, packing and unpacking are inverse to each other
-  pub rows : (l : List ℕ) → isPackable l ≡ true → (isUnpackable (packing (rowsOf l)) ≡ true) × (flat (unpacking (packing (rowsOf l))) ≡ l)
-  pub bytes : (s : List ℕ) → Bytes s → isUnpackable s ≡ true → (isPackable (flat (unpacking s)) ≡ true) × (packing (rowsOf (flat (unpacking s))) ≡ s)
+  pub rows : (l : List ℕ) → isPackable l ≡ true
+      → (isUnpackable (packing (rowsOf l)) ≡ true) × (flat (unpacking (packing (rowsOf l))) ≡ l)
+  pub bytes : (s : List ℕ) → Bytes s → isUnpackable s ≡ true
+      → (isPackable (flat (unpacking s)) ≡ true) × (packing (rowsOf (flat (unpacking s))) ≡ s)
   -- the contracts: unpacking what packing gave returns the same rows, in front of what the lent numbers held
-  pub unpacks : (l b b′ : List ℕ) (n : ℕ) → Pack l b (packed.Bytes n) b′ → (c c′ : List ℕ) (r : Unpacked) → Unpack (take n b′) c r c′ → length l ≤ length c → (r ≡ unpacked.Rows (length l / 4)) × (c′ ≡ l ++ drop (length l) c)
+  pub unpacks : (l b b′ : List ℕ) (n : ℕ) → Pack l b (packed.Bytes n) b′
+      → (c c′ : List ℕ) (r : Unpacked) → Unpack (take n b′) c r c′ → length l ≤ length c
+      → (r ≡ unpacked.Rows (length l / 4)) × (c′ ≡ l ++ drop (length l) c)
   -- packing what unpacking gave returns the same bytes, in front of what the lent bytes held
-  pub packs : (s c c′ : List ℕ) (n : ℕ) → Bytes s → Unpack s c (unpacked.Rows n) c′ → (b b′ : List ℕ) (r : Packed) → Pack (take (n * 4) c′) b r b′ → length s ≤ length b → (r ≡ packed.Bytes (length s)) × (b′ ≡ s ++ drop (length s) b)
+  pub packs : (s c c′ : List ℕ) (n : ℕ) → Bytes s → Unpack s c (unpacked.Rows n) c′
+      → (b b′ : List ℕ) (r : Packed) → Pack (take (n * 4) c′) b r b′ → length s ≤ length b
+      → (r ≡ packed.Bytes (length s)) × (b′ ≡ s ++ drop (length s) b)
   -- what strict reading gives packs without refusal, of its definition and of its contract
   pub strictly : (s : List ℕ) (q : ℕ) (rs : List Row) → strict s ≡ ok q rs → isPackable (flat rs) ≡ true
-  pub readings : (s c c′ : List ℕ) (n : ℕ) → Read s c (reading.Rows n) c′ → (b b′ : List ℕ) (r : Packed) → Pack (take (n * 4) c′) b r b′ → n * 7 ≤ length b → r ≡ packed.Bytes (n * 7)
+  pub readings : (s c c′ : List ℕ) (n : ℕ) → Read s c (reading.Rows n) c′
+      → (b b′ : List ℕ) (r : Packed) → Pack (take (n * 4) c′) b r b′ → n * 7 ≤ length b → r ≡ packed.Bytes (n * 7)
   -- and 01's two rows are 01's fourteen bytes
-  pub edge : (b b′ : List ℕ) (r : Packed) → Pack edgeRows b r b′ → 14 ≤ length b → (r ≡ packed.Bytes 14) × (b′ ≡ edgeBytes ++ drop 14 b)
+  pub edge : (b b′ : List ℕ) (r : Packed) → Pack edgeRows b r b′ → 14 ≤ length b
+      → (r ≡ packed.Bytes 14) × (b′ ≡ edgeBytes ++ drop 14 b)

@@ -3,7 +3,8 @@
 --     packRow, packing          the bytes of a row, and of rows
 --     unpackRow, unpacking      the row of seven bytes, and the rows of as many sevens as there are
 --     threeAt, unpackAt         by index
---     endFits, spanFits, every  the spans that three bytes hold
+--     endFits, spanFits, every  the tests of spans, and a test of all rows
+--     InSeven                   a row that seven bytes hold
 -- Assumes nothing.
 use Prim.Native.Nat.{ℕ, _+_, _-_, _*_, _/_, _%_, _≤_}
 use mathlib.Core.Bool.{Bool, true, _&&_}
@@ -12,17 +13,17 @@ use lib.ListN.{getD}
 use lib.Dec.{leb}
 use Rattle.row.specs.Row.{Row, rowOf}
 use Rattle.row.specs.Limits.{mostBytes}
-use Rattle.pack.specs.Big.{big, ofBig}
+use Rattle.pack.specs.Digits.{threeBytes, ofBytes}
 
 abbrev pub packRow : Row → List ℕ
-packRow r = (r .kind * 16 + r .detail) ∷ (big 3 (r .start) ++ big 3 (r .end - r .start))
+packRow r = (r .kind * 16 + r .detail) ∷ (threeBytes (r .start) ++ threeBytes (r .end - r .start))
 
 unfoldable pub packing : List Row → List ℕ
 packing [] = []
 packing (r ∷ rs) = packRow r ++ packing rs
 
 abbrev pub unpackRow : ℕ → ℕ → ℕ → ℕ → ℕ → ℕ → ℕ → Row
-unpackRow h a b c d e f = rowOf (h / 16) (h % 16) (ofBig 0 (a ∷ b ∷ c ∷ [])) (ofBig 0 (a ∷ b ∷ c ∷ []) + ofBig 0 (d ∷ e ∷ f ∷ []))
+unpackRow h a b c d e f = rowOf (h / 16) (h % 16) (ofBytes (a ∷ b ∷ c ∷ [])) (ofBytes (a ∷ b ∷ c ∷ []) + ofBytes (d ∷ e ∷ f ∷ []))
 
 unfoldable pub unpacking : List ℕ → List Row
 unpacking [] = []
@@ -36,7 +37,7 @@ unpacking (h ∷ a ∷ b ∷ c ∷ d ∷ e ∷ f ∷ l) = unpackRow h a b c d e 
 
 -- the number of the three bytes from p on, and the row of the seven
 abbrev pub threeAt : List ℕ → ℕ → ℕ
-threeAt s p = ofBig 0 (getD s p 0 ∷ getD s (p + 1) 0 ∷ getD s (p + 2) 0 ∷ [])
+threeAt s p = ofBytes (getD s p 0 ∷ getD s (p + 1) 0 ∷ getD s (p + 2) 0 ∷ [])
 
 abbrev pub unpackAt : List ℕ → ℕ → Row
 unpackAt s p = rowOf (getD s p 0 / 16) (getD s p 0 % 16) (threeAt s (p + 1)) (threeAt s (p + 1) + threeAt s (p + 4))
@@ -56,7 +57,7 @@ every t [] = true
 every t (r ∷ rs) = t r && every t rs
 
 -- a row that seven bytes hold
-pub record Fits (r : Row) : Type 0 where
+pub record InSeven (r : Row) : Type 0 where
   pub kind : r .kind ≤ 10
   pub detail : r .detail ≤ 10
   pub order : r .start ≤ r .end

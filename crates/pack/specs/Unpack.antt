@@ -20,11 +20,14 @@ unfoldable pub isUnpackable : List ℕ → Bool
 isUnpackable s = eqb (length s % 7) 0 && (isRows (unpacking s) && every endFits (unpacking s))
 
 unfoldable pub unpackedOf : List ℕ → ℕ → Unpacked
-unpackedOf s size = cond (isUnpackable s) (cond (leb (length s / 7) (size / 4)) (unpacked.Rows (length s / 7)) (unpacked.Refused (nowhere NoRoom))) (unpacked.Refused (nowhere BadRows))
+unpackedOf s size =
+    cond (isUnpackable s) (cond (leb (length s / 7) (size / 4)) (unpacked.Rows (length s / 7)) (unpacked.Refused (nowhere NoRoom)))
+    (unpacked.Refused (nowhere BadRows))
 
 -- the lent numbers: the rows in front of what they held, or as they were
 unfoldable pub unpackedInto : List ℕ → List ℕ → List ℕ
-unpackedInto s b = cond (isUnpackable s) (cond (leb (length s / 7) (length b / 4)) (flat (unpacking s) ++ drop (length s / 7 * 4) b) b) b
+unpackedInto s b =
+    cond (isUnpackable s) (cond (leb (length s / 7) (length b / 4)) (flat (unpacking s) ++ drop (length s / 7 * 4) b) b) b
 
 -- `unpack` of the bytes s over the lent numbers b answers r and leaves b′
 pub record Unpack (s b : List ℕ) (r : Unpacked) (b′ : List ℕ) : Type 0 where

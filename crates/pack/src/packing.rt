@@ -10,7 +10,7 @@ ghost use Prim.Native.Nat.{_+_, _*_, _/_, _≤_};
 ghost use lib.ListN.{length, take, drop};
 ghost use Rattle.row.specs.Row.{rowOf};
 ghost use Rattle.row.specs.Numbers.{rowsOf};
-ghost use Rattle.pack.specs.Seven.{packRow, packing, Fits};
+ghost use Rattle.pack.specs.Seven.{packRow, packing, InSeven};
 ghost use Rattle.pack.specs.Pack.{isPackable, Pack};
 
 // The number of bytes, which then stand in the lent ones.
@@ -45,7 +45,7 @@ fn is_packable(rows: &[u32]) -> bool
 
 // A row into the seven bytes from p on.
 fn put_packed(bytes: &mut [u8], p: usize, kind: u32, detail: u32, start: u32, end: u32)
-    requires { ⌜ (p + 7 ≤ length (now bytes)) × Fits (rowOf kind detail start end) ⌝ }
+    requires { ⌜ (p + 7 ≤ length (now bytes)) × InSeven (rowOf kind detail start end) ⌝ }
     ensures { λ _. ⌜ now (bytes .exit) ≡ take p (now (bytes .entry)) ++ packRow (rowOf kind detail start end) ++ drop (p + 7) (now (bytes .entry)) ⌝ }
 {
     let size = end - start;

@@ -1,7 +1,8 @@
 -- The ways through the functions of src/file.rt, over what their calls told.
 --     file-end, file-entry, file-comment, file-other     a turn of the file, by the byte it stands at
 --     comment-further                                     a comment that stands there is passed
---     read-long, read-ill, read-off, read-full, read-fits     the answers of `read`
+--     bytes-ill, bytes-valid                              the answers of `parse_bytes`
+--     read-long, read-off, read-full, read-fits           the answers of `read`
 -- Assumes nothing.
 use Prim.Native.Nat.{ℕ, _+_, _/_, _≤_, _<_}
 use native.Mathlib.Omega.{arith}
@@ -25,20 +26,20 @@ use Rattle.row.specs.Fault.{faultAt, nowhere}
 use Rattle.raw.specs.declared.answer.Step.the-variants as step
 use Rattle.raw.specs.declared.answer.Answer.{Answer}
 use Rattle.raw.specs.declared.answer.Answer.the-variants as answer
-use Rattle.raw.specs.declared.answer.Reading.{Reading}
 use Rattle.raw.specs.declared.answer.Reading.the-variants as reading
 use Rattle.row.specs.Row.{Row, moved, overlay}
 use Rattle.raw.specs.Reader.{Out, ok, again, bad, andThen}
 use Rattle.raw.specs.Grammar.{is, comment, entry, fileTurn, file}
 use Rattle.raw.specs.Says.{stepOf, answerOf, Room, Says}
 use Rattle.row.specs.Limits.{mostBytes}
-use Rattle.raw.specs.Read.{checked, strict, readingOut, leftOut, Read}
-use Rattle.row.proofs.Rows.{moved-none, overlay-fits}
+use Rattle.raw.specs.Read.{strict, readingOut, leftOut, Read}
+use Rattle.row.proofs.numbers.Overlay.{moved-none, overlay-fits}
 use Rattle.raw.proofs.Bare.{then-on}
 use Rattle.raw.proofs.Saying.{says-at, said-off}
 use Rattle.raw.proofs.Steps.{scan-on, white-on, comment-on}
 use Rattle.raw.proofs.Bytes.{seen-key, seen-other}
 use Rattle.raw.proofs.Eaten.{narrow-is}
+use Rattle.raw.proofs.StrictSteps.{strict-valid, strict-ill, strict-file}
 
 -- ---- a turn
 
@@ -74,6 +75,17 @@ comment-further s p {r} h q d =
     let n : r ≡ skip (fails test.Newline) s (p + 1) = let x = d ∙ ap stepOf t in cc in
     omega (arith, skip-ahead (fails test.Newline) s (p + 1) .from)
 
+-- ---- `parse_bytes`
+
+module _ (s : List ℕ) (base : ℕ) (b : List ℕ) (h : base + length s ≤ mostBytes) {v : Validity} (d : v ≡ validityOf s) where
+  pub bytes-ill : {i : ℕ} {b′ : List ℕ} → v ≡ validity.IllFormed i → Says base (strict s) 0 b (answer.Refused (faultAt NotUtf8 i)) b′
+  bytes-ill {i} {b′} e =
+      subst (λ (o : Out). Says base o 0 b (answer.Refused (faultAt NotUtf8 i)) b′) (sym (strict-ill s (omega arith) i (sym d ∙ e)))
+      (record { told = refl; room = tt })
+
+  pub bytes-valid : v ≡ validity.Valid → {r : Answer} {b′ : List ℕ} → Says base (file s 0) 0 b r b′ → Says base (strict s) 0 b r b′
+  bytes-valid e {r} {b′} p = subst (λ (o : Out). Says base o 0 b r b′) (sym (strict-valid s (omega arith) (sym d ∙ e))) p
+
 -- ---- `read`
 
 full-rows : (b : List ℕ) {q n : ℕ} (p : ℕ) (rs : List Row) → answer.Next q n ≡ answer.Next p (0 + length rs) → length b / 4 < n → leb (length rs) (length b / 4) ≡ false
@@ -100,27 +112,19 @@ pub read-long : (s b : List ℕ) → mostBytes < length s → Read s b (reading.
 unfolding strict
 read-long s b h = let t = lt-leb (length s) mostBytes h in record { answer = rw t; rows = rw t }
 
-module _ (s b : List ℕ) (h : length s ≤ mostBytes) {v : Validity} (d : v ≡ validityOf s) where
-  strict-by : {x : Validity} → v ≡ x → strict s ≡ checked s x
-  unfolding strict
-  strict-by q = rw (le-leb (length s) mostBytes h, sym d ∙ q)
+module _ (s b : List ℕ) {y y′ : List ℕ} {r : Answer} (w : Says 0 (strict s) 0 y r y′) where
+  -- by the reading that was counted first
+  pub read-off : {f : Fault} → r ≡ answer.Refused f → Read s b (reading.Refused f) b
+  read-off z =
+      let t = sym (said-off (says-at z w)) in
+      record { answer = ap (λ (o : Out). readingOut o (length b)) t; rows = ap (λ (o : Out). leftOut o b) t }
 
-  pub read-ill : {i : ℕ} → v ≡ validity.IllFormed i → Read s b (reading.Refused (faultAt NotUtf8 i)) b
-  read-ill q = let t = strict-by q in record { answer = ap (λ (o : Out). readingOut o (length b)) (sym t); rows = ap (λ (o : Out). leftOut o b) (sym t) }
+  module _ {p n : ℕ} (z : r ≡ answer.Next p n) where
+    pub read-full : length b / 4 < n → Read s b (reading.Refused (nowhere NoRoom)) b
+    read-full l = let k = full (strict s) b p n (sym z ∙ w .told) l in record { answer = k .0; rows = k .1 }
 
-  module _ (q : v ≡ validity.Valid) {y y′ : List ℕ} {r : Answer} (w : Says 0 (file s 0) 0 y r y′) where
-    -- by the reading that was counted first
-    as-file : {x : Reading} {b′ : List ℕ} → (x ≡ readingOut (file s 0) (length b)) × (b′ ≡ leftOut (file s 0) b) → Read s b x b′
-    as-file k =
-        let t = strict-by q in
-        record { answer = k .0 ∙ ap (λ (o : Out). readingOut o (length b)) (sym t); rows = k .1 ∙ ap (λ (o : Out). leftOut o b) (sym t) }
-
-    pub read-off : {f : Fault} → r ≡ answer.Refused f → Read s b (reading.Refused f) b
-    read-off z = let t = said-off (says-at z w) in as-file (ap (λ (o : Out). readingOut o (length b)) (sym t), ap (λ (o : Out). leftOut o b) (sym t))
-
-    module _ {p n : ℕ} (z : r ≡ answer.Next p n) where
-      pub read-full : length b / 4 < n → Read s b (reading.Refused (nowhere NoRoom)) b
-      read-full l = as-file (full (file s 0) b p n (sym z ∙ w .told) l)
-
-      pub read-fits : {x : Answer} {b′ : List ℕ} → n ≤ length b / 4 → Says 0 (file s 0) 0 b x b′ → Read s b (reading.Rows n) b′
-      read-fits l k = as-file (fits (file s 0) b p n (sym z ∙ w .told) l (k .room))
+    pub read-fits : {x : Answer} {b′ : List ℕ} → n ≤ length b / 4 → Says 0 (file s 0) 0 b x b′ → Read s b (reading.Rows n) b′
+    read-fits {b′ = b′} l k =
+        let t = sym z ∙ w .told in
+        let m = fits (strict s) b p n t l (subst (λ (o : Out). Room 0 o 0 b b′) (strict-file s t) (k .room)) in
+        record { answer = m .0; rows = m .1 }

@@ -14,7 +14,7 @@ use Rattle.row.specs.Row.{Row, row, kindOf}
 use Rattle.row.specs.declared.fault.Reason.{Reason}
 use Rattle.raw.specs.Reader.{Out, ok, again, bad, Reader, more, andThen, under, after, stop, turn, refuse, _then_, over, overFrom, put, when, sees, loop, many}
 use Rattle.row.specs.Rules.{Await, next, isDetail, run}
-use Rattle.row.proofs.Joins.{run-append}
+use Rattle.row.proofs.rules.Append.{run-append}
 use Rattle.raw.proofs.Good.{eaten-holds}
 
 -- some of the things that may be awaited

@@ -14,6 +14,7 @@ pub mod Rules
 pub mod Few
 pub mod Early
 pub mod Strict
+pub mod StrictSteps
 pub mod Refusals
 pub mod Bare
 pub mod Bounds

@@ -16,7 +16,7 @@ use Rattle.raw.specs.Reader.{ok}
 use Rattle.raw.specs.Grammar.{is, any, atSign, stringLiteral, braced, ident, singleField, abbrElement, abbrTurn, abbrField, field, fieldEnd, fieldsTurn, fields, key, formOf, strings, preamble, body, rest, entry, fileTurn, file}
 use Rattle.row.specs.Rules.{Await, part, type, value, chunk, chunks, next, whole, isRows}
 use Rattle.row.specs.Rules as awaits
-use Rattle.row.proofs.Joins.{Free, none, one, free-whole}
+use Rattle.row.proofs.rules.Append.{Free, none, one, free-whole}
 use Rattle.raw.proofs.Leads.{Awaits, LeadsOut, Leads, Takes, chain-leads, stop-leads, turn-leads, refuse-leads, put-leads, when-leads, sees-leads, then-leads, wider-leads, from-leads, over-leads, many-leads}
 use Rattle.raw.proofs.Quiet.{eof-leads, on-leads, white-leads, comma-leads, at-sign-leads, opening-leads, closing-leads, quote-leads, equals-leads, ident-leads, comment-leads, quoted-leads, string-leads, number-leads, in-braces-leads, key-leads, commented-leads, lead-leads}
 use Rattle.raw.proofs.Entries.{named, typed}

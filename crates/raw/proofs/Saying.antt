@@ -22,7 +22,7 @@ use Rattle.raw.specs.declared.answer.Turn.the-variants as turn
 use Rattle.row.specs.Row.{Row, row, rowUp, moved, putRow, overlay}
 use Rattle.raw.specs.Reader.{Out, ok, again, bad, Reader, more, andThen, under}
 use Rattle.raw.specs.Says.{answerOf, turnOf, Room, Says, SaysTurn}
-use Rattle.row.proofs.Rows.{moved-append, put-overlay, overlay-append, moved-length, row-up}
+use Rattle.row.proofs.numbers.Overlay.{moved-append, put-overlay, overlay-append, moved-length, row-up}
 
 -- ---- answers that differ
 

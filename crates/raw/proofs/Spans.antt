@@ -1,4 +1,5 @@
 -- What a trace tells of places and rows.
+--     rising-less                                     starts that never fall, from an earlier place on
 --     reach-order, reach-inside, reach-boundary       of the place that is reached
 --     reach-same                                      a text cut there shows the same up to there
 --     trace-rising, trace-spans, trace-clean          of the rows
@@ -23,7 +24,7 @@ use Rattle.raw.proofs.Trace.{Reach, here, on, Trace, none, eats, joins,
 
 -- ---- of rows
 
-rising-less : (n m : ℕ) (rs : List Row) → n ≤ m → Rising m rs → Rising n rs
+pub rising-less : (n m : ℕ) (rs : List Row) → n ≤ m → Rising m rs → Rising n rs
 unfolding Rising
 rising-less n m [] h x = tt
 rising-less n m (r ∷ rs) h x = (omega (arith, x .0), x .1)

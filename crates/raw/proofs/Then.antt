@@ -12,7 +12,7 @@ use lib.ListN.{length}
 use lib.Dec.{eqb}
 use Rattle.row.specs.declared.form.Kind.{Kind}
 use Rattle.row.specs.Row.{Row, row, rowUp, kindOf, moved}
-use Rattle.row.proofs.Rows.{moved-append}
+use Rattle.row.proofs.numbers.Overlay.{moved-append}
 use Rattle.raw.specs.Reader.{OutOf, ok, again, bad, ReaderOf, Out, Reader, more, andThen, under, _then_, over, overFrom, turn}
 use Rattle.raw.specs.Strict.{Same, shifted}
 use Rattle.raw.proofs.Good.{Stops, Sound, Shifts, Kept, Good, turn-good}

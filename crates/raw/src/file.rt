@@ -1,4 +1,4 @@
-// The file, after src/raw.rs: `parse`; and `read`, which checks, counts and then writes.
+// The file, after src/raw.rs: `parse`; `parse_bytes`, which checks the UTF-8 first; and `read`, which counts and then writes.
 use crate::answer::Answer;
 use crate::answer::Reading;
 use crate::answer::Turn;
@@ -10,10 +10,14 @@ use row::limits::MOST_BYTES;
 use text::scanner;
 use text::utf8;
 use text::utf8::Validity;
+ghost use mathlib.Core.Path.{_≡_};
+ghost use Prim.Native.Nat.{_+_, _≤_};
 ghost use lib.ListN.{length};
+ghost use Rattle.text.specs.Utf8.{validityOf};
+ghost use Rattle.row.specs.Limits.{mostBytes};
 ghost use Rattle.raw.specs.Grammar.{fileTurn, file};
 ghost use Rattle.raw.specs.Says.{Says, Within, SaysTurn, WithinTurn, Ready};
-ghost use Rattle.raw.specs.Read.{Read};
+ghost use Rattle.raw.specs.Read.{strict, Read};
 
 // Eat an entry, a comment or any other character, after white space.
 fn file_turn(s: &[u8], base: usize, at: usize, rows: &mut [u32], n: usize) -> Turn
@@ -72,6 +76,32 @@ pub fn parse(s: &[u8], base: usize, rows: &mut [u32], n: usize) -> Answer
     }
 }
 
+// The UTF-8 of a text. One of a few bytes, as a damaged piece of a file may be, is not worth the preparations for blocks.
+fn validate(s: &[u8]) -> Validity
+    ensures { λ r. ⌜ r ≡ validityOf (now (s .entry)) ⌝ }
+{
+    if s.len() < 16 {
+        return utf8::validate_short(s);
+    }
+    utf8::validate(s)
+}
+
+// Reads a text that may not be UTF-8 and stands base bytes into a file. Where it is, its rows are put from the first on.
+pub fn parse_bytes(s: &[u8], base: usize, rows: &mut [u32]) -> Answer
+    requires { ⌜ base + length (now s) ≤ mostBytes ⌝ }
+    ensures says { λ r. ⌜ Says base (strict (now (s .entry))) 0 (now (rows .entry)) r (now (rows .exit)) ⌝ }
+    ensures within { λ r. ⌜ Within (length (now (s .entry))) 0 0 0 r ⌝ }
+{
+    match validate(s) {
+        Validity::IllFormed(i) => Answer::Refused(Fault {
+            reason: Reason::NotUtf8,
+            start: i,
+            end: i,
+        }),
+        Validity::Valid => parse(s, base, rows, 0),
+    }
+}
+
 // Reads a file strictly: the number of its rows, which then stand in the lent numbers, or the refusal, which leaves them as they were.
 pub fn read(s: &[u8], rows: &mut [u32]) -> Reading
     ensures { λ r. ⌜ Read (now (s .entry)) (now (rows .entry)) r (now (rows .exit)) ⌝ }
@@ -83,18 +113,8 @@ pub fn read(s: &[u8], rows: &mut [u32]) -> Reading
             end: 0,
         });
     }
-    match utf8::validate(s) {
-        Validity::IllFormed(i) => {
-            return Reading::Refused(Fault {
-                reason: Reason::NotUtf8,
-                start: i,
-                end: i,
-            });
-        }
-        Validity::Valid => {}
-    }
     let mut none = [0u32; 0];
-    match parse(s, 0, &mut none, 0) {
+    match parse_bytes(s, 0, &mut none) {
         Answer::Refused(f) => {
             return Reading::Refused(f);
         }

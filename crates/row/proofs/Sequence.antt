@@ -16,7 +16,7 @@ use Rattle.row.specs.Rules.{isKind, only, orChunk, begun, next, isDetail
 use Rattle.row.specs.Sequence.{Plain, Cause, Element, literal, name, Elements, one, more, Named, named, Fields, field, Part}
 use Rattle.row.specs.Sequence.{Sequence, Check, entry, definition, preamble, damage}
 use Rattle.row.specs.Sequence as grammar
-use Rattle.row.proofs.Joins.{run-append, rows-append}
+use Rattle.row.proofs.rules.Append.{run-append, rows-append}
 
 -- ---- a sequence of the grammar passes
 

@@ -6,7 +6,11 @@
 -- Assumes nothing.
 use Prim.Native.Nat.{ℕ}
 use Rattle.row.specs.declared.fault.Reason.{Reason}
-use Rattle.row.specs.declared.fault.Reason.the-variants.{TooLong, NotUtf8, UnexpectedEof, ExpectedIdentifier, ExpectedOpeningBrace, ExpectedClosingBrace, ExpectedComma, ExpectedQuotationMark, ExpectedEquals, UnexpectedDecimalPoint, UnexpectedClosingBrace, UnknownAbbreviation, Cyclic, TooDeep, TooManyNames, NoRoom, BadRows}
+use Rattle.row.specs.declared.fault.Reason.the-variants.{TooLong, NotUtf8, UnexpectedEof, ExpectedIdentifier}
+use Rattle.row.specs.declared.fault.Reason.the-variants.{ExpectedOpeningBrace, ExpectedClosingBrace, ExpectedComma}
+use Rattle.row.specs.declared.fault.Reason.the-variants.{ExpectedQuotationMark, ExpectedEquals, UnexpectedDecimalPoint}
+use Rattle.row.specs.declared.fault.Reason.the-variants.{UnexpectedClosingBrace, UnknownAbbreviation, Cyclic, TooDeep}
+use Rattle.row.specs.declared.fault.Reason.the-variants.{TooManyNames, NoRoom, BadRows}
 use Rattle.row.specs.declared.fault.Fault.{Fault}
 
 abbrev pub numberOf : Reason → ℕ

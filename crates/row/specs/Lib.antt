@@ -1,6 +1,7 @@
 pub mod Limits
 pub mod Fault
 pub mod Row
+pub mod Spans
 pub mod Rules
 pub mod Numbers
 pub mod Masks

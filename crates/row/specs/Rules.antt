@@ -7,7 +7,8 @@ use mathlib.Core.Bool.{Bool, true, false, cond, _&&_, _||_}
 use mathlib.Core.List.{List, [], _∷_}
 use lib.Dec.{eqb, leb}
 use Rattle.row.specs.declared.form.Kind.{Kind}
-use Rattle.row.specs.declared.form.Kind.the-variants.{Preamble, Entry, EntryType, Key, FieldName, Value, Literal, Name, DefinitionName, Damage, Cause}
+use Rattle.row.specs.declared.form.Kind.the-variants.{Preamble, Entry, EntryType, Key, FieldName, Value}
+use Rattle.row.specs.declared.form.Kind.the-variants.{Literal, Name, DefinitionName, Damage, Cause}
 use Rattle.row.specs.Row.{Row, kindOf}
 
 -- what may come next: a part of the sequence, or the end; an entry's type; its key; a value; its first literal or name; another

@@ -9,16 +9,17 @@ use mathlib.Core.List.{List}
 use lib.ListN.{length}
 use Rattle.row.specs.Limits.{mostBytes}
 use Rattle.row.specs.Rules.{isRows, clean}
+use Rattle.row.specs.Spans.{SpansIn}
 use Rattle.raw.specs.Strict.{Rising}
 use Rattle.raw.proofs.Strict.{strict-reading}
 use Rattle.salvage.specs.Salvage.{cut, salvageOf}
-use Rattle.salvage.specs.Demand3.{joined, Whole, AllFit, Demand3}
-use Rattle.salvage.proofs.Cut.{joined-cut, salvage-append}
-use Rattle.salvage.proofs.Each.{each, calls}
-use Rattle.salvage.proofs.Begins.{begins, cuts}
-use Rattle.salvage.proofs.Ordered.{pieces-rules, pieces-fit, pieces-rising}
-use Rattle.salvage.proofs.Few.{salvage-few}
-use Rattle.salvage.proofs.Undamaged.{accepts, opened, same-rows}
+use Rattle.salvage.specs.Demand3.{joined, Whole, Demand3}
+use Rattle.salvage.proofs.cutting.PiecesAppend.{joined-cut, salvage-append}
+use Rattle.salvage.proofs.rows.EachPiece.{each, calls}
+use Rattle.salvage.proofs.cutting.PiecesAtBoundaries.{begins, cuts}
+use Rattle.salvage.proofs.rows.Order.{pieces-rules, pieces-spans, pieces-rising}
+use Rattle.salvage.proofs.rows.RowCount.{salvage-few}
+use Rattle.salvage.proofs.rows.Undamaged.{accepts, opened, same-rows}
 
 undamaged : (s : List ℕ) → length s ≤ mostBytes → (clean (salvageOf s) ≡ true) ↔ Whole s (salvageOf s)
 undamaged s h = (
@@ -34,11 +35,11 @@ rising : (s : List ℕ) → Rising 0 (salvageOf s)
 unfolding salvageOf
 rising s = pieces-rising 0 (cut s)
 
-inside : (s : List ℕ) → AllFit (length s) (salvageOf s)
+inside : (s : List ℕ) → SpansIn (length s) (salvageOf s)
 unfolding salvageOf
 inside s =
     let e : 0 + length (joined (cut s)) ≡ length s = rw (joined-cut s) (omega arith) in
-    subst (λ (n : ℕ). AllFit n (salvageOf s)) e (pieces-fit 0 (cut s))
+    subst (λ (n : ℕ). SpansIn n (salvageOf s)) e (pieces-spans 0 (cut s))
 
 pub demand3 : Demand3
 demand3 =

@@ -1,19 +1,16 @@
-pub mod Worked
-pub mod Cut
-pub mod Scanned
-pub mod Turned
-pub mod Joint
-pub mod Seam
-pub mod Checked
-pub mod Ordered
-pub mod Few
-pub mod Each
-pub mod Undamaged
-pub mod Begins
+-- The laws and proofs of `salvage`, lowest first. The proof of a function is MODULE/FUNCTION/Proof.antt.
+
+-- where a file is cut, and what a cut does to strict reading
+pub mod cutting
+-- the rows that salvage gives: of each piece, of the whole file, and of a file without damage
+pub mod rows
+-- the ways through the functions of the code
+pub mod ways
+-- the proof of specs/Demand3.antt
 pub mod Demand3
-pub mod PieceWays
-pub mod PieceEnd
-pub mod PieceLoop
-pub mod FileWays
+-- the proof of specs/Worked.antt
+pub mod Worked
+-- the proof of specs/Refusals.antt
 pub mod Refusals
+-- any two outcomes that the public contract allows are the same
 pub mod Unique

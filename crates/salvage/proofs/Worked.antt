@@ -7,7 +7,10 @@ use Rattle.text.specs.Class.{whiteSpace, control, isWhitespace, isControl, isKe
 use Rattle.text.specs.Scan.{code, seeFrom}
 use Rattle.text.specs.Scan as scan
 use Rattle.raw.specs.Reader.{loop, many}
-use Rattle.raw.specs.Grammar.{white, comma, opening, closing, quote, equals, quotedTurn, quoted, string, stringLiteral, numberTurn, number, bracedTurn, inBraces, braced, ident, singleField, abbrElement, abbrTurn, abbrField, comment, field, fieldEnd, fieldsTurn, fields, key, spells, formOf, lead, rest, atSign, strings, preamble, commented, body, entry, fileTurn, file}
+use Rattle.raw.specs.Grammar.{white, comma, opening, closing, quote, equals, quotedTurn, quoted, string, stringLiteral, numberTurn}
+use Rattle.raw.specs.Grammar.{number, bracedTurn, inBraces, braced, ident, singleField, abbrElement, abbrTurn, abbrField, comment}
+use Rattle.raw.specs.Grammar.{field, fieldEnd, fieldsTurn, fields, key, spells, formOf, lead, rest, atSign, strings}
+use Rattle.raw.specs.Grammar.{preamble, commented, body, entry, fileTurn, file}
 use Rattle.raw.specs.Read.{strict}
 use Rattle.row.specs.Row.{moved}
 use Rattle.raw.specs.Worked.{utf8}
@@ -15,5 +18,10 @@ use Rattle.salvage.specs.Salvage.{head, cut, pieces, salvageOf}
 use Rattle.salvage.specs.Worked.{Worked}
 
 pub worked : Worked
-unfolding walkFrom alternatives begins widthBy gather value octets lookValid validityOf whiteSpace control isWhitespace isControl isKey isIdContinue isIdStart holdsOf code scan.rest seeFrom loop many white comma opening closing quote equals quotedTurn quoted string stringLiteral numberTurn number bracedTurn inBraces braced ident singleField abbrElement abbrTurn abbrField comment field fieldEnd fieldsTurn fields key spells formOf lead rest atSign strings preamble commented body entry fileTurn file strict moved utf8 head cut pieces salvageOf
+unfolding
+    walkFrom alternatives begins widthBy gather value octets lookValid validityOf whiteSpace control isWhitespace isControl isKey
+    isIdContinue isIdStart holdsOf code scan.rest seeFrom loop many white comma opening closing quote equals quotedTurn quoted string
+    stringLiteral numberTurn number bracedTurn inBraces braced ident singleField abbrElement abbrTurn abbrField comment field fieldEnd
+    fieldsTurn fields key spells formOf lead rest atSign strings preamble commented body entry fileTurn file strict moved utf8 head cut
+    pieces salvageOf
 worked = record { salvage = refl; strictly = refl }

@@ -26,18 +26,18 @@ pub record Ends (s : List ℕ) (p e : ℕ) : Type 0 where
   pub next : fresh (drop e s) ≡ true
 
 -- what reading a piece asks: that it is some bytes of a file inside 01's limit, and valid where it is said to be
-pub record Piece (w : List ℕ) (base : ℕ) (valid : Bool) : Type 0 where
+pub record PieceToRead (w : List ℕ) (base : ℕ) (valid : Bool) : Type 0 where
   pub file : base + length w ≤ mostBytes
   pub some : 0 < length w
   pub known : valid ≡ true → Octets w
 
--- what writing its damage asks
-pub record Damage (w : List ℕ) (base : ℕ) (f : Fault) : Type 0 where
+-- what writing its damage asks: that its place is one of a file inside 01's limit, and the cause's place one of the piece
+pub record DamageToWrite (w : List ℕ) (base : ℕ) (f : Fault) : Type 0 where
   pub file : base + length w ≤ mostBytes
   pub from : f .start ≤ length w
   pub to : f .end ≤ length w
 
--- the rows are so many, and none of them a damage row; or some are
+-- how many the rows are, and whether a damage row is among them
 abbrev pub tallyOf : List Row → Tally
 tallyOf rs = cond (clean rs) (Sound (length rs)) (Damaged (length rs))
 
@@ -56,7 +56,7 @@ pub record ValidTo (s : List ℕ) (n : ℕ) : Type 0 where
   pub octets : Octets (take n s)
 
 -- what reading the pieces asks: that the file is inside 01's limit, and valid up to n
-pub record Checked (s : List ℕ) (n : ℕ) : Type 0 where
+pub record FileToRead (s : List ℕ) (n : ℕ) : Type 0 where
   pub short : length s ≤ mostBytes
   pub valid : ValidTo s n
 
@@ -65,7 +65,7 @@ pub record Fills (s b : List ℕ) (r : Tally) (b′ : List ℕ) : Type 0 where
   pub tally : r ≡ tallyOf (salvageOf s)
   pub rows : length b ≡ length (salvageOf s) * 4 → b′ ≡ flat (salvageOf s)
 
--- what writing asks: that the file is inside 01's limit, and that its rows are n
+-- what writing the rows asks: that the file is inside 01's limit, and that its rows are n
 pub record Counted (s : List ℕ) (n : ℕ) : Type 0 where
   pub short : length s ≤ mostBytes
   pub rows : n ≡ length (salvageOf s)

@@ -23,7 +23,7 @@ use Rattle.raw.specs.Read.{strict, readingOut, leftOut}
 
 -- ---- boundaries
 
--- what an entry begins with stands at the beginning of this text: "@"
+-- the text begins as an entry does, with "@"
 unfoldable pub head : List ℕ → Bool
 head [] = false
 head (b ∷ s) = eqb b 0x40
@@ -32,13 +32,17 @@ head (b ∷ s) = eqb b 0x40
 abbrev pub newline : ℕ → Bool
 newline b = eqb b 0x0A
 
--- a byte in front of the first piece
-abbrev pub push : ℕ → List (List ℕ) → List (List ℕ)
+-- some texts, one after the other
+abbrev pub Texts : Type 0
+Texts = List (List ℕ)
+
+-- a byte in front of the first text
+abbrev pub push : ℕ → Texts → Texts
 push b [] = (b ∷ []) ∷ []
 push b (w ∷ ws) = (b ∷ w) ∷ ws
 
 -- the pieces: a new one begins after a newline where a head follows
-unfoldable pub cut : List ℕ → List (List ℕ)
+unfoldable pub cut : List ℕ → Texts
 cut [] = []
 cut (b ∷ s) = cond (newline b && head s) ((b ∷ []) ∷ cut s) (push b (cut s))
 
@@ -52,14 +56,14 @@ cause f = rowWith kind.Cause (numberOf (f .reason)) (f .start) (f .end)
 abbrev pub damaged : List ℕ → Fault → List Row
 damaged w f = row kind.Damage 0 (length w) ∷ cause f ∷ []
 
--- what a piece gives of which strict reading says this
+-- the rows of a piece, by what strict reading says of it
 abbrev pub told : List ℕ → Out → List Row
 told w (ok q rs) = rs
 told w (again q rs a) = rs
 told w (bad f) = damaged w f
 
--- what pieces give of which the first begins at p
-unfoldable pub pieces : ℕ → List (List ℕ) → List Row
+-- the rows of pieces, the first of which begins at p
+unfoldable pub pieces : ℕ → Texts → List Row
 pieces p [] = []
 pieces p (w ∷ ws) = moved p (told w (strict w)) ++ pieces (p + length w) ws
 

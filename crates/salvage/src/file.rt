@@ -14,7 +14,7 @@ ghost use Prim.Native.Nat.{_≤_, min};
 ghost use lib.ListN.{length};
 ghost use Rattle.row.specs.Rules.{clean};
 ghost use Rattle.salvage.specs.Salvage.{salvageOf, Salvage};
-ghost use Rattle.salvage.specs.Inner.{ValidTo, Checked, Fills, Counted};
+ghost use Rattle.salvage.specs.Inner.{ValidTo, FileToRead, Fills, Counted};
 
 // The end of the longest front of a file that is valid UTF-8. The pieces in it need no check of their own.
 fn valid_to(s: &[u8]) -> usize
@@ -35,7 +35,7 @@ fn least(a: usize, b: usize) -> usize
 // Reads all pieces and counts their rows, which fill the lent numbers where these are just as many. Over no numbers the rows are only
 // counted.
 fn read_pieces(s: &[u8], rows: &mut [u32], valid: usize) -> Tally
-    requires { ⌜ Checked (now s) valid ⌝ }
+    requires { ⌜ FileToRead (now s) valid ⌝ }
     ensures { λ r. ⌜ Fills (now (s .entry)) (now (rows .entry)) r (now (rows .exit)) ⌝ }
 {
     let mut at = 0;
@@ -80,7 +80,7 @@ fn write_sound(s: &[u8], rows: &mut [u32], n: usize) -> Reading
 
 // The answer for a file with damage. The pieces are lent only the numbers that the rows will fill, so that none of the others change.
 fn write_damaged(s: &[u8], rows: &mut [u32], n: usize, valid: usize) -> Reading
-    requires { ⌜ Counted (now s) n × Checked (now s) valid ⌝ }
+    requires { ⌜ Counted (now s) n × FileToRead (now s) valid ⌝ }
     ensures { λ r. ⌜ Salvage (now (s .entry)) (now (rows .entry)) r (now (rows .exit)) ⌝ }
 {
     if rows.len() / 4 < n {

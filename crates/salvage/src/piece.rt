@@ -3,22 +3,18 @@ use raw::answer::Answer;
 use raw::file;
 use row::fault;
 use row::fault::Fault;
-use row::fault::Reason;
 use row::form;
 use row::form::Kind;
 use text::block;
-use text::utf8;
-use text::utf8::Validity;
 ghost use mathlib.Core.Path.{_≡_};
 ghost use mathlib.Core.Bool.{_&&_};
 ghost use Prim.Native.Nat.{_+_, _-_, _≤_, _<_};
 ghost use lib.ListN.{length, getD, drop};
-ghost use Rattle.text.specs.Utf8.{validityOf};
 ghost use Rattle.row.specs.Row.{moved, overlay};
 ghost use Rattle.raw.specs.Read.{strict};
 ghost use Rattle.raw.specs.Says.{Says, Within};
 ghost use Rattle.salvage.specs.Salvage.{head, newline, damaged};
-ghost use Rattle.salvage.specs.Inner.{Ends, Puts, Piece, Damage};
+ghost use Rattle.salvage.specs.Inner.{Ends, Puts, PieceToRead, DamageToWrite};
 
 // A number of rows, and whether damage is among them.
 pub enum Tally {
@@ -86,38 +82,21 @@ pub fn piece_end(s: &[u8], at: usize) -> usize
     far_end(s, at)
 }
 
-// The UTF-8 of a piece. A piece of a few bytes, as a damaged one may be, is not worth the preparations for blocks.
-fn validate(w: &[u8]) -> Validity
-    ensures { λ r. ⌜ r ≡ validityOf (now (w .entry)) ⌝ }
-{
-    if w.len() < 16 {
-        return utf8::validate_short(w);
-    }
-    utf8::validate(w)
-}
-
 // Strict reading of a piece that stands base bytes into the file. Its UTF-8 is checked unless it is known to be valid.
 fn read_alone(w: &[u8], base: usize, rows: &mut [u32], valid: bool) -> Answer
-    requires { ⌜ Piece (now w) base valid ⌝ }
+    requires { ⌜ PieceToRead (now w) base valid ⌝ }
     ensures says { λ r. ⌜ Says base (strict (now (w .entry))) 0 (now (rows .entry)) r (now (rows .exit)) ⌝ }
     ensures within { λ r. ⌜ Within (length (now (w .entry))) 0 0 0 r ⌝ }
 {
     if valid {
         return file::parse(w, base, rows, 0);
     }
-    match validate(w) {
-        Validity::IllFormed(i) => Answer::Refused(Fault {
-            reason: Reason::NotUtf8,
-            start: i,
-            end: i,
-        }),
-        Validity::Valid => file::parse(w, base, rows, 0),
-    }
+    file::parse_bytes(w, base, rows)
 }
 
 // The damage of a piece that is refused, and the cause.
 fn write_damage(w: &[u8], base: usize, rows: &mut [u32], fault: Fault)
-    requires { ⌜ Damage (now w) base fault ⌝ }
+    requires { ⌜ DamageToWrite (now w) base fault ⌝ }
     ensures { λ _. ⌜ now (rows .exit) ≡ overlay (now (rows .entry)) 0 (moved base (damaged (now (w .entry)) fault)) ⌝ }
 {
     form::put_row(rows, 0, Kind::Damage, base, base + w.len());
@@ -132,7 +111,7 @@ fn write_damage(w: &[u8], base: usize, rows: &mut [u32], fault: Fault)
 // Reads a piece, whose rows then stand in front of the lent numbers where all of them fit. What a refused piece wrote before its fault is
 // overwritten by its damage and cause, or stands behind these, where the rows of later pieces go.
 pub fn read_piece(w: &[u8], base: usize, rows: &mut [u32], valid: bool) -> Tally
-    requires { ⌜ Piece (now w) base valid ⌝ }
+    requires { ⌜ PieceToRead (now w) base valid ⌝ }
     ensures { λ r. ⌜ Puts (now (w .entry)) base (now (rows .entry)) r (now (rows .exit)) ⌝ }
 {
     match read_alone(w, base, rows, valid) {

@@ -5,10 +5,10 @@ use native.Mathlib.Omega.{arith}
 use lib.ListN.{length, drop}
 use borrow.Author.Needs.{needs}
 use Rattle.row.specs.Numbers.{rowsOf}
-use Rattle.row.proofs.Numbers.{rows-next, rows-end}
+use Rattle.row.proofs.numbers.Flat.{rows-next, rows-end}
 use Rattle.pack.specs.Seven.{spanFits}
 use Rattle.pack.specs.Pack.{isPackable}
-use Rattle.pack.proofs.Checks.{Judging, judge-row, judge-off, judge-end, four-count, four-start}
+use Rattle.pack.proofs.loops.Judging.{Judging, judge-row, judge-off, judge-end, four-count, four-start}
 use Rattle.pack.proofs.packing.is_packable.Statement.{statement}
 use Rattle.pack.proofs.packing.is_packable.Tie as tie
 

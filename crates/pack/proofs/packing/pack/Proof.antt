@@ -2,7 +2,7 @@
 use mathlib.Core.Path.{sym, _∙_}
 use native.Mathlib.Omega.{arith}
 use borrow.Author.Needs.{needs}
-use Rattle.pack.proofs.Answers.{pack-done, pack-full, pack-bad}
+use Rattle.pack.proofs.contracts.Answers.{pack-done, pack-full, pack-bad}
 use Rattle.pack.proofs.packing.pack.Statement.{statement}
 use Rattle.pack.proofs.packing.pack.Tie as tie
 

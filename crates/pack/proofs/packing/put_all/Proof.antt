@@ -5,15 +5,16 @@ use native.Mathlib.Omega.{arith}
 use lib.ListN.{length, drop}
 use borrow.Author.Needs.{needs}
 use Rattle.row.specs.Numbers.{rowsOf}
-use Rattle.pack.proofs.Stores.{at-first}
-use Rattle.pack.proofs.Checks.{packable, AllFit, packable-fit, fit-next}
-use Rattle.pack.proofs.Turns.{Packing, pack-turn, pack-end}
+use Rattle.pack.proofs.loops.ListWriting.{at-first}
+use Rattle.pack.proofs.bytes.Accepted.{packable, AllInSeven, packable-seven, seven-next}
+use Rattle.pack.proofs.loops.RowWriting.{Packing, pack-turn, pack-end}
 use Rattle.pack.proofs.packing.put_all.Statement.{statement}
 use Rattle.pack.proofs.packing.put_all.Tie as tie
 
 abbrev Inv-loop : tie.InvT-loop
 Inv-loop rows bytes₀ i₀ p₀ bytes i p =
-    (length rows % 4 ≡ 0) × (k : ℕ) × (i ≡ k * 4) × (p ≡ k * 7) × (i ≤ length rows) × (length bytes ≡ length bytes₀) × (length rows / 4 * 7 ≤ length bytes₀) × AllFit (rowsOf (drop i rows)) × Packing rows bytes₀ i p bytes
+    (length rows % 4 ≡ 0) × (k : ℕ) × (i ≡ k * 4) × (p ≡ k * 7) × (i ≤ length rows)
+    × (length bytes ≡ length bytes₀) × (length rows / 4 * 7 ≤ length bytes₀) × AllInSeven (rowsOf (drop i rows)) × Packing rows bytes₀ i p bytes
 
 abbrev μ-loop : tie.MeasureT-loop
 μ-loop rows bytes₀ i₀ p₀ bytes i p = length rows - i
@@ -23,7 +24,7 @@ loop-holds c =
     let s = c .before .before in
     let a = s .args in
     let k = packable (a .rows .now) (s .pre .0) in
-    (k .count, 0, refl, refl, omega arith, refl, s .pre .1, packable-fit (a .rows .now) k, at-first _ _)
+    (k .count, 0, refl, refl, omega arith, refl, s .pre .1, packable-seven (a .rows .now) k, at-first _ _)
 
 mul-put-packed : tie.Need-mul-put-packed Inv-loop μ-loop
 mul-put-packed c = search needs
@@ -63,7 +64,7 @@ put-packed-requires c κs =
     let l = c .before .before .before .before .before .before in
     let a = c .before .before .before .before .before .before .before .before .before .args in
     let m = l .loop .inv in
-    (omega arith, fit-next (a .rows .now) (l .loop .i) (omega arith) (m .7) .0)
+    (omega arith, seven-next (a .rows .now) (l .loop .i) (omega arith) (m .7) .0)
 
 add-i : tie.Need-add-i Inv-loop μ-loop
 add-i c = search needs
@@ -87,7 +88,7 @@ loop-again c =
       omega arith,
       w .kept .0 ∙ m .5,
       m .6,
-      fit-next (a .rows .now) (l .loop .i) (omega arith) (m .7) .1,
+      seven-next (a .rows .now) (l .loop .i) (omega arith) (m .7) .1,
       pack-turn (a .rows .now) (a .bytes .now) (l .loop .i) (l .loop .p) (l .loop .bytes) _ (omega arith) (w .ensures) (m .8),
     )
 

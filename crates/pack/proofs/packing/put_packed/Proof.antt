@@ -6,8 +6,8 @@ use native.Mathlib.Omega.{arith}
 use lib.ListN.{take, drop, length-set}
 use borrow.Author.Needs.{needs}
 use Rattle.row.specs.Row.{rowOf}
-use Rattle.pack.proofs.Stores.{set-seven}
-use Rattle.pack.proofs.Sevens.{seven-is}
+use Rattle.pack.proofs.loops.ListWriting.{set-seven}
+use Rattle.pack.proofs.bytes.SevenBytes.{seven-is}
 use Rattle.pack.proofs.packing.put_packed.Statement.{statement}
 use Rattle.pack.proofs.packing.put_packed.Tie as tie
 
@@ -87,8 +87,10 @@ returns : tie.Need-returns
 returns c =
     let a = c .args in
     let f = c .pre .1 in
+    let r = rowOf (a .kind) (a .detail) (a .start) (a .end) in
     set-seven (a .bytes .now) (a .p) _ _ _ _ _ _ _ (c .pre .0)
-    ∙ ap (λ (w : List ℕ). take (a .p) (a .bytes .now) ++ w ++ drop (a .p + 7) (a .bytes .now)) (seven-is (rowOf (a .kind) (a .detail) (a .start) (a .end)) (omega arith) (omega arith) (omega arith) (omega arith) (omega arith) (omega arith) (omega arith))
+    ∙ ap (λ (w : List ℕ). take (a .p) (a .bytes .now) ++ w ++ drop (a .p + 7) (a .bytes .now))
+    (seven-is r (omega arith) (omega arith) (omega arith) (omega arith) (omega arith) (omega arith) (omega arith))
 
 pub put-packed-spec : {M : Type 1} → statement M
 put-packed-spec =

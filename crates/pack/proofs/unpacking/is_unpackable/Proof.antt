@@ -8,8 +8,8 @@ use borrow.Author.Tests.{le-leb, lt-leb}
 use Rattle.row.specs.Limits.{mostBytes}
 use Rattle.pack.specs.Seven.{unpacking, unpackAt, endFits}
 use Rattle.pack.specs.Unpack.{isUnpackable}
-use Rattle.pack.proofs.Sevens.{sevens-next, sevens-end}
-use Rattle.pack.proofs.Checks.{Judging, judge-row, judge-off, judge-end, seven-count, seven-start}
+use Rattle.pack.proofs.bytes.SevenBytes.{sevens-next, sevens-end}
+use Rattle.pack.proofs.loops.Judging.{Judging, judge-row, judge-off, judge-end, seven-count, seven-start}
 use Rattle.pack.proofs.unpacking.is_unpackable.Statement.{statement}
 use Rattle.pack.proofs.unpacking.is_unpackable.Tie as tie
 

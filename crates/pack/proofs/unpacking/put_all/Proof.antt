@@ -5,13 +5,14 @@ use native.Mathlib.Omega.{arith}
 use lib.ListN.{length, getD}
 use borrow.Author.Needs.{needs}
 use Rattle.row.specs.Row.{rowOf}
-use Rattle.pack.proofs.Turns.{Unpacking, unpack-turn, unpack-end}
+use Rattle.pack.proofs.loops.RowWriting.{Unpacking, unpack-turn, unpack-end}
 use Rattle.pack.proofs.unpacking.put_all.Statement.{statement}
 use Rattle.pack.proofs.unpacking.put_all.Tie as tie
 
 abbrev Inv-loop : tie.InvT-loop
 Inv-loop bytes rows₀ end p₀ n₀ rows p n =
-    (end ≡ length bytes / 7 * 7) × (p ≡ n * 7) × (p ≤ end) × (length rows ≡ length rows₀) × (length bytes / 7 * 4 ≤ length rows₀) × Unpacking bytes rows₀ p n rows
+    (end ≡ length bytes / 7 * 7) × (p ≡ n * 7) × (p ≤ end) × (length rows ≡ length rows₀) × (length bytes / 7 * 4 ≤ length rows₀)
+    × Unpacking bytes rows₀ p n rows
 
 abbrev μ-loop : tie.MeasureT-loop
 μ-loop bytes rows₀ end p₀ n₀ rows p n = end - p

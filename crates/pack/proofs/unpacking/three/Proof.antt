@@ -2,7 +2,7 @@
 use Prim.Native.Nat.{_+_}
 use native.Mathlib.Omega.{arith}
 use borrow.Author.Needs.{needs}
-use Rattle.pack.specs.Big.{ofBig}
+use Rattle.pack.specs.Digits.{ofDigits}
 use Rattle.pack.proofs.unpacking.three.Statement.{statement}
 use Rattle.pack.proofs.unpacking.three.Tie as tie
 
@@ -55,7 +55,7 @@ add-result-2 c =
     omega (arith, k p, k (p + 1), k (p + 2))
 
 returns : tie.Need-returns
-unfolding ofBig
+unfolding ofDigits
 returns c =
     let k = c .shared-slice-known3 .given in
     let p = c .before .before .before .args .p in

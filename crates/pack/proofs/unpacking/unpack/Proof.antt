@@ -2,7 +2,7 @@
 use mathlib.Core.Path.{sym, _∙_}
 use native.Mathlib.Omega.{arith}
 use borrow.Author.Needs.{needs}
-use Rattle.pack.proofs.Answers.{unpack-done, unpack-full, unpack-bad}
+use Rattle.pack.proofs.contracts.Answers.{unpack-done, unpack-full, unpack-bad}
 use Rattle.pack.proofs.unpacking.unpack.Statement.{statement}
 use Rattle.pack.proofs.unpacking.unpack.Tie as tie
 

@@ -2,7 +2,7 @@
 use mathlib.Core.Path.{sym, ap, _∙_}
 use borrow.Author.Needs.{needs}
 use Rattle.row.specs.Numbers.{stateOf}
-use Rattle.row.proofs.Numbers.{begun-field, begun-else}
+use Rattle.row.proofs.rules.CheckTurns.{begun-field, begun-else}
 use Rattle.row.proofs.check.begun.Statement.{statement}
 use Rattle.row.proofs.check.begun.Tie as tie
 

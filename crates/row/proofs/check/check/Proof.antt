@@ -5,7 +5,7 @@ use native.Mathlib.Omega.{arith}
 use lib.ListN.{length}
 use borrow.Author.Needs.{needs}
 use Rattle.row.specs.Numbers.{awaitOf}
-use Rattle.row.proofs.Numbers.{Left, turn, named-value, named-other, ended, bad-rows, bad-count}
+use Rattle.row.proofs.rules.CheckTurns.{Left, turn, named-value, named-other, ended, bad-rows, bad-count}
 use Rattle.row.proofs.check.check.Statement.{statement}
 use Rattle.row.proofs.check.check.Tie as tie
 

@@ -5,7 +5,7 @@ use mathlib.Core.Bool.{Bool, true, false, _||_}
 use lib.Dec.{eqb}
 use borrow.Author.Needs.{needs}
 use Rattle.row.specs.Rules.{next, part, key, chunk, chunks}
-use Rattle.row.proofs.Numbers.{or-wrong}
+use Rattle.row.proofs.rules.CheckTurns.{or-wrong}
 use Rattle.row.proofs.check.next.Statement.{statement}
 use Rattle.row.proofs.check.next.Tie as tie
 

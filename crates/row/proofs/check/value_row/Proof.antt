@@ -3,7 +3,7 @@ use mathlib.Core.Path.{sym, ap}
 use native.Mathlib.Omega.{arith}
 use borrow.Author.Needs.{needs}
 use Rattle.row.specs.Numbers.{foundOf}
-use Rattle.row.proofs.Numbers.{rows-end, rows-next}
+use Rattle.row.proofs.numbers.Flat.{rows-end, rows-next}
 use Rattle.row.proofs.check.value_row.Statement.{statement}
 use Rattle.row.proofs.check.value_row.Tie as tie
 

@@ -3,7 +3,7 @@ use native.Mathlib.Omega.{arith}
 use lib.ListN.{length-set}
 use borrow.Author.Needs.{needs}
 use Rattle.row.specs.Row.{rowOf}
-use Rattle.row.proofs.Rows.{put-sets, put-out}
+use Rattle.row.proofs.numbers.Overlay.{put-sets, put-out}
 use Rattle.row.proofs.form.write_numbers.Statement.{statement}
 use Rattle.row.proofs.form.write_numbers.Tie as tie
 

@@ -1,7 +1,7 @@
 -- `row::mask::after` meets its contract. Assumes nothing.
 use native.Mathlib.Omega.{arith}
 use Rattle.row.specs.Masks.{afterOf}
-use Rattle.row.proofs.Masks.{after-chunk, after-else}
+use Rattle.row.proofs.rules.Masks.{after-chunk, after-else}
 use Rattle.row.proofs.mask.after.Statement.{statement}
 use Rattle.row.proofs.mask.after.Tie as tie
 

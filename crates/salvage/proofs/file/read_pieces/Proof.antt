@@ -1,9 +1,10 @@
--- `salvage::file::read_pieces` meets its contract: with the rows of the pieces that are left, those that were read are the whole. Assumes nothing.
+-- `salvage::file::read_pieces` meets its contract: the rows of the pieces read so far, and then those of the pieces that are left, are the
+-- rows of the file. Assumes nothing.
 use Prim.Native.Nat.{_-_}
 use native.Mathlib.Omega.{arith}
 use lib.ListN.{length}
 use borrow.Author.Needs.{needs}
-use Rattle.salvage.proofs.PieceLoop.{Going, going-start, going-asks, going-sound, going-damaged, gone-sound, gone-damaged}
+use Rattle.salvage.proofs.ways.PieceLoop.{Going, going-start, going-asks, going-sound, going-damaged, gone-sound, gone-damaged}
 use Rattle.salvage.proofs.file.read_pieces.Statement.{statement}
 use Rattle.salvage.proofs.file.read_pieces.Tie as tie
 

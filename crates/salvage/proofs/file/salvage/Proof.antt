@@ -1,6 +1,6 @@
 -- `salvage::file::salvage` meets its contract. Assumes nothing.
 use borrow.Author.Needs.{needs}
-use Rattle.salvage.proofs.FileWays.{salvage-long, counted-sound, counted-damaged}
+use Rattle.salvage.proofs.ways.SalvageFile.{salvage-long, counted-sound, counted-damaged}
 use Rattle.salvage.proofs.file.salvage.Statement.{statement}
 use Rattle.salvage.proofs.file.salvage.Tie as tie
 

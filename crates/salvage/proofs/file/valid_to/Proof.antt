@@ -1,6 +1,6 @@
 -- `salvage::file::valid_to` meets its contract. Assumes nothing.
 use borrow.Author.Needs.{needs}
-use Rattle.salvage.proofs.FileWays.{valid-all, valid-part}
+use Rattle.salvage.proofs.ways.SalvageFile.{valid-all, valid-part}
 use Rattle.salvage.proofs.file.valid_to.Statement.{statement}
 use Rattle.salvage.proofs.file.valid_to.Tie as tie
 

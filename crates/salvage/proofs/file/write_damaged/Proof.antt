@@ -3,7 +3,7 @@ use native.Mathlib.Omega.{arith}
 use mathlib.Core.Path.{sym}
 use lib.Seq.{length-take-le}
 use borrow.Author.Needs.{needs}
-use Rattle.salvage.proofs.FileWays.{salvage-full, salvage-fills}
+use Rattle.salvage.proofs.ways.SalvageFile.{salvage-full, salvage-fills}
 use Rattle.salvage.proofs.file.write_damaged.Statement.{statement}
 use Rattle.salvage.proofs.file.write_damaged.Tie as tie
 

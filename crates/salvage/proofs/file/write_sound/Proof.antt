@@ -1,6 +1,6 @@
 -- `salvage::file::write_sound` meets its contract. Assumes nothing.
 use borrow.Author.Needs.{needs}
-use Rattle.salvage.proofs.FileWays.{salvage-full, salvage-strictly}
+use Rattle.salvage.proofs.ways.SalvageFile.{salvage-full, salvage-strictly}
 use Rattle.salvage.proofs.file.write_sound.Statement.{statement}
 use Rattle.salvage.proofs.file.write_sound.Tie as tie
 

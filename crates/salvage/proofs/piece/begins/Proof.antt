@@ -1,6 +1,6 @@
 -- `salvage::piece::begins` meets its contract. Assumes nothing.
 use borrow.Author.Needs.{needs}
-use Rattle.salvage.proofs.PieceEnd.{begins-not, begins-is}
+use Rattle.salvage.proofs.ways.PieceEnd.{begins-not, begins-is}
 use Rattle.salvage.proofs.piece.begins.Statement.{statement}
 use Rattle.salvage.proofs.piece.begins.Tie as tie
 

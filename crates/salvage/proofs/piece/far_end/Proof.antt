@@ -1,10 +1,10 @@
--- `salvage::piece::far_end` meets its contract: where the piece from i on ends, there the piece from at on does. Assumes nothing.
+-- `salvage::piece::far_end` meets its contract: the bytes before `i` belong to the piece from `at` on. Assumes nothing.
 use Prim.Native.Nat.{ℕ, _-_, _≤_, _<_}
 use native.Mathlib.Omega.{arith}
 use lib.ListN.{length}
 use borrow.Author.Needs.{needs}
 use Rattle.salvage.specs.Inner.{Ends}
-use Rattle.salvage.proofs.PieceEnd.{found-last, found-head, found-on}
+use Rattle.salvage.proofs.ways.PieceEnd.{found-last, found-head, found-on}
 use Rattle.salvage.proofs.piece.far_end.Statement.{statement}
 use Rattle.salvage.proofs.piece.far_end.Tie as tie
 

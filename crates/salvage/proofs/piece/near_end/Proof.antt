@@ -1,8 +1,8 @@
--- `salvage::piece::near_end` meets its contract: where the piece from before the next place on ends, there the piece from at on does. Assumes nothing.
+-- `salvage::piece::near_end` meets its contract: the bytes looked at so far belong to the piece from `at` on. Assumes nothing.
 use Prim.Native.Nat.{ℕ, _+_, _-_, _≤_, _<_}
 use native.Mathlib.Omega.{arith}
 use Rattle.salvage.specs.Inner.{Ends}
-use Rattle.salvage.proofs.PieceEnd.{near-found, near-on, ends-place}
+use Rattle.salvage.proofs.ways.PieceEnd.{near-found, near-on, ends-place}
 use Rattle.salvage.proofs.piece.near_end.Statement.{statement}
 use Rattle.salvage.proofs.piece.near_end.Tie as tie
 

@@ -1,6 +1,6 @@
 -- `salvage::piece::read_piece` meets its contract. Assumes nothing.
 use borrow.Author.Needs.{needs}
-use Rattle.salvage.proofs.PieceWays.{piece-sound, off-strict, off-damage, piece-damaged}
+use Rattle.salvage.proofs.ways.ReadPiece.{piece-sound, off-strict, off-damage, piece-damaged}
 use Rattle.salvage.proofs.piece.read_piece.Statement.{statement}
 use Rattle.salvage.proofs.piece.read_piece.Tie as tie
 

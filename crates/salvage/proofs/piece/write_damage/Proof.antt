@@ -1,7 +1,7 @@
 -- `salvage::piece::write_damage` meets its contract. Assumes nothing.
 use native.Mathlib.Omega.{arith}
 use borrow.Author.Needs.{needs}
-use Rattle.salvage.proofs.PieceWays.{damage-put}
+use Rattle.salvage.proofs.ways.ReadPiece.{damage-put}
 use Rattle.salvage.proofs.piece.write_damage.Statement.{statement}
 use Rattle.salvage.proofs.piece.write_damage.Tie as tie
 

@@ -1,0 +1,90 @@
+-- The steps of strict reading: the length of the text, its UTF-8, and then the grammar.
+--     strict-checked, strict-valid, strict-ill, strict-is     a text inside the limit, by its UTF-8
+--     strict-short, strict-ok     what an accepted text is
+--     strict-file                 where strict reading does not refuse, it is the grammar's reading
+--     strict-bad                  a text inside the limit is refused with 2 or more
+--     strict-spans                the spans of an accepted text's rows lie in it
+-- Assumes nothing.
+use Prim.Native.Nat.{ℕ, _≤_}
+use native.Mathlib.Omega.{arith}
+use mathlib.Core.Path.{_≡_, refl, sym, ap, _∙_, subst}
+use mathlib.Core.Bool.{Bool, true, false, cond}
+use mathlib.Core.List.{List, [], _∷_}
+use lib.ListN.{length}
+use lib.Dec.{leb}
+use borrow.Author.Tests.{leb-true, le-leb}
+use Rattle.text.specs.Utf8.{Octets, validityOf}
+use Rattle.text.specs.declared.utf8.Validity.{Validity}
+use Rattle.text.specs.declared.utf8.Validity.the-variants as validity
+use Rattle.text.proofs.Rfc3629.{rfc3629}
+use Rattle.row.specs.declared.fault.Fault.{Fault}
+use Rattle.row.specs.declared.fault.Reason.the-variants.{TooLong, NotUtf8}
+use Rattle.row.specs.Fault.{numberOf, faultAt, nowhere}
+use Rattle.row.specs.Limits.{mostBytes}
+use Rattle.row.specs.Row.{Row}
+use Rattle.row.specs.Spans.{SpansIn}
+use Rattle.raw.specs.declared.answer.Answer.the-variants as answer
+use Rattle.raw.specs.Reader.{Out, ok, bad}
+use Rattle.raw.specs.Grammar.{file}
+use Rattle.raw.specs.Says.{answerOf}
+use Rattle.raw.specs.Read.{checked, strict}
+use Rattle.raw.specs.Strict.{Spans}
+use Rattle.raw.proofs.Trace.{Refused, Traced}
+use Rattle.raw.proofs.Entries.{file-good}
+use Rattle.raw.proofs.Strict.{strict-by, strict-reading}
+
+-- ---- a text inside the limit
+
+module _ (s : List ℕ) (h : length s ≤ mostBytes) where
+  strict-checked : strict s ≡ checked s (validityOf s)
+  unfolding strict
+  strict-checked = rw (le-leb (length s) mostBytes h)
+
+  pub strict-valid : validityOf s ≡ validity.Valid → strict s ≡ file s 0
+  strict-valid e = strict-checked ∙ ap (checked s) e
+
+  pub strict-ill : (n : ℕ) → validityOf s ≡ validity.IllFormed n → strict s ≡ bad (faultAt NotUtf8 n)
+  strict-ill n e = strict-checked ∙ ap (checked s) e
+
+  pub strict-is : Octets s → strict s ≡ file s 0
+  strict-is o = strict-valid (rfc3629 .accepts s .1 o)
+
+  pub strict-bad : (f : Fault) → strict s ≡ bad f → 2 ≤ numberOf (f .reason)
+  strict-bad f e = by (validityOf s) (sym strict-checked ∙ e)
+    where
+      by : (v : Validity) → checked s v ≡ bad f → 2 ≤ numberOf (f .reason)
+      by validity.Valid e = let r : Refused s 0 f = subst (Traced s 0) e (file-good .traced s 0) in omega (arith, r .least)
+      by (validity.IllFormed n) e = let z : faultAt NotUtf8 n ≡ f = cc in rw (← z) (omega arith)
+
+-- ---- an accepted text
+
+module _ (s : List ℕ) (q : ℕ) (rs : List Row) where
+  pub strict-short : strict s ≡ ok q rs → length s ≤ mostBytes
+  unfolding strict
+  strict-short = by (leb (length s) mostBytes) refl
+    where
+      by : (b : Bool) → leb (length s) mostBytes ≡ b → cond b (checked s (validityOf s)) (bad (nowhere TooLong)) ≡ ok q rs → length s ≤ mostBytes
+      by true d e = leb-true (length s) mostBytes d
+      by false d e = let z : _≡_ {A = ℕ} 0 1 = cc in absurd (omega arith)
+
+  pub strict-ok : strict s ≡ ok q rs → (length s ≤ mostBytes) × Octets s × (file s 0 ≡ ok q rs)
+  strict-ok e = let h = strict-short e in let v = read e in (h, v .0, v .1)
+    where
+      read : strict s ≡ ok q rs → Octets s × (file s 0 ≡ ok q rs)
+      read =
+          strict-by s (λ o. o ≡ ok q rs → Octets s × (file s 0 ≡ ok q rs)) (λ e. let z : _≡_ {A = ℕ} 0 1 = cc in absurd (omega arith))
+          (λ n h e. let z : _≡_ {A = ℕ} 0 1 = cc in absurd (omega arith)) (λ o e. (o, e))
+
+-- an answer that is no refusal
+pub strict-file : (s : List ℕ) {p n : ℕ} → answer.Next p n ≡ answerOf (strict s) 0 → file s 0 ≡ strict s
+strict-file s {p} {n} =
+    strict-by s (λ o. answer.Next p n ≡ answerOf o 0 → file s 0 ≡ o) (λ e. let z : _≡_ {A = ℕ} 0 1 = cc in absurd (omega arith))
+    (λ i h e. let z : _≡_ {A = ℕ} 0 1 = cc in absurd (omega arith)) (λ o e. refl)
+
+spans-in : (s : List ℕ) (rs : List Row) → Spans s rs → SpansIn (length s) rs
+unfolding Spans SpansIn
+spans-in s [] x = tt
+spans-in s (r ∷ rs) x = (record { order = x .0 .order; inside = x .0 .inside }, spans-in s rs (x .1))
+
+pub strict-spans : (s : List ℕ) (q : ℕ) (rs : List Row) → strict s ≡ ok q rs → SpansIn (length s) rs
+strict-spans s q rs e = spans-in s rs (strict-reading .accepts s q rs e .spans)

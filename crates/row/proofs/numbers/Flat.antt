@@ -1,0 +1,72 @@
+-- Rows and the list of their numbers.
+--     flat-length, flat-append      the numbers of rows
+--     rows-flat, flat-rows          from rows to numbers and back, and from numbers to rows and back
+--     rows-length                   how many rows numbers are
+--     rowAt, rows-next, rows-end    the row at a number; the rows from a number on
+-- Assumes nothing.
+use Prim.Native.Nat.{ℕ, _+_, _*_, _/_, _%_, _≤_, _<_}
+use native.Mathlib.Omega.{arith}
+use mathlib.Core.Path.{_≡_, refl, ap}
+use mathlib.Core.List.{List, [], _∷_, _++_}
+use lib.ListN.{length, getD, drop, length-drop}
+use Rattle.text.proofs.Places.{drop-next, drop-more}
+use Rattle.row.specs.Row.{Row, rowOf, flat}
+use Rattle.row.specs.Numbers.{rowsOf}
+
+abbrev pub four : ℕ → ℕ → ℕ → ℕ → List ℕ → List ℕ
+four a b c d l = a ∷ b ∷ c ∷ d ∷ l
+
+-- ---- there and back
+
+pub flat-length : (rs : List Row) → length (flat rs) ≡ length rs * 4
+unfolding flat
+flat-length [] = refl
+flat-length (r ∷ rs) = let e = flat-length rs in omega arith
+
+pub flat-append : (rs ss : List Row) → flat (rs ++ ss) ≡ flat rs ++ flat ss
+unfolding flat
+flat-append [] ss = refl
+flat-append (r ∷ rs) ss = ap (four (r .kind) (r .detail) (r .start) (r .end)) (flat-append rs ss)
+
+pub rows-flat : (rs : List Row) → rowsOf (flat rs) ≡ rs
+unfolding rowsOf flat
+rows-flat [] = refl
+rows-flat (r ∷ rs) = ap (λ (k : List Row). r ∷ k) (rows-flat rs)
+
+pub flat-rows : (l : List ℕ) → length l % 4 ≡ 0 → flat (rowsOf l) ≡ l
+unfolding rowsOf flat
+flat-rows [] h = refl
+flat-rows (a ∷ []) h = absurd (omega arith)
+flat-rows (a ∷ b ∷ []) h = absurd (omega arith)
+flat-rows (a ∷ b ∷ c ∷ []) h = absurd (omega arith)
+flat-rows (a ∷ b ∷ c ∷ d ∷ l) h = ap (four a b c d) (flat-rows l (omega arith))
+
+pub rows-length : (l : List ℕ) → length (rowsOf l) ≡ length l / 4
+unfolding rowsOf
+rows-length [] = refl
+rows-length (a ∷ []) = refl
+rows-length (a ∷ b ∷ []) = refl
+rows-length (a ∷ b ∷ c ∷ []) = refl
+rows-length (a ∷ b ∷ c ∷ d ∷ l) = let e = rows-length l in omega arith
+
+-- ---- by index
+
+-- the row from number i on
+abbrev pub rowAt : List ℕ → ℕ → Row
+rowAt l i = rowOf (getD l i 0) (getD l (i + 1) 0) (getD l (i + 2) 0) (getD l (i + 3) 0)
+
+pub rows-next : (l : List ℕ) (i : ℕ) → i + 4 ≤ length l → rowsOf (drop i l) ≡ rowAt l i ∷ rowsOf (drop (i + 4) l)
+unfolding rowsOf
+rows-next l i h =
+    rw (drop-next l i (omega arith), drop-more l i 1 2 (omega arith) refl, drop-more l i 2 3 (omega arith) refl, drop-more l i 3 4 (omega arith) refl)
+
+rows-short : (l : List ℕ) → length l < 4 → rowsOf l ≡ []
+unfolding rowsOf
+rows-short [] h = refl
+rows-short (a ∷ []) h = refl
+rows-short (a ∷ b ∷ []) h = refl
+rows-short (a ∷ b ∷ c ∷ []) h = refl
+rows-short (a ∷ b ∷ c ∷ d ∷ l) h = absurd (omega arith)
+
+pub rows-end : (l : List ℕ) (i : ℕ) → length l < i + 4 → rowsOf (drop i l) ≡ []
+rows-end l i h = rows-short (drop i l) (omega (arith, length-drop i l))

@@ -1,0 +1,10 @@
+-- The rows that salvage gives.
+
+-- what a piece gives, and what two calls give of which one is for both texts together
+pub mod EachPiece
+-- the rows keep the row rules, their starts never fall, and their spans lie in the file
+pub mod Order
+-- the rows are at most one more than the bytes
+pub mod RowCount
+-- no damage shows exactly if strict reading accepts the whole file and every boundary opens one of its entries
+pub mod Undamaged

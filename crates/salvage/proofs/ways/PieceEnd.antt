@@ -1,0 +1,139 @@
+-- Where a piece ends: the ways through `begins`, `near_end` and `far_end`, over what their calls told.
+--     begins-not, begins-is               `begins`, by whether "@" stands there
+--     near-found, near-on                 `near_end`: a piece begins at the place, or none does
+--     found-last, found-head, found-on    `far_end`: no "@" is left, one after a newline, any other
+-- Assumes nothing.
+use Prim.Native.Nat.{ℕ, zero, suc, _+_, _-_, _≤_, _<_}
+use native.Mathlib.Omega.{arith}
+use mathlib.Core.Path.{_≡_, refl, sym, ap, _∙_, subst}
+use mathlib.Core.Bool.{Bool, true, false, cond, _&&_, and-true, and-false}
+use mathlib.Core.List.{List, [], _∷_}
+use lib.ListN.{length, getD, drop, drop-of-length-le}
+use lib.Dec.{eqb}
+use borrow.Author.Tests.{eq-eqb, ne-eqb}
+use Rattle.text.specs.Block.{Found}
+use Rattle.text.proofs.Grammar.{both-true}
+use Rattle.text.proofs.Places.{drop-next}
+use Rattle.salvage.specs.Salvage.{head, newline, cut}
+use Rattle.salvage.specs.Demand3.{fresh}
+use Rattle.salvage.specs.Inner.{Ends}
+use Rattle.salvage.proofs.cutting.Boundaries.{head-opens}
+
+module _ (s : List ℕ) where
+  -- a piece begins at i: after a newline, and with a head
+  abbrev pub Begun : ℕ → Bool
+  Begun i = newline (getD s (i - 1) 0) && head (drop i s)
+
+  -- ---- `begins`
+
+  head-in : (i : ℕ) → i < length s → eqb (getD s i 0) 0x40 ≡ head (drop i s)
+  unfolding head
+  head-in i h = rw (drop-next s i h) refl
+
+  no-head : (i : ℕ) → i < length s → (getD s i 0 ≡ 0x40 → ⊥) → head (drop i s) ≡ false
+  no-head i h z = sym (head-in i h) ∙ ne-eqb (getD s i 0) 0x40 z
+
+  pub begins-not : (i : ℕ) → i < length s → (getD s i 0 ≡ 0x40 → ⊥) → false ≡ Begun i
+  begins-not i h z = sym (ap (λ (x : Bool). newline (getD s (i - 1) 0) && x) (no-head i h z) ∙ and-false (newline (getD s (i - 1) 0)))
+
+  pub begins-is : (i : ℕ) → i < length s → getD s i 0 ≡ 0x40 → newline (getD s (i - 1) 0) ≡ Begun i
+  begins-is i h e =
+      let y = sym (head-in i h) ∙ eq-eqb (getD s i 0) 0x40 e in
+      sym (ap (λ (x : Bool). newline (getD s (i - 1) 0) && x) y ∙ and-true (newline (getD s (i - 1) 0)))
+
+  -- ---- one byte of a piece
+
+  module _ (i : ℕ) (h : i < length s) where
+    -- the piece ends after the byte that stands here
+    ends-here : cut (drop i s) ≡ (getD s i 0 ∷ []) ∷ cut (drop (i + 1) s) → fresh (drop (i + 1) s) ≡ true → Ends s i (i + 1)
+    ends-here e f =
+        let n : i + 1 - i ≡ 1 = omega arith in
+        record { from = omega arith; to = omega arith; cuts = e ∙ rw (n, drop-next s i h) refl; next = f }
+
+    ends-last : length s ≤ i + 1 → Ends s i (i + 1)
+    unfolding cut fresh
+    ends-last l =
+        let d = drop-of-length-le s l in
+        ends-here (rw (drop-next s i h, d) (by (newline (getD s i 0) && head []))) (rw d refl)
+      where
+        by : (x : Bool) → cond {A = List (List ℕ)} x ((getD s i 0 ∷ []) ∷ []) ((getD s i 0 ∷ []) ∷ []) ≡ (getD s i 0 ∷ []) ∷ []
+        by true = refl
+        by false = refl
+
+    ends-head : newline (getD s i 0) ≡ true → head (drop (i + 1) s) ≡ true → Ends s i (i + 1)
+    unfolding cut
+    ends-head x y = ends-here (rw (drop-next s i h, x, y) refl) (head-opens (drop (i + 1) s) y)
+
+    -- any other byte belongs to the piece that goes on
+    ends-on : (e : ℕ) → newline (getD s i 0) && head (drop (i + 1) s) ≡ false → Ends s (i + 1) e → Ends s i e
+    unfolding cut
+    ends-on e x y =
+        let n : e - i ≡ suc (e - (i + 1)) = omega (arith, y .from) in
+        record {
+          from = omega (arith, y .from);
+          to = y .to;
+          cuts = rw (drop-next s i h, x, y .cuts, n) refl;
+          next = y .next;
+        }
+
+  -- ---- the byte before a place
+
+  module _ (i : ℕ) (h : 0 < i) (l : i < length s) where
+    back : i ≡ i - 1 + 1
+    back = omega arith
+
+    begun : newline (getD s (i - 1) 0) ≡ true → head (drop i s) ≡ true → Ends s (i - 1) i
+    begun x y =
+        let z : head (drop (i - 1 + 1) s) ≡ true = ap (λ (n : ℕ). head (drop n s)) (sym back) ∙ y in
+        subst (Ends s (i - 1)) (sym back) (ends-head (i - 1) (omega arith) x z)
+
+    not-begun : Begun i ≡ false → (e : ℕ) → Ends s i e → Ends s (i - 1) e
+    not-begun x e y =
+        let z = ap (λ (n : ℕ). newline (getD s (i - 1) 0) && head (drop n s)) (sym back) ∙ x in
+        ends-on (i - 1) (omega arith) e z (subst (λ (n : ℕ). Ends s n e) back y)
+
+  -- ---- `near_end`
+
+  module _ (i : ℕ) (h : 0 < i) (l : i < length s) {b : Bool} (d : b ≡ Begun i) where
+    pub near-found : b ≡ true → Ends s (i - 1) i
+    near-found e =
+        let t = both-true (newline (getD s (i - 1) 0)) (head (drop i s)) (sym d ∙ e) in
+        begun i h l (t .0) (t .1)
+
+    pub near-on : b ≡ false → (e : ℕ) → Ends s i e → Ends s (i - 1) e
+    near-on e = not-begun i h l (sym d ∙ e)
+
+  -- ---- `far_end`
+
+  pub ends-place : (e i j : ℕ) → i ≡ j → Ends s i e → Ends s j e
+  ends-place e i j q x = subst (λ (m : ℕ). Ends s m e) q x
+
+  -- between two "@" no piece ends
+  ends-skip : (n i : ℕ) → i + n < length s → ((k : ℕ) → i + 1 ≤ k → k < i + 1 + n → getD s k 0 ≡ 0x40 → ⊥) → (e : ℕ) → Ends s (i + n) e → Ends s i e
+  ends-skip zero i h a e x = ends-place e (i + 0) i (omega arith) x
+  ends-skip (suc n) i h a e x =
+      let z = no-head (i + 1) (omega arith) (a (i + 1) (omega arith) (omega arith)) in
+      ends-on i (omega arith) e (ap (λ (x : Bool). newline (getD s i 0) && x) z ∙ and-false (newline (getD s i 0)))
+      (ends-skip n (i + 1) (omega arith) (λ k p q. a k (omega arith) (omega arith)) e (ends-place e (i + suc n) (i + 1 + n) (omega arith) x))
+
+  module _ (i j : ℕ) (h : i < length s) (f : Found 0x40 s (i + 1) j) where
+    some : 0 < j
+    some = omega (arith, f .from)
+
+    skip-to : (e : ℕ) → Ends s (j - 1) e → Ends s i e
+    skip-to e x =
+        let q : j - 1 ≡ i + (j - (i + 1)) = omega (arith, f .from) in
+        ends-skip (j - (i + 1)) i (omega (arith, f .from, f .to)) (λ k p q. f .before k p (omega arith)) e
+        (ends-place e (j - 1) (i + (j - (i + 1))) q x)
+
+    pub found-last : length s ≤ j → Ends s i j
+    found-last l =
+        let q : j - 1 + 1 ≡ j = omega (arith, f .from) in
+        skip-to j (subst (Ends s (j - 1)) q (ends-last (j - 1) (omega (arith, f .from, f .to)) (omega arith)))
+
+    module _ (l : j < length s) where
+      pub found-head : getD s (j - 1) 0 ≡ 0x0A → Ends s i j
+      found-head e = skip-to j (begun j some l (eq-eqb _ _ e) (sym (head-in j l) ∙ eq-eqb (getD s j 0) 0x40 (f .at l)))
+
+      pub found-on : (getD s (j - 1) 0 ≡ 0x0A → ⊥) → (e : ℕ) → Ends s j e → Ends s i e
+      found-on z e x = skip-to e (not-begun j some l (rw (ne-eqb (getD s (j - 1) 0) 0x0A z) refl) e x)
