@@ -11,3 +11,6 @@ pub mod Checks
 pub mod Passes
 pub mod Answers
 pub mod Turns
+pub mod WellFormed
+pub mod Refusals
+pub mod Unique

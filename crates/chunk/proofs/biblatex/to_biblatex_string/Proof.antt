@@ -29,7 +29,7 @@ slice-aggregate-write-all c = search needs
 write-all-requires : tie.Need-write-all-requires
 write-all-requires c κs =
     let a = c .before .before .before .before .before .before .before .args in
-    (laws.are-chunks (a .t .now) (a .rows .now) (sym (c .before .before .before .check .ensures) ∙ c .before .enum-told .given .1), omega (arith, c .before .before .before .before .before .before .before .good .1 .1 .1 .0 .1))
+    (laws.are-chunks (a .t .now) (a .rows .now) (sym (c .before .before .before .check .ensures) ∙ c .before .enum-told .given .1) .1, omega (arith, c .before .before .before .before .before .before .before .good .1 .1 .1 .0 .1))
 
 enum-told-2 : tie.Need-enum-told-2
 enum-told-2 c = search needs
@@ -46,7 +46,7 @@ enum-known-n c = search needs
 write-all-requires-2 : tie.Need-write-all-requires-2
 write-all-requires-2 c κs =
     let a = c .before .before .before .before .before .before .before .before .before .before .before .before .before .args in
-    (laws.are-chunks (a .t .now) (a .rows .now) (sym (c .before .before .before .before .before .before .before .before .before .check .ensures) ∙ c .before .before .before .before .before .before .before .enum-told .given .1), omega (arith, c .before .before .before .before .before .before .before .before .before .before .before .before .before .good .1 .1 .1 .0 .1))
+    (laws.are-chunks (a .t .now) (a .rows .now) (sym (c .before .before .before .before .before .before .before .before .before .check .ensures) ∙ c .before .before .before .before .before .before .before .enum-told .given .1) .1, omega (arith, c .before .before .before .before .before .before .before .before .before .before .before .before .before .good .1 .1 .1 .0 .1))
 
 same-length : tie.Need-same-length
 same-length c = search needs
