@@ -1,18 +1,18 @@
 -- What both writers write is UTF-8: `well-formed`.
 -- Assumes nothing.
-use Prim.Native.Nat.{ℕ, _+_, _-_, _*_, _%_, _≤_, min}
+use Prim.Native.Nat.{ℕ, _+_, _-_, _%_, _≤_, min}
 use native.Mathlib.Omega.{arith}
-use mathlib.Core.Path.{_≡_, refl, sym, ap, subst, _∙_}
+use mathlib.Core.Path.{_≡_, sym, ap, subst, _∙_}
 use mathlib.Core.Bool.{Bool, true, false, cond}
 use mathlib.Core.List.{List, [], _∷_, _++_, map}
 use lib.ListN.{length, take}
 use lib.Seq.{take-add}
 use lib.Dec.{eqb, leb}
-use borrow.Author.Tests.{ne-eqb, leb-true}
+use borrow.Author.Tests.{leb-true}
 use Rattle.text.specs.Utf8.{isChar, Octets, none, next, isBoundary}
 use Rattle.text.specs.Scan.{part}
 use Rattle.text.proofs.Grammar.{both-true}
-use Rattle.text.proofs.Shape.{Shape, one, two, three, four, char-shape, shape-char}
+use Rattle.text.proofs.Shape.{char-shape}
 use Rattle.text.proofs.Octets.{accepts, octets-char, octets-append, octets-after}
 use Rattle.text.proofs.Boundary.{boundary}
 use Rattle.chunk.specs.declared.form.Kind.{Kind}
@@ -21,64 +21,13 @@ use Rattle.chunk.specs.declared.answer.Checked.the-variants as checked
 use Rattle.chunk.specs.declared.answer.Writing.the-variants as writing
 use Rattle.chunk.specs.Chunk.{Chunk, ChunkRow, chunkRows, chunkOf, chunksOf, isChunk, everyChunk, areChunks}
 use Rattle.chunk.specs.Format.{Written, before, isLineEnd, white, lines, formatOne, formatFrom, formatVerbatim, isEscapable, escaped, opening, bodyOf, closing, extraAfter, biblatexFrom, toBiblatexString}
-use Rattle.chunk.specs.Inner.{plain}
 use Rattle.chunk.specs.Write.{checkedOf, Write}
 use Rattle.chunk.specs.WellFormed.{Texts, WellFormed}
 use Rattle.chunk.specs.WellFormed as texts
+use Rattle.chunk.proofs.Kept.{ascii, ascii-text, Kept, low, high, kept, high-plain, high-escaped}
 use Rattle.chunk.proofs.Lines.{run}
 use Rattle.chunk.proofs.Escapes.{escaped-append}
 use Rattle.chunk.proofs.Answers.{are-chunks, written}
-
--- ---- characters of ASCII, and others
-
-ascii : (b : ℕ) → b ≤ 0x7F → isChar (b ∷ []) ≡ true
-ascii b h = shape-char (one h)
-
-pub ascii-text : (b : ℕ) → b ≤ 0x7F → Octets (b ∷ [])
-ascii-text b h = octets-char (b ∷ []) (ascii b h)
-
--- octets above ASCII are no line ends, and nothing to escape
-high-line : (b : ℕ) → 0x80 ≤ b → isLineEnd b ≡ false
-high-line b h = rw (ne-eqb b 0x0A (λ e. omega arith), ne-eqb b 0x0D (λ e. omega arith))
-
-high-escape : (verb : Bool) (b : ℕ) → 0x80 ≤ b → isEscapable b verb false ≡ false
-unfolding isEscapable
-high-escape verb b h =
-    rw (ne-eqb b 0x7B (λ e. omega arith), ne-eqb b 0x7D (λ e. omega arith), ne-eqb b 0x5C (λ e. omega arith), ne-eqb b 0x7E (λ e. omega arith), ne-eqb b 0x5E (λ e. omega arith), ne-eqb b 0x23 (λ e. omega arith), ne-eqb b 0x26 (λ e. omega arith), ne-eqb b 0x25 (λ e. omega arith), ne-eqb b 0x24 (λ e. omega arith), ne-eqb b 0x5F (λ e. omega arith), ne-eqb b 0x3A (λ e. omega arith))
-
--- a sequence is a character of ASCII, or has no octet of ASCII
-data High : List ℕ → Type 0 where
-  end : High []
-  on : {b : ℕ} {w : List ℕ} → 0x80 ≤ b → High w → High (b ∷ w)
-
-data Kept : List ℕ → Type 0 where
-  low : {b : ℕ} → b ≤ 0x7F → Kept (b ∷ [])
-  high : {w : List ℕ} → High w → Kept w
-
-kept : {w : List ℕ} → Shape w → Kept w
-kept (one h) = low h
-kept (two {a} l h t) = high (on (up a l) (on (t .low) end))
-  where
-    up : (a : ℕ) → 0xC2 ≤ a → 0x80 ≤ a
-    up a l = omega arith
-kept (three {a} {b} s) = high (on (up a b (s .low) (s .second .high)) (on (s .second .low) (on (s .third .low) end)))
-  where
-    up : (a b : ℕ) → 0xE0 * 64 + 0xA0 ≤ a * 64 + b → b ≤ 0xBF → 0x80 ≤ a
-    up a b l h = omega arith
-kept (four {a} {b} s) = high (on (up a b (s .low) (s .second .high)) (on (s .second .low) (on (s .third .low) (on (s .fourth .low) end))))
-  where
-    up : (a b : ℕ) → 0xF0 * 64 + 0x90 ≤ a * 64 + b → b ≤ 0xBF → 0x80 ≤ a
-    up a b l h = omega arith
-
-high-plain : {w : List ℕ} → High w → plain w ≡ true
-unfolding plain
-high-plain end = refl
-high-plain (on {b} h k) = rw (high-line b h) (high-plain k)
-
-high-escaped : (verb : Bool) {w : List ℕ} → High w → escaped verb w ≡ w
-unfolding escaped
-high-escaped verb end = refl
-high-escaped verb (on {b} {w} h k) = rw (high-escape verb b h) (ap (λ (x : List ℕ). b ∷ x) (high-escaped verb k))
 
 -- ---- what is written of a text
 

@@ -5,4 +5,5 @@ pub mod Put
 pub mod Inner
 pub mod Write
 pub mod WellFormed
+pub mod Characters
 pub mod Refusals
