@@ -1,0 +1,9 @@
+pub mod Chunk
+pub mod Format
+pub mod Worked
+pub mod Put
+pub mod Inner
+pub mod Write
+pub mod WellFormed
+pub mod Characters
+pub mod Refusals
