@@ -10,9 +10,9 @@ use mathlib.Core.Bool.{Bool, true, false}
 use mathlib.Core.List.{List, [], _∷_}
 use borrow.Author.Tests.{ne-eqb}
 use Rattle.text.specs.Utf8.{isChar, Octets, isScalar, octets, value, gather}
-use Rattle.text.proofs.Shape.{Shape, one, two, three, four, char-shape, shape-char}
-use Rattle.text.proofs.Octets.{octets-char}
-use Rattle.text.proofs.Values.{writes, reads}
+use Rattle.text.proofs.sequences.Lengths.{Shape, one, two, three, four, char-shape, shape-char}
+use Rattle.text.proofs.sequences.Octets.{octets-char}
+use Rattle.text.proofs.sequences.ScalarValues.{writes, reads}
 use Rattle.chunk.specs.Format.{isLineEnd, isEscapable, escaped}
 use Rattle.chunk.specs.Inner.{plain}
 

@@ -7,11 +7,12 @@ use mathlib.Core.Bool.{Bool, true, false, cond, _&&_}
 use mathlib.Core.List.{List, [], _∷_, List·Memᴰ, List·Memᴰ·head, List·Memᴰ·tail, List·Memᴰ·not-nil}
 use lib.Dec.{eqb}
 use borrow.Author.Tests.{eqb-true}
+use Rattle.text.proofs.general.Tests.{both-true}
 use Rattle.compose.specs.declared.Composed.the-variants.{Char}
 use Rattle.compose.specs.Lookup.{Row, _with_is_, lookup, risesFrom, rises}
 use Rattle.compose.specs.Composites.{composites}
 use Rattle.compose.specs.Composition.{marks, isAmong, every, Composition}
-use Rattle.compose.proofs.Rows.{both, found, place}
+use Rattle.compose.proofs.Rows.{found, place}
 use Rattle.compose.proofs.Halving.{halves}
 
 -- ---- the computed tests
@@ -52,8 +53,8 @@ finds rs e l m c h = let p = place rs (l with m is c) h in found rs e (p .at) (p
 every-row : (p : Row → Bool) (rs : List Row) (r : Row) → every p rs ≡ true → List·Memᴰ r rs → p r ≡ true
 unfolding every
 every-row p [] r e h = absurd (List·Memᴰ·not-nil h)
-every-row p (s ∷ rs) r e (List·Memᴰ·head q) = ap p q ∙ both (p s) (every p rs) e .0
-every-row p (s ∷ rs) r e (List·Memᴰ·tail d) = every-row p rs r (both (p s) (every p rs) e .1) d
+every-row p (s ∷ rs) r e (List·Memᴰ·head q) = ap p q ∙ both-true (p s) (every p rs) e .0
+every-row p (s ∷ rs) r e (List·Memᴰ·tail d) = every-row p rs r (both-true (p s) (every p rs) e .1) d
 
 pub composition : Composition
 composition = record {

@@ -12,14 +12,11 @@ use mathlib.Core.Bool.{Bool, true, false, _&&_}
 use mathlib.Core.List.{List, [], _∷_, List·Memᴰ, List·Memᴰ·head, List·Memᴰ·tail, List·Memᴰ·not-nil}
 use lib.ListN.{length, getD}
 use borrow.Author.Tests.{eq-eqb}
+use Rattle.text.proofs.general.Tests.{both-true}
 use Rattle.compose.specs.declared.Composed.the-variants.{Char, Nothing}
 use Rattle.compose.specs.Lookup.{Row, numbers, has, lookup, before, risesFrom, rises}
 use Rattle.compose.specs.Halving.{rowAt}
 use Rattle.compose.proofs.Order.{Less, before-less, less-trans, less-apart, apart}
-
-pub both : (a b : Bool) → (a && b) ≡ true → (a ≡ true) × (b ≡ true)
-both true b e = (refl, e)
-both false b e = let z : _≡_ {A = ℕ} 0 1 = cc in absurd (omega arith)
 
 abbrev pub rowOf : List Row → ℕ → Row
 rowOf rs k = rowAt (numbers rs) k
@@ -48,16 +45,16 @@ row-next r rs k =
 above : (p : Row) (rs : List Row) → risesFrom p rs ≡ true → (k : ℕ) → k < length rs → p ≺ rowOf rs k
 unfolding risesFrom numbers
 above p [] e k h = absurd (omega arith)
-above p (r ∷ rs) e zero h = before-less _ _ _ _ (both _ (risesFrom r rs) e .0)
+above p (r ∷ rs) e zero h = before-less _ _ _ _ (both-true _ (risesFrom r rs) e .0)
 above p (r ∷ rs) e (suc k) h =
-    let x = both (before (p .letter) (p .mark) (r .letter) (r .mark)) (risesFrom r rs) e in
+    let x = both-true (before (p .letter) (p .mark) (r .letter) (r .mark)) (risesFrom r rs) e in
     let y : p ≺ r = before-less _ _ _ _ (x .0) in
     subst⁻¹ (λ (s : Row). p ≺ s) (row-next r rs k) (less-trans _ _ _ _ _ _ y (above r rs (x .1) k (omega arith)))
 
 rises-rest : (r : Row) (rs : List Row) → rises (r ∷ rs) ≡ true → rises rs ≡ true
 unfolding rises risesFrom
 rises-rest r [] e = refl
-rises-rest r (s ∷ rs) e = both (before (r .letter) (r .mark) (s .letter) (s .mark)) (risesFrom s rs) e .1
+rises-rest r (s ∷ rs) e = both-true (before (r .letter) (r .mark) (s .letter) (s .mark)) (risesFrom s rs) e .1
 
 pub order : (rs : List Row) → rises rs ≡ true → (i j : ℕ) → i < j → j < length rs → rowOf rs i ≺ rowOf rs j
 unfolding rises numbers

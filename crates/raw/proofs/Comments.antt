@@ -13,8 +13,8 @@ use Rattle.text.specs.Scan.{see, fails}
 use Rattle.text.specs.declared.class.Test.the-variants as test
 use Rattle.text.specs.declared.scanner.Seen.{Seen}
 use Rattle.text.specs.declared.scanner.Seen.the-variants.{End, Char}
-use Rattle.text.proofs.Moved.{see-ahead}
-use Rattle.text.proofs.Seen.{see-end}
+use Rattle.text.proofs.scanning.LongerText.{see-ahead}
+use Rattle.text.proofs.scanning.Seen.{see-end}
 use Rattle.row.specs.declared.form.Kind.{Kind}
 use Rattle.row.specs.declared.fault.Reason.the-variants.{ExpectedComma, ExpectedIdentifier}
 use Rattle.row.specs.Fault.{faultAt}

@@ -17,7 +17,7 @@ use Rattle.text.specs.Scan.{see, fails}
 use Rattle.text.specs.declared.scanner.Seen.{Seen}
 use Rattle.text.specs.declared.scanner.Seen.the-variants.{End, Char}
 use Rattle.text.specs.declared.class.Test.the-variants as test
-use Rattle.text.proofs.Seen.{see-end}
+use Rattle.text.proofs.scanning.Seen.{see-end}
 use Rattle.row.specs.declared.form.Kind.{Kind}
 use Rattle.row.specs.declared.form.Kind.the-variants as kind
 use Rattle.raw.specs.declared.entry.Form.{Form}

@@ -14,9 +14,9 @@ use borrow.Author.Tests.{ne-eqb, eqb-true, eqb-false, ltb-true, ltb-false}
 use Rattle.text.specs.Scan.{see, code, rest, pastOne, Ahead, Inside}
 use Rattle.text.specs.declared.scanner.Seen.{Seen}
 use Rattle.text.specs.declared.scanner.Seen.the-variants.{End, Char}
-use Rattle.text.proofs.Places.{drop-next}
-use Rattle.text.proofs.Seen.{see-inside, see-end, see-at, see-ascii}
-use Rattle.text.proofs.Skip.{code-wide}
+use Rattle.text.proofs.general.Places.{drop-next}
+use Rattle.text.proofs.scanning.Seen.{see-inside, see-end, see-at, see-ascii}
+use Rattle.text.proofs.scanning.Skip.{code-wide}
 use Rattle.row.specs.declared.fault.Reason.{Reason}
 use Rattle.row.specs.Fault.{faultAt}
 use Rattle.raw.specs.declared.answer.Step.the-variants as step
@@ -59,12 +59,6 @@ module _ (t : ℕ → Bool) (s : List ℕ) (i : ℕ) (f : ℕ → Out) (o : Out)
       go (Char c n) q = by (t c) n q
 
 -- ---- by the byte
-
-pub narrow-is : (k : ℕ) → k < 0x80 → (c : ℕ) → 0x80 ≤ c → eqb c k ≡ false
-narrow-is k h c l = ne-eqb c k (λ e. omega arith)
-
-pub narrow-or : (t u : ℕ → Bool) → ((c : ℕ) → 0x80 ≤ c → t c ≡ false) → ((c : ℕ) → 0x80 ≤ c → u c ≡ false) → (c : ℕ) → 0x80 ≤ c → (t c || u c) ≡ false
-narrow-or t u h k c l = rw (h c l, k c l)
 
 module _ (t : ℕ → Bool) (s : List ℕ) (i : ℕ) (f : ℕ → Out) (o : Out) where
   pub byte-end : length s ≤ i → eaten t (see s i) f o ≡ o

@@ -13,7 +13,7 @@ use lib.ListN.{length, length-append}
 use Rattle.text.specs.Class.{isIdStart, holdsOf}
 use Rattle.text.specs.Scan.{see}
 use Rattle.text.specs.declared.class.Test.the-variants as test
-use Rattle.text.proofs.Moved.{see-ahead}
+use Rattle.text.proofs.scanning.LongerText.{see-ahead}
 use Rattle.row.specs.declared.form.Kind.{Kind}
 use Rattle.row.specs.declared.form.Kind.the-variants as kind
 use Rattle.raw.specs.declared.entry.Form.{Form}

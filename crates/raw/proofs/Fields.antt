@@ -26,7 +26,8 @@ use Rattle.raw.proofs.Good.{Sound}
 use Rattle.raw.proofs.Loop.{many-turn}
 use Rattle.raw.proofs.Readers.{number-turn-good, number-good}
 use Rattle.raw.proofs.Bare.{more-none, then-on, then-off}
-use Rattle.raw.proofs.Eaten.{narrow-is, eaten-off, eaten-on, byte-end, byte-on, byte-off}
+use Rattle.raw.proofs.Eaten.{eaten-off, eaten-on, byte-end, byte-on, byte-off}
+use Rattle.text.proofs.general.Tests.{narrow-is}
 use Rattle.raw.proofs.Steps.{white-on}
 use Rattle.raw.proofs.Saying.{turn-of, turn-done, turn-again, turn-then, said-off}
 

@@ -13,7 +13,7 @@ use lib.ListN.{length}
 use Rattle.text.specs.Scan.{see}
 use Rattle.text.specs.declared.scanner.Seen.{Seen}
 use Rattle.text.specs.declared.scanner.Seen.the-variants.{End, Char}
-use Rattle.text.proofs.Moved.{see-ahead, seenUp, see-up}
+use Rattle.text.proofs.scanning.LongerText.{see-ahead, seenUp, see-up}
 use Rattle.row.specs.declared.form.Kind.{Kind}
 use Rattle.row.specs.Row.{moved}
 use Rattle.row.specs.declared.fault.Reason.{Reason}

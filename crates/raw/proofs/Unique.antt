@@ -8,7 +8,7 @@
 use Prim.Native.Nat.{ℕ}
 use mathlib.Core.Path.{_≡_, sym, _∙_}
 use denote.Ref.{now}
-use Rattle.text.proofs.Unique.{Both, One}
+use Rattle.text.proofs.general.Outcomes.{Both, One}
 use Rattle.raw.specs.declared.answer.Step.the-variants as step
 use Rattle.raw.proofs.file.read.Kinds as read-kinds
 use Rattle.raw.proofs.file.read.Reads as read

@@ -8,6 +8,7 @@ use mathlib.Core.Bool.{Bool, true, false, cond, _&&_, _||_}
 use mathlib.Core.List.{List, [], _∷_, _++_, append-assoc}
 use lib.Dec.{eqb, leb}
 use borrow.Author.Tests.{eqb-true, leb-true, le-leb}
+use Rattle.text.proofs.general.Tests.{both-true}
 use Rattle.row.specs.declared.form.Kind.{Kind}
 use Rattle.row.specs.declared.form.Kind.the-variants as kind
 use Rattle.row.specs.Row.{Row, kindOf}
@@ -183,15 +184,11 @@ plain k r e x d =
     let h : eqb (r .detail) 0 ≡ true = rw (is, e) at d in
     record { is = is; zero = eqb-true (r .detail) 0 h }
 
-both : (a b : Bool) → (a && b) ≡ true → (a ≡ true) × (b ≡ true)
-both true b e = (refl, e)
-both false b e = no e
-
 cause-of : (r : Row) → isKind kind.Cause (r .kind) ≡ true → isDetail (r .kind) (r .detail) ≡ true → Cause r
 cause-of r x d =
     let is = eqb-true (r .kind) 10 x in
     let h : (leb 2 (r .detail) && leb (r .detail) 10) ≡ true = rw is at d in
-    let y = both (leb 2 (r .detail)) (leb (r .detail) 10) h in
+    let y = both-true (leb 2 (r .detail)) (leb (r .detail) 10) h in
     record { is = is; least = leb-true 2 (r .detail) (y .0); most = leb-true (r .detail) 10 (y .1) }
 
 module _ (r : Row) (rs : List Row) (d : isDetail (r .kind) (r .detail) ≡ true) (go : (a : Await) → whole (run a rs) ≡ true → Rest a rs) where
@@ -205,7 +202,7 @@ module _ (r : Row) (rs : List Row) (d : isDetail (r .kind) (r .detail) ≡ true)
           After f (r ∷ rs)
       by true n m p x y z w h = later f (entry-first (plain kind.Entry r refl x d) (go type h))
       by false true m p x y z w h =
-          let t = both (isKind kind.FieldName (r .kind)) f y in
+          let t = both-true (isKind kind.FieldName (r .kind)) f y in
           subst (λ (b : Bool). After b (r ∷ rs)) (sym (t .1)) (field-first (plain kind.FieldName r refl (t .0) d) (go (value true) h))
       by false false true p x y z w h = later f (definition-first (plain kind.DefinitionName r refl z d) (go (value false) h))
       by false false false true x y z w h = later f (grammar.Sequence.part (preamble (plain kind.Preamble r refl w d)) (go (part false) h))

@@ -1,20 +1,14 @@
-pub mod Walk
-pub mod Bytes
-pub mod Grammar
-pub mod Shape
-pub mod Values
-pub mod Octets
-pub mod Boundary
+-- The laws and proofs of `text`, lowest first. The proof of a function is MODULE/FUNCTION/Proof.antt.
+
+-- laws that every crate may cite
+pub mod general
+-- UTF-8
+pub mod sequences
+-- classes, blocks and the scanner
+pub mod scanning
+-- the proof of specs/Rfc3629.antt
 pub mod Rfc3629
+-- the proof of specs/Boundaries.antt
 pub mod Boundaries
-pub mod Places
-pub mod Lead
-pub mod Encoding
-pub mod Masks
-pub mod Seen
-pub mod Skip
-pub mod Clear
-pub mod Valid
-pub mod AsciiTurns
-pub mod Moved
+-- any two outcomes that a public contract allows are the same
 pub mod Unique

@@ -2,13 +2,9 @@
 -- source, so that a contract which said less would fail here.
 -- Assumes nothing.
 use mathlib.Core.Path.{_≡_, sym, _∙_}
-use mathlib.Core.List.{List}
-use Prim.Native.Nat.{ℕ}
-use contract.Lifetimes.{Lfts}
-use borrow.Fn.Kinds.{PK, RK, Out, Dens, resT, endedOf}
-use denote.Triple.Clauses.{AtExit}
 use denote.Ref.{now}
-use Rattle.text.proofs.Clear.{found-once}
+use Rattle.text.proofs.general.Outcomes.{Both, One}
+use Rattle.text.proofs.scanning.Blocks.{found-once}
 use Rattle.text.proofs.utf8.sequence_length.Kinds as sequence-length-kinds
 use Rattle.text.proofs.utf8.sequence_length.Reads as sequence-length
 use Rattle.text.proofs.utf8.validate.Kinds as validate-kinds
@@ -57,17 +53,6 @@ use Rattle.text.proofs.block.find.Kinds as find-kinds
 use Rattle.text.proofs.block.find.Reads as find
 use Rattle.text.proofs.scanner.from.Kinds as from-kinds
 use Rattle.text.proofs.scanner.from.Reads as from
-
--- what holds of any two outcomes, with what is left behind the lent references
-abbrev pub Both : (n : ℕ) (ps : List (PK n)) (r : RK n) → Out n ps r →
-    ((κs : Lfts n) → resT r κs .Denot → AtExit (endedOf n ps r) κs → resT r κs .Denot → AtExit (endedOf n ps r) κs → Type 0) → Type 0
-Both n ps r allowed same =
-    (κs : Lfts n) (a : Dens κs ps) (x y : resT r κs .Denot) (s t : AtExit (endedOf n ps r) κs) →
-    allowed κs a x s → allowed κs a y t → same κs x s y t
-
--- the same result
-abbrev pub One : (n : ℕ) (ps : List (PK n)) (r : RK n) → Out n ps r → Type 0
-One n ps r allowed = Both n ps r allowed (λ κs x s y t. x ≡ y)
 
 pub one-sequence-length : One 0 sequence-length-kinds.ps sequence-length-kinds.r sequence-length.Post
 one-sequence-length κs a x y s t p q = p ∙ sym q

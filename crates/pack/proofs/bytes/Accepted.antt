@@ -15,7 +15,7 @@ use mathlib.Core.List.{List, [], _∷_}
 use lib.ListN.{length, drop}
 use lib.Dec.{eqb, leb}
 use borrow.Author.Tests.{leb-true, le-leb, eqb-true}
-use Rattle.text.proofs.Grammar.{both-true}
+use Rattle.text.proofs.general.Tests.{both-true}
 use Rattle.row.specs.Row.{Row, flat}
 use Rattle.row.specs.Spans.{SpansIn}
 use Rattle.row.specs.Limits.{mostBytes}

@@ -8,7 +8,7 @@ use native.Mathlib.Omega.{arith}
 use mathlib.Core.Path.{_≡_, refl}
 use mathlib.Core.List.{List, [], _∷_}
 use lib.ListN.{length, getD, drop, length-drop}
-use Rattle.text.proofs.Places.{drop-next, drop-more}
+use Rattle.text.proofs.general.Places.{drop-next, drop-more}
 use Rattle.row.specs.Row.{Row}
 use Rattle.pack.specs.Digits.{digits}
 use Rattle.pack.specs.Seven.{packRow, unpacking, unpackAt}

@@ -9,7 +9,7 @@ use native.Mathlib.Omega.{arith}
 use mathlib.Core.Path.{_≡_, refl, ap}
 use mathlib.Core.List.{List, [], _∷_, _++_}
 use lib.ListN.{length, getD, drop, length-drop}
-use Rattle.text.proofs.Places.{drop-next, drop-more}
+use Rattle.text.proofs.general.Places.{drop-next, drop-more}
 use Rattle.row.specs.Row.{Row, rowOf, flat}
 use Rattle.row.specs.Numbers.{rowsOf}
 

@@ -12,8 +12,8 @@ use lib.ListN.{length, length-append}
 use Rattle.text.specs.Walk.{walkFrom}
 use Rattle.text.specs.Utf8.{Octets, validityOf}
 use Rattle.text.specs.Scan.{seeFrom}
-use Rattle.text.proofs.Grammar.{both-true}
-use Rattle.text.proofs.Octets.{octets-append}
+use Rattle.text.proofs.general.Tests.{both-true}
+use Rattle.text.proofs.sequences.Octets.{octets-append}
 use Rattle.row.specs.Row.{Row, moved}
 use Rattle.raw.specs.Reader.{ok, more, loop, many}
 use Rattle.raw.specs.Grammar.{white, fileTurn, file}

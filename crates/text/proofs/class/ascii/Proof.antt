@@ -6,7 +6,8 @@ use Rattle.text.specs.Class.{whiteSpace, control, isWhitespace, isContro
 use Rattle.text.specs.Inner.{hasBit}
 use Rattle.text.specs.declared.class.Test.the-variants.{Whitespace, Key, IdStart, IdContinue, Digit, Comma, QuotationMark, Equals}
 use Rattle.text.specs.declared.class.Test.the-variants.{Hash, Percent, OpeningBrace, ClosingBrace, Brace, Newline, Dollar}
-use Rattle.text.proofs.Masks.{masks, wide, single, digit, braces}
+use Rattle.text.proofs.scanning.Masks.{masks, wide, digit, braces}
+use Rattle.text.proofs.general.Tests.{narrow-is}
 use Rattle.text.proofs.class.ascii.Statement.{statement}
 use Rattle.text.proofs.class.ascii.Tie as tie
 
@@ -122,31 +123,31 @@ returns-5 c = masks Digit _ _ true tt (λ e. digit) (c .before .enum-told5 .give
 
 returns-6 : tie.Need-returns-6
 unfolding hasBit holdsOf
-returns-6 c = masks Comma _ _ true tt (λ e. single 0x2C (omega arith)) (c .before .enum-told6 .given .1) (c .row6 .ensures)
+returns-6 c = masks Comma _ _ true tt (λ e. narrow-is 0x2C (omega arith)) (c .before .enum-told6 .given .1) (c .row6 .ensures)
 
 returns-7 : tie.Need-returns-7
 unfolding hasBit holdsOf
-returns-7 c = masks QuotationMark _ _ true tt (λ e. single 0x22 (omega arith)) (c .before .enum-told7 .given .1) (c .row7 .ensures)
+returns-7 c = masks QuotationMark _ _ true tt (λ e. narrow-is 0x22 (omega arith)) (c .before .enum-told7 .given .1) (c .row7 .ensures)
 
 returns-8 : tie.Need-returns-8
 unfolding hasBit holdsOf
-returns-8 c = masks Equals _ _ true tt (λ e. single 0x3D (omega arith)) (c .before .enum-told8 .given .1) (c .row8 .ensures)
+returns-8 c = masks Equals _ _ true tt (λ e. narrow-is 0x3D (omega arith)) (c .before .enum-told8 .given .1) (c .row8 .ensures)
 
 returns-9 : tie.Need-returns-9
 unfolding hasBit holdsOf
-returns-9 c = masks Hash _ _ true tt (λ e. single 0x23 (omega arith)) (c .before .enum-told9 .given .1) (c .row9 .ensures)
+returns-9 c = masks Hash _ _ true tt (λ e. narrow-is 0x23 (omega arith)) (c .before .enum-told9 .given .1) (c .row9 .ensures)
 
 returns-10 : tie.Need-returns-10
 unfolding hasBit holdsOf
-returns-10 c = masks Percent _ _ true tt (λ e. single 0x25 (omega arith)) (c .before .enum-told10 .given .1) (c .row10 .ensures)
+returns-10 c = masks Percent _ _ true tt (λ e. narrow-is 0x25 (omega arith)) (c .before .enum-told10 .given .1) (c .row10 .ensures)
 
 returns-11 : tie.Need-returns-11
 unfolding hasBit holdsOf
-returns-11 c = masks OpeningBrace _ _ true tt (λ e. single 0x7B (omega arith)) (c .before .enum-told11 .given .1) (c .row11 .ensures)
+returns-11 c = masks OpeningBrace _ _ true tt (λ e. narrow-is 0x7B (omega arith)) (c .before .enum-told11 .given .1) (c .row11 .ensures)
 
 returns-12 : tie.Need-returns-12
 unfolding hasBit holdsOf
-returns-12 c = masks ClosingBrace _ _ true tt (λ e. single 0x7D (omega arith)) (c .before .enum-told12 .given .1) (c .row12 .ensures)
+returns-12 c = masks ClosingBrace _ _ true tt (λ e. narrow-is 0x7D (omega arith)) (c .before .enum-told12 .given .1) (c .row12 .ensures)
 
 returns-13 : tie.Need-returns-13
 unfolding hasBit holdsOf
@@ -154,11 +155,11 @@ returns-13 c = masks Brace _ _ true tt (λ e. braces) (c .before .enum-told13 .g
 
 returns-14 : tie.Need-returns-14
 unfolding hasBit holdsOf
-returns-14 c = masks Newline _ _ true tt (λ e. single 0x0A (omega arith)) (c .before .enum-told14 .given .1) (c .row14 .ensures)
+returns-14 c = masks Newline _ _ true tt (λ e. narrow-is 0x0A (omega arith)) (c .before .enum-told14 .given .1) (c .row14 .ensures)
 
 returns-15 : tie.Need-returns-15
 unfolding hasBit holdsOf
-returns-15 c = masks Dollar _ _ true tt (λ e. single 0x24 (omega arith)) (c .before .enum-told15 .given .1) (c .row15 .ensures)
+returns-15 c = masks Dollar _ _ true tt (λ e. narrow-is 0x24 (omega arith)) (c .before .enum-told15 .given .1) (c .row15 .ensures)
 
 pub ascii-spec : {M : Type 1} → statement M
 ascii-spec =

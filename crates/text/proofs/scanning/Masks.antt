@@ -1,6 +1,6 @@
 -- The masks of the named tests, each by one test that the checker computes over ASCII.
 --     masks           what makes two words the masks of a test
---     wide, single, digit, braces     what is not ASCII: for a test that is not narrow, and for those that are
+--     wide, digit, braces     what is not ASCII: for a test that is not narrow, and for those that are
 -- Assumes nothing.
 use mathlib.Core.Path.{_≡_, refl, sym, ap, _∙_, subst}
 use mathlib.Core.Bool.{Bool, true, false, cond, _&&_, _||_, Bool·beq, and-false, or-false, or-assoc}
@@ -9,12 +9,13 @@ use Prim.Native.Nat.{ℕ, _<_, _≤_}
 use native.Mathlib.Omega.{arith}
 use lib.Dec.{T, eqb, leb}
 use borrow.Author.Tests.{ne-eqb, lt-leb}
+use Rattle.text.proofs.general.Tests.{narrow-is}
 use Rattle.text.specs.Range.{_–_, within}
 use Rattle.text.specs.Class.{mark, holdsOf}
 use Rattle.text.specs.Inner.{masksOf, hasBit, AsciiOf}
 use Rattle.text.specs.declared.class.Masks.{Masks}
 use Rattle.text.specs.declared.class.Test.{Test}
-use Rattle.text.proofs.Bytes.{below, each}
+use Rattle.text.proofs.general.Below.{below, each}
 
 pub beq-eq : (a b : Bool) → T (Bool·beq a b) → a ≡ b
 beq-eq true true t = refl
@@ -35,14 +36,11 @@ masks t low high narrow computed others {u} {m} p q =
 pub wide : {A : Type 0} → _≡_ {A = Bool} false true → A
 wide e = let z : _≡_ {A = ℕ} 0 1 = cc in absurd (omega arith)
 
-pub single : (k : ℕ) → k < 128 → (c : ℕ) → 128 ≤ c → eqb c k ≡ false
-single k h c l = ne-eqb c k (λ e. omega arith)
-
 pub digit : (c : ℕ) → 128 ≤ c → within (0x30 – 0x39) c ≡ false
 digit c l = rw (lt-leb c 0x39 (omega arith)) (and-false (leb 0x30 c))
 
 pub braces : (c : ℕ) → 128 ≤ c → mark (0x7B ∷ 0x7D ∷ []) c ≡ false
-braces c l = rw (single 0x7B (omega arith) c l, single 0x7D (omega arith) c l)
+braces c l = rw (narrow-is 0x7B (omega arith) c l, narrow-is 0x7D (omega arith) c l)
 
 -- a test by what it was told to be
 pub told : {u t : Test} (c : ℕ) → u ≡ t → holdsOf t c ≡ holdsOf u c

@@ -13,12 +13,9 @@ use native.Mathlib.Omega.{arith}
 use lib.ListN.{length, getD, take}
 use lib.Dec.{leb, eqb}
 use borrow.Author.Tests.{leb-true, le-leb, lt-leb, eqb-true, eq-eqb}
+use Rattle.text.proofs.general.Tests.{both-true}
 use Rattle.text.specs.Range.{Range, within}
 use Rattle.text.specs.Utf8.{alternatives, begins, oneOf, isChar, widthBy, width}
-
-pub both-true : (a b : Bool) → (a && b) ≡ true → (a ≡ true) × (b ≡ true)
-both-true true b e = (refl, e)
-both-true false b e = let z : _≡_ {A = ℕ} 0 1 = cc in absurd (omega arith)
 
 pub within-true : (r : Range) (b : ℕ) → within r b ≡ true → (r .first ≤ b) × (b ≤ r .last)
 within-true r b e = let h = both-true (leb (r .first) b) (leb b (r .last)) e in (leb-true _ _ (h .0), leb-true _ _ (h .1))
