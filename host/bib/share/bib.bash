@@ -11,7 +11,7 @@ _bib() {
     --color) mapfile -t COMPREPLY < <(compgen -W 'auto always never' -- "$word") ;;
     *)
         if [ "${COMP_WORDS[1]}" = check ] && [[ $word == -* ]]; then
-            mapfile -t COMPREPLY < <(compgen -W '--allow --deny --strict --list --json --quiet --color --help' -- "$word")
+            mapfile -t COMPREPLY < <(compgen -W '--allow --deny --strict --all --list --json --quiet --color --help' -- "$word")
         else
             mapfile -t COMPREPLY < <(compgen -f -- "$word")
         fi

@@ -27,6 +27,7 @@ _bib() {
             '*--allow[silences these warnings]:warning:_bib_lints' \
             '*--deny[makes errors of these warnings]:warning:_bib_lints' \
             '--strict[exit status 1 for warnings too]' \
+            '--all[shows every warning]' \
             '--list[explains every warning]' \
             '--json[a JSON object for each finding]' \
             '(-q --quiet)'{-q,--quiet}'[no output, only the exit status]' \

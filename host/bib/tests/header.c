@@ -76,14 +76,64 @@ static void reads(void)
     hold(says(call(bib_read, "a\xff", rows, ROOM), BIB_NOT_UTF8, 0, 1, 1), "not UTF-8");
 }
 
-static void takes_nothing(void)
+/* bib.h: what has length 0 is not looked at, and its pointer may be null. For each call: nothing is given, nothing is lent, and
+ * neither; where something is given, the answer is the one for no room, and the refusals that come before it stay. */
+static void takes_nothing_to_read(reading *read, uint32_t damaged, uint64_t place)
 {
+    uint32_t rows[ROOM];
+    struct answer a = call(read, "", rows, ROOM);
+    hold(says(a, BIB_OK, 0, 0, 0) && untouched(rows, 0), "an empty file");
+    a = unset();
+    a.status = read(NULL, 0, rows, ROOM, &a.count, &a.start, &a.end);
+    hold(says(a, BIB_OK, 0, 0, 0) && untouched(rows, 0), "a null file of length 0");
+    a = unset();
+    a.status = read(NULL, 0, NULL, 0, &a.count, &a.start, &a.end);
+    hold(says(a, BIB_OK, 0, 0, 0), "a null file, and null rows");
+    a = unset();
+    a.status = read((const uint8_t *)"words", 5, NULL, 0, &a.count, &a.start, &a.end);
+    hold(says(a, BIB_OK, 0, 0, 0), "a file without rows, and null rows");
+    a = unset();
+    a.status = read((const uint8_t *)"@a{k,}", 6, NULL, 0, &a.count, &a.start, &a.end);
+    hold(says(a, BIB_NO_ROOM, 0, 0, 0), "rows, and null rows for them");
+    a = unset();
+    a.status = read((const uint8_t *)"@a{k}", 5, NULL, 0, &a.count, &a.start, &a.end);
+    hold(says(a, damaged, 0, place, place), "a comma that is missing, and null rows");
+}
+
+static void takes_nothing_to_pack(void)
+{
+    static const uint32_t rows[] = {BIB_DAMAGE, 0, 0, 4, BIB_CAUSE, 7, 4, 4};
+    uint8_t bytes[] = {0xA5, 0xA5, 0xA5, 0xA5, 0xA5, 0xA5, 0xA5};
     struct answer a = unset();
-    a.status = bib_read(NULL, 0, NULL, 0, &a.count, &a.start, &a.end);
-    hold(says(a, BIB_OK, 0, 0, 0), "an empty file, and no room");
+    a.status = bib_pack(NULL, 0, bytes, sizeof bytes, &a.count, &a.start, &a.end);
+    hold(says(a, BIB_OK, 0, 0, 0) && bytes[0] == 0xA5, "null rows to pack");
+    a = unset();
+    a.status = bib_pack(NULL, 0, NULL, 0, &a.count, &a.start, &a.end);
+    hold(says(a, BIB_OK, 0, 0, 0), "null rows to pack into null bytes");
+    a = unset();
+    a.status = bib_pack(rows, 8, NULL, 0, &a.count, &a.start, &a.end);
+    hold(says(a, BIB_NO_ROOM, 0, 0, 0), "rows to pack into null bytes");
+    a = unset();
+    a.status = bib_pack(rows, 4, NULL, 0, &a.count, &a.start, &a.end);
+    hold(says(a, BIB_BAD_ROWS, 0, 0, 0), "bad rows to pack into null bytes");
+}
+
+static void takes_nothing_to_unpack(void)
+{
+    static const uint8_t bytes[] = {0x90, 0, 0, 0, 0, 0, 4, 0xA7, 0, 0, 4, 0, 0, 0};
+    uint32_t rows[] = {UNTOUCHED, UNTOUCHED, UNTOUCHED, UNTOUCHED};
+    struct answer a = unset();
+    a.status = bib_unpack(NULL, 0, rows, 4, &a.count, &a.start, &a.end);
+    hold(says(a, BIB_OK, 0, 0, 0) && rows[0] == UNTOUCHED, "null bytes to unpack");
     a = unset();
     a.status = bib_unpack(NULL, 0, NULL, 0, &a.count, &a.start, &a.end);
-    hold(says(a, BIB_OK, 0, 0, 0), "no bytes to unpack");
+    hold(says(a, BIB_OK, 0, 0, 0), "null bytes to unpack into null rows");
+    a = unset();
+    a.status = bib_unpack(bytes, 14, NULL, 0, &a.count, &a.start, &a.end);
+    hold(says(a, BIB_NO_ROOM, 0, 0, 0), "bytes to unpack into null rows");
+    a = unset();
+    a.status = bib_unpack(bytes, 13, NULL, 0, &a.count, &a.start, &a.end);
+    hold(says(a, BIB_BAD_ROWS, 0, 0, 0), "bad bytes to unpack into null rows");
 }
 
 static void salvages(void)
@@ -157,7 +207,10 @@ static void packs(void)
 int main(void)
 {
     reads();
-    takes_nothing();
+    takes_nothing_to_read(bib_read, BIB_EXPECTED_COMMA, 4);
+    takes_nothing_to_read(bib_salvage, BIB_NO_ROOM, 0);
+    takes_nothing_to_pack();
+    takes_nothing_to_unpack();
     salvages();
     enough();
     refuses_a_long_file();

@@ -5,6 +5,7 @@ use std::io::{self, BufWriter, Stdout, Write};
 
 use bib::check::{self, Code, Finding, Level, Lines, Lint, Reading, Stop};
 
+use crate::cut::Cut;
 use crate::folder;
 use crate::levels::Levels;
 use crate::progress::{room, Progress};
@@ -66,6 +67,7 @@ struct Outcome {
     entries: usize,
     errors: usize,
     warnings: usize,
+    cut: Cut,
     keys: Vec<Key>,
     /// What kept it from being checked to its end.
     trouble: Option<String>,
@@ -113,8 +115,7 @@ impl Checking<'_> {
             let Some(level) = self.asked.levels.of(finding) else {
                 return Ok(());
             };
-            outcome.count(level);
-            if self.asked.quiet {
+            if !outcome.shows(finding, level, self.asked) {
                 return Ok(());
             }
             page.write(&self.report.finding(source, finding, level, lines))
@@ -153,11 +154,13 @@ impl Checking<'_> {
 }
 
 impl Outcome {
-    fn count(&mut self, level: Level) {
+    /// Counts a finding, and says whether it is shown. Scripts get every one.
+    fn shows(&mut self, finding: &Finding, level: Level, asked: &Asked) -> bool {
         match level {
             Level::Error => self.errors += 1,
             Level::Warning => self.warnings += 1,
         }
+        !asked.quiet && (asked.all || asked.json || self.cut.shows(finding.code, level))
     }
 
     fn not_read(what: String) -> Self {
@@ -200,6 +203,13 @@ impl Sink for Results<'_> {
         for key in keys {
             self.key(index, key, &mut outcome)?;
         }
+        let Checking {
+            report, sources, ..
+        } = self.checking;
+        for (name, count) in outcome.cut.left_out() {
+            let text = report.left_out(&sources[index], name, count);
+            self.out.write_all(text.as_bytes())?;
+        }
         self.tally.add(&outcome);
         if let Some(what) = outcome.trouble {
             // Findings come before what the next file makes appear on standard error.
@@ -230,17 +240,17 @@ impl Results<'_> {
         let Some(level) = level.filter(|_| first.0 != index) else {
             return Ok(());
         };
-        outcome.count(level);
-        if asked.quiet {
+        let other = format!("{}:{}:{}", sources[first.0], first.1, first.2);
+        let finding = key.finding(&other);
+        if !outcome.shows(&finding, level, asked) {
             return Ok(());
         }
-        let other = format!("{}:{}:{}", sources[first.0], first.1, first.2);
         let spot = Spot {
             source: &sources[index],
             line: key.line,
             column: key.column,
         };
-        let text = report.bare(&spot, &key.finding(&other), level);
+        let text = report.bare(&spot, &finding, level);
         self.out.write_all(text.as_bytes())
     }
 }

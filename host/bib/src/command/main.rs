@@ -1,6 +1,7 @@
 //! The command `bib`: reads files, has the library read them, and prints what it says.
 
 mod check;
+mod cut;
 mod excerpt;
 mod folder;
 mod json;

@@ -28,6 +28,7 @@ what is read but surely not meant, with a name:
   --allow NAME,..       silences these warnings
   --deny NAME,..        makes errors of them
   --strict              exit status 1 for warnings too
+  --all                 shows every warning, not only the first 100 of a name in a file
   --list                explains every warning, with an example
   --json                a JSON object in a line for each finding, and nothing else
   --quiet, -q           no output, only the exit status

@@ -61,6 +61,15 @@ impl Report {
         }
     }
 
+    /// How many warnings of a name are not shown.
+    pub fn left_out(&self, source: &Source, name: &str, count: usize) -> String {
+        let Style { bold, plain, .. } = self.style;
+        let (colour, level) = (self.style.level(Level::Warning), Level::Warning.name());
+        format!(
+            "{bold}{source}:{plain} {colour}{level}:{plain} and {count} more; --all shows every one ({name})\n"
+        )
+    }
+
     fn headline(&self, spot: &Spot, finding: &Finding, level: Level) -> String {
         let Style { bold, plain, .. } = self.style;
         let colour = self.style.level(level);

@@ -24,6 +24,8 @@ pub enum Work {
 #[derive(Debug, Clone, Default, PartialEq, Eq)]
 pub struct Asked {
     pub levels: Levels,
+    /// Every warning is shown, however many have one name.
+    pub all: bool,
     pub json: bool,
     pub quiet: bool,
     pub color: Color,
@@ -41,8 +43,8 @@ pub enum Words {
 
 const WORKS: [&str; 5] = ["check", "rows", "salvage", "pack", "unpack"];
 
-const OPTIONS: [&str; 8] = [
-    "--allow", "--deny", "--strict", "--list", "--json", "--quiet", "--color", "--help",
+const OPTIONS: [&str; 9] = [
+    "--allow", "--deny", "--strict", "--all", "--list", "--json", "--quiet", "--color", "--help",
 ];
 
 pub fn parse(mut words: impl Iterator<Item = OsString>) -> Result<Words, Trouble> {
@@ -87,6 +89,7 @@ fn check(words: impl Iterator<Item = OsString>) -> Result<Words, Trouble> {
             ("--deny", _) => asked.levels.denied.extend(rest.lints(name, value)?),
             ("--color", _) => asked.color = rest.color(value)?,
             ("--strict", None) => asked.levels.strict = true,
+            ("--all", None) => asked.all = true,
             ("--json", None) => asked.json = true,
             ("--quiet" | "-q", None) => asked.quiet = true,
             ("--list", None) => return Ok(Words::List),

@@ -1,6 +1,7 @@
 //! The command, run as people and scripts run it.
 
 mod check;
+mod cut;
 mod examples;
 mod limits;
 mod run;

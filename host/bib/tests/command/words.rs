@@ -66,7 +66,9 @@ fn help() {
     for word in ["check", "rows", "salvage", "pack", "unpack", "--version"] {
         assert!(run.text().contains(&format!("bib {word}")), "{word}");
     }
-    for word in ["allow", "deny", "strict", "list", "json", "quiet", "color"] {
+    for word in [
+        "allow", "deny", "strict", "all", "list", "json", "quiet", "color",
+    ] {
         assert!(run.text().contains(&format!("\n  --{word}")), "{word}");
     }
     assert_eq!(bib(&["-h"], b""), run);
