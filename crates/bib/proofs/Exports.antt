@@ -1,6 +1,6 @@
--- Outcomes told, and the contract of every exported call.
+-- How an outcome is told in lent numbers, and how the contract of an exported call follows.
 --     told-refused     a refusal in lent numbers
---     exported         a call whose outcome is told
+--     exported         a call that tells its outcome meets its contract
 -- Assumes nothing.
 use Prim.Native.Nat.{ℕ}
 use mathlib.Core.Path.{_≡_, sym, ap, _∙_, subst}

@@ -22,7 +22,7 @@ bytesFor n = n / 4 * 7
 unfoldable pub packedOf : List ℕ → ℕ → Outcome
 packedOf l size = answerOf (isPackable l) (leb (bytesFor (length l)) size) (bytesFor (length l))
 
--- the lent bytes: the rows' in front of what they held, or as they were
+-- what is left in the lent bytes: the rows' bytes in front of what they held, or all as it was
 unfoldable pub packedInto : List ℕ → List ℕ → List ℕ
 packedInto l b = leftOf (isPackable l) (leb (bytesFor (length l)) (length b)) (packing (rowsOf l) ++ drop (bytesFor (length l)) b) b
 

@@ -20,7 +20,7 @@ isUnpackable s = eqb (length s % 7) 0 && (isRows (unpacking s) && every endFits 
 unfoldable pub unpackedOf : List ℕ → ℕ → Outcome
 unpackedOf s size = answerOf (isUnpackable s) (leb (length s / 7) (size / 4)) (length s / 7)
 
--- the lent numbers: the rows in front of what they held, or as they were
+-- what is left in the lent numbers: the rows in front of what they held, or all as it was
 unfoldable pub unpackedInto : List ℕ → List ℕ → List ℕ
 unpackedInto s b = leftOf (isUnpackable s) (leb (length s / 7) (length b / 4)) (flat (unpacking s) ++ drop (length s / 7 * 4) b) b
 
