@@ -1,4 +1,10 @@
+-- The laws and proofs of `bib`. The proof of a function is FUNCTION/Proof.antt.
+
+-- outcomes told in lent numbers, and the contract of every exported call
 pub mod Exports
+-- the proof of specs/Packs.antt: what salvage gives packs without refusal
 pub mod Packs
-pub mod Room
+-- the proof of specs/EnoughRoom.antt: a row for each byte, and one more, is always enough
+pub mod EnoughRoom
+-- any two outcomes that an exported contract allows are the same
 pub mod Unique

@@ -1,82 +1,66 @@
 -- What the exported calls leave in their lent numbers.
+--     ofReading     what a reading comes to
+--     Told          an outcome in lent numbers
+--     Exported      the contract of every exported call: an outcome, and all that is left in the lent rows or bytes
 -- Assumes nothing.
 use Prim.Native.Nat.{ℕ}
 use mathlib.Core.Path.{_≡_}
 use mathlib.Core.List.{List}
 use lib.ListN.{length}
+use Rattle.row.specs.declared.fault.Outcome.{Outcome}
+use Rattle.row.specs.declared.fault.Outcome.the-variants.{Count, Refused}
 use Rattle.row.specs.Fault.{numberOf}
 use Rattle.raw.specs.Reader.{Out}
 use Rattle.raw.specs.Read.{readingOut, leftOut}
 use Rattle.raw.specs.declared.answer.Reading.{Reading}
-use Rattle.raw.specs.declared.answer.Reading.the-variants.{Rows, Refused}
-use Rattle.pack.specs.declared.packing.Packed.{Packed}
-use Rattle.pack.specs.declared.packing.Packed.the-variants as packed
-use Rattle.pack.specs.declared.unpacking.Unpacked.{Unpacked}
-use Rattle.pack.specs.declared.unpacking.Unpacked.the-variants as unpacked
+use Rattle.raw.specs.declared.answer.Reading.the-variants as reading
 use Rattle.pack.specs.Pack.{packedOf, packedInto}
 use Rattle.pack.specs.Unpack.{unpackedOf, unpackedInto}
 
--- ---- readings: 0 and the count, or the refusal's number and place
+-- ---- outcomes
 
-abbrev pub statusOf : Reading → ℕ
-statusOf (Rows n) = 0
+abbrev pub ofReading : Reading → Outcome
+ofReading (reading.Rows n) = Count n
+ofReading (reading.Refused f) = Refused f
+
+-- 0 and the count, or the refusal's number and place
+abbrev pub statusOf : Outcome → ℕ
+statusOf (Count n) = 0
 statusOf (Refused f) = numberOf (f .reason)
 
-abbrev pub countOf : Reading → ℕ
-countOf (Rows n) = n
+abbrev pub countOf : Outcome → ℕ
+countOf (Count n) = n
 countOf (Refused f) = 0
 
-abbrev pub placeStart : Reading → ℕ
-placeStart (Rows n) = 0
+abbrev pub placeStart : Outcome → ℕ
+placeStart (Count n) = 0
 placeStart (Refused f) = f .start
 
-abbrev pub placeEnd : Reading → ℕ
-placeEnd (Rows n) = 0
+abbrev pub placeEnd : Outcome → ℕ
+placeEnd (Count n) = 0
 placeEnd (Refused f) = f .end
 
--- a reading in lent numbers
-pub record Told (g : Reading) (r count start end : ℕ) : Type 0 where
-  pub status : r ≡ statusOf g
-  pub rowCount : count ≡ countOf g
-  pub from : start ≡ placeStart g
-  pub to : end ≡ placeEnd g
+pub record Told (o : Outcome) (r count start end : ℕ) : Type 0 where
+  pub status : r ≡ statusOf o
+  pub number : count ≡ countOf o
+  pub from : start ≡ placeStart o
+  pub to : end ≡ placeEnd o
 
--- a reading of a file that finds o, over the lent numbers b: what it answers, and all that it leaves. `bib_read` finds `strict`, and `bib_salvage`
--- finds `salvaged`
-pub record Exported (o : Out) (b : List ℕ) (r count start end : ℕ) (b′ : List ℕ) : Type 0 where
-  pub told : Told (readingOut o (length b)) r count start end
-  pub rows : b′ ≡ leftOut o b
+-- ---- calls
 
--- ---- packing: 0 and the count, or the refusal's number; 01 has 0..0 for the place of each refusal
+-- a call that comes to o and leaves l in what was lent for rows or bytes answers r, tells the count and the place, and leaves b′
+pub record Exported (o : Outcome) (l : List ℕ) (r count start end : ℕ) (b′ : List ℕ) : Type 0 where
+  pub told : Told o r count start end
+  pub left : b′ ≡ l
 
-abbrev pub packStatus : Packed → ℕ
-packStatus (packed.Bytes n) = 0
-packStatus (packed.Refused f) = numberOf (f .reason)
+-- a reading that finds o, over the lent numbers b: `bib_read` finds `strict`, and `bib_salvage` finds `salvaged`
+abbrev pub ExportedReading : Out → List ℕ → ℕ → ℕ → ℕ → ℕ → List ℕ → Type 0
+ExportedReading o b = Exported (ofReading (readingOut o (length b))) (leftOut o b)
 
-abbrev pub packCount : Packed → ℕ
-packCount (packed.Bytes n) = n
-packCount (packed.Refused f) = 0
+-- `bib_pack` of the rows l over the lent bytes b. The place of each refusal is 0..0, as `packedOf` has it
+abbrev pub ExportedPack : List ℕ → List ℕ → ℕ → ℕ → ℕ → ℕ → List ℕ → Type 0
+ExportedPack l b = Exported (packedOf l (length b)) (packedInto l b)
 
-abbrev pub unpackStatus : Unpacked → ℕ
-unpackStatus (unpacked.Rows n) = 0
-unpackStatus (unpacked.Refused f) = numberOf (f .reason)
-
-abbrev pub unpackCount : Unpacked → ℕ
-unpackCount (unpacked.Rows n) = n
-unpackCount (unpacked.Refused f) = 0
-
--- `bib_pack` of the rows l over the lent bytes b
-pub record ExportedPack (l b : List ℕ) (r count start end : ℕ) (b′ : List ℕ) : Type 0 where
-  pub status : r ≡ packStatus (packedOf l (length b))
-  pub bytesCount : count ≡ packCount (packedOf l (length b))
-  pub from : start ≡ 0
-  pub to : end ≡ 0
-  pub bytes : b′ ≡ packedInto l b
-
--- `bib_unpack` of the bytes s over the lent numbers b
-pub record ExportedUnpack (s b : List ℕ) (r count start end : ℕ) (b′ : List ℕ) : Type 0 where
-  pub status : r ≡ unpackStatus (unpackedOf s (length b))
-  pub rowCount : count ≡ unpackCount (unpackedOf s (length b))
-  pub from : start ≡ 0
-  pub to : end ≡ 0
-  pub rows : b′ ≡ unpackedInto s b
+-- `bib_unpack` of the bytes s over the lent numbers b, likewise
+abbrev pub ExportedUnpack : List ℕ → List ℕ → ℕ → ℕ → ℕ → ℕ → List ℕ → Type 0
+ExportedUnpack s b = Exported (unpackedOf s (length b)) (unpackedInto s b)

@@ -1,3 +1,3 @@
 pub mod Export
 pub mod Packs
-pub mod Room
+pub mod EnoughRoom

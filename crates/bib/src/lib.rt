@@ -1,31 +1,41 @@
 // The library for other languages: thin functions over the crates below, without `requires`. host/ has safe wrappers for Rust.
 //
-// Each answers 0, or document 01's number of the refusal. What else it has to say comes back in lent numbers: `count`, of the rows or bytes that it
-// wrote, or 0; `start` and `end`, the refusal's place, or 0. A refusal leaves what was lent for rows or bytes as it was, and what lies past an answer
-// stays as it was. include/bib.h says all this to C.
+// Each answers 0, or document 01's number of the refusal. What else it has to say comes back in lent numbers: `count`, of the rows or bytes
+// that it wrote, or 0; `start` and `end`, the refusal's place, or 0. A refusal leaves what was lent for rows or bytes as it was, and what
+// lies past an answer stays as it was. include/bib.h says all this to C.
 use pack::packing;
-use pack::packing::Packed;
 use pack::unpacking;
-use pack::unpacking::Unpacked;
 use raw::answer::Reading;
 use raw::file;
 use row::fault;
+use row::fault::Outcome;
+ghost use mathlib.Core.Path.{_≡_};
 ghost use Rattle.raw.specs.Read.{strict};
 ghost use Rattle.salvage.specs.Salvage.{salvaged};
-ghost use Rattle.bib.specs.Export.{Told, Exported, ExportedPack, ExportedUnpack};
+ghost use Rattle.bib.specs.Export.{ofReading, Told, ExportedReading, ExportedPack, ExportedUnpack};
 
-// What a reading comes to in lent numbers.
-fn tell(reading: Reading, count: &mut u64, start: &mut u64, end: &mut u64) -> u32
-    ensures { λ r. ⌜ Told reading r (now (count .exit)) (now (start .exit)) (now (end .exit)) ⌝ }
+// What a reading comes to.
+fn of_reading(reading: Reading) -> Outcome
+    ensures { λ r. ⌜ r ≡ ofReading reading ⌝ }
 {
     match reading {
-        Reading::Rows(n) => {
+        Reading::Rows(n) => Outcome::Count(n),
+        Reading::Refused(f) => Outcome::Refused(f),
+    }
+}
+
+// An outcome in lent numbers.
+fn tell(outcome: Outcome, count: &mut u64, start: &mut u64, end: &mut u64) -> u32
+    ensures { λ r. ⌜ Told outcome r (now (count .exit)) (now (start .exit)) (now (end .exit)) ⌝ }
+{
+    match outcome {
+        Outcome::Count(n) => {
             *count = n as u64;
             *start = 0;
             *end = 0;
             return 0;
         }
-        Reading::Refused(f) => {
+        Outcome::Refused(f) => {
             let from = f.start;
             let to = f.end;
             let reason = f.reason;
@@ -46,10 +56,10 @@ pub extern "C" fn bib_read(
     start: &mut u64,
     end: &mut u64,
 ) -> u32
-    ensures { λ r. ⌜ Exported (strict (now (file .entry))) (now (rows .entry)) r (now (count .exit)) (now (start .exit)) (now (end .exit)) (now (rows .exit)) ⌝ }
+    ensures { λ r. ⌜ ExportedReading (strict (now (file .entry))) (now (rows .entry)) r (now (count .exit)) (now (start .exit)) (now (end .exit)) (now (rows .exit)) ⌝ }
 {
     let reading = file::read(file, rows);
-    tell(reading, count, start, end)
+    tell(of_reading(reading), count, start, end)
 }
 
 // Salvages a file: each piece is read alone, and of a damaged one the damage and its cause remain.
@@ -61,10 +71,10 @@ pub extern "C" fn bib_salvage(
     start: &mut u64,
     end: &mut u64,
 ) -> u32
-    ensures { λ r. ⌜ Exported (salvaged (now (file .entry))) (now (rows .entry)) r (now (count .exit)) (now (start .exit)) (now (end .exit)) (now (rows .exit)) ⌝ }
+    ensures { λ r. ⌜ ExportedReading (salvaged (now (file .entry))) (now (rows .entry)) r (now (count .exit)) (now (start .exit)) (now (end .exit)) (now (rows .exit)) ⌝ }
 {
     let salvaged = salvage::file::salvage(file, rows);
-    tell(salvaged, count, start, end)
+    tell(of_reading(salvaged), count, start, end)
 }
 
 // Packs rows, seven bytes to a row, which stand in `bytes`. A refusal has no place here: 0..0.
@@ -78,20 +88,8 @@ pub extern "C" fn bib_pack(
 ) -> u32
     ensures { λ r. ⌜ ExportedPack (now (rows .entry)) (now (bytes .entry)) r (now (count .exit)) (now (start .exit)) (now (end .exit)) (now (bytes .exit)) ⌝ }
 {
-    *start = 0;
-    *end = 0;
     let packed = packing::pack(rows, bytes);
-    match packed {
-        Packed::Bytes(size) => {
-            *count = size as u64;
-            return 0;
-        }
-        Packed::Refused(f) => {
-            let reason = f.reason;
-            *count = 0;
-            return fault::number(reason);
-        }
-    }
+    tell(packed, count, start, end)
 }
 
 // Unpacks rows, which stand in `rows`. A refusal has no place here either.
@@ -105,18 +103,6 @@ pub extern "C" fn bib_unpack(
 ) -> u32
     ensures { λ r. ⌜ ExportedUnpack (now (bytes .entry)) (now (rows .entry)) r (now (count .exit)) (now (start .exit)) (now (end .exit)) (now (rows .exit)) ⌝ }
 {
-    *start = 0;
-    *end = 0;
     let unpacked = unpacking::unpack(bytes, rows);
-    match unpacked {
-        Unpacked::Rows(n) => {
-            *count = n as u64;
-            return 0;
-        }
-        Unpacked::Refused(f) => {
-            let bad = f.reason;
-            *count = 0;
-            return fault::number(bad);
-        }
-    }
+    tell(unpacked, count, start, end)
 }

@@ -11,10 +11,8 @@ use Rattle.row.specs.Row.{flat}
 use Rattle.row.specs.Rules.{isRows, run, next}
 use Rattle.row.specs.Numbers.{rowsOf, isSound}
 use Rattle.row.proofs.numbers.Flat.{rows-flat, flat-rows, flat-length, rows-length}
-use Rattle.pack.specs.declared.packing.Packed.{Packed}
-use Rattle.pack.specs.declared.packing.Packed.the-variants as packed
-use Rattle.pack.specs.declared.unpacking.Unpacked.{Unpacked}
-use Rattle.pack.specs.declared.unpacking.Unpacked.the-variants as unpacked
+use Rattle.row.specs.declared.fault.Outcome.{Outcome}
+use Rattle.row.specs.declared.fault.Outcome.the-variants.{Count}
 use Rattle.pack.specs.Digits.{digits, Bytes}
 use Rattle.pack.specs.Seven.{packing, unpacking, every}
 use Rattle.pack.specs.Pack.{isPackable, bytesFor, Pack}
@@ -45,9 +43,9 @@ bytes s w p =
 
 -- ---- the round trips
 
-unpacks : (l b b′ : List ℕ) (n : ℕ) → Pack l b (packed.Bytes n) b′
-    → (c c′ : List ℕ) (r : Unpacked) → Unpack (take n b′) c r c′ → length l ≤ length c
-    → (r ≡ unpacked.Rows (length l / 4)) × (c′ ≡ l ++ drop (length l) c)
+unpacks : (l b b′ : List ℕ) (n : ℕ) → Pack l b (Count n) b′
+    → (c c′ : List ℕ) (r : Outcome) → Unpack (take n b′) c r c′ → length l ≤ length c
+    → (r ≡ Count (length l / 4)) × (c′ ≡ l ++ drop (length l) c)
 unpacks l b b′ n p c c′ r u h =
     let t = pack-told l b b′ n p in
     let k = packable l (t .fits) in
@@ -57,11 +55,11 @@ unpacks l b b′ n p c c′ r u h =
     let e₀ : length (packing (rowsOf l)) / 7 ≡ length l / 4 = omega (arith, packing-length (rowsOf l), rows-length l) in
     let e₁ : length l / 4 * 4 ≡ length l = omega (arith, k .count) in
     let g = unpack-gives (packing (rowsOf l)) c c′ r (d .0) (omega (arith, e₀)) (subst (λ (s : List ℕ). Unpack s c r c′) x u) in
-    (g .0 ∙ ap unpacked.Rows e₀, g .1 ∙ rw (d .1, e₀, e₁))
+    (g .0 ∙ ap Count e₀, g .1 ∙ rw (d .1, e₀, e₁))
 
-packs : (s c c′ : List ℕ) (n : ℕ) → Bytes s → Unpack s c (unpacked.Rows n) c′
-    → (b b′ : List ℕ) (r : Packed) → Pack (take (n * 4) c′) b r b′ → length s ≤ length b
-    → (r ≡ packed.Bytes (length s)) × (b′ ≡ s ++ drop (length s) b)
+packs : (s c c′ : List ℕ) (n : ℕ) → Bytes s → Unpack s c (Count n) c′
+    → (b b′ : List ℕ) (r : Outcome) → Pack (take (n * 4) c′) b r b′ → length s ≤ length b
+    → (r ≡ Count (length s)) × (b′ ≡ s ++ drop (length s) b)
 packs s c c′ n w u b b′ r p h =
     let t = unpack-told s c c′ n u in
     let k = unpackable s (t .fits) in
@@ -70,7 +68,7 @@ packs s c c′ n w u b b′ r p h =
     let x : take (n * 4) c′ ≡ flat (unpacking s) = ap (take (n * 4)) (t .left) ∙ take-at (flat (unpacking s)) (drop (n * 4) c) (n * 4) m in
     let e : bytesFor (length (flat (unpacking s))) ≡ length s = omega (arith, flat-length (unpacking s), unpacking-length s, k .count) in
     let g = pack-gives (flat (unpacking s)) b b′ r (d .0) (omega (arith, e)) (subst (λ (l : List ℕ). Pack l b r b′) x p) in
-    (g .0 ∙ ap packed.Bytes e, g .1 ∙ rw (d .1, e))
+    (g .0 ∙ ap Count e, g .1 ∙ rw (d .1, e))
 
 -- ---- 01's example
 
@@ -82,8 +80,8 @@ edge-bytes : packing (rowsOf edgeRows) ≡ edgeBytes
 unfolding packing digits rowsOf
 edge-bytes = refl
 
-edge : (b b′ : List ℕ) (r : Packed) → Pack edgeRows b r b′ → 14 ≤ length b
-    → (r ≡ packed.Bytes 14) × (b′ ≡ edgeBytes ++ drop 14 b)
+edge : (b b′ : List ℕ) (r : Outcome) → Pack edgeRows b r b′ → 14 ≤ length b
+    → (r ≡ Count 14) × (b′ ≡ edgeBytes ++ drop 14 b)
 edge b b′ r p h =
     let g = pack-gives edgeRows b b′ r edge-fits h p in
     (g .0, g .1 ∙ ap (λ (l : List ℕ). l ++ drop 14 b) edge-bytes)

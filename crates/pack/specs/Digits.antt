@@ -1,7 +1,7 @@
 -- Numbers as digits in a base, most significant first [01:Rows and their packing]: "most significant bit first". Bytes are digits in
 -- base 256.
 --     digits         the w digits of n in a base
---     ofDigits       the number whose digits are those of a and then these
+--     ofDigits       the number whose digits are those of a, and then l
 --     AllBelow       numbers that are digits in a base
 -- Assumes nothing.
 use Prim.Native.Nat.{ℕ, zero, suc, _+_, _*_, _/_, _%_, _<_}
@@ -24,7 +24,7 @@ AllBelow base (d ∷ l) = (d < base) × AllBelow base l
 abbrev pub Bytes : List ℕ → Type 0
 Bytes l = AllBelow 256 l
 
--- the three bytes of a number, and the number of bytes
+-- a number as three bytes, and bytes as a number
 abbrev pub threeBytes : ℕ → List ℕ
 threeBytes n = digits 256 3 n
 

@@ -1,5 +1,6 @@
 pub mod Digits
 pub mod Seven
+pub mod Answer
 pub mod Pack
 pub mod Unpack
 pub mod RoundTrip

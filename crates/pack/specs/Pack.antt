@@ -3,16 +3,14 @@
 -- Assumes nothing.
 use Prim.Native.Nat.{ℕ, _*_, _/_}
 use mathlib.Core.Path.{_≡_}
-use mathlib.Core.Bool.{Bool, cond, _&&_}
+use mathlib.Core.Bool.{Bool, _&&_}
 use mathlib.Core.List.{List, _++_}
 use lib.ListN.{length, drop}
 use lib.Dec.{leb}
 use Rattle.row.specs.Numbers.{rowsOf, isSound}
-use Rattle.row.specs.declared.fault.Reason.the-variants.{BadRows, NoRoom}
-use Rattle.row.specs.Fault.{nowhere}
-use Rattle.pack.specs.declared.packing.Packed.{Packed}
-use Rattle.pack.specs.declared.packing.Packed.the-variants as packed
+use Rattle.row.specs.declared.fault.Outcome.{Outcome}
 use Rattle.pack.specs.Seven.{packing, spanFits, every}
+use Rattle.pack.specs.Answer.{answerOf, leftOf}
 
 unfoldable pub isPackable : List ℕ → Bool
 isPackable l = isSound l && every spanFits (rowsOf l)
@@ -21,17 +19,14 @@ isPackable l = isSound l && every spanFits (rowsOf l)
 abbrev pub bytesFor : ℕ → ℕ
 bytesFor n = n / 4 * 7
 
-unfoldable pub packedOf : List ℕ → ℕ → Packed
-packedOf l size =
-    cond (isPackable l) (cond (leb (bytesFor (length l)) size) (packed.Bytes (bytesFor (length l))) (packed.Refused (nowhere NoRoom)))
-    (packed.Refused (nowhere BadRows))
+unfoldable pub packedOf : List ℕ → ℕ → Outcome
+packedOf l size = answerOf (isPackable l) (leb (bytesFor (length l)) size) (bytesFor (length l))
 
--- the lent bytes: the rows' in front of what they held, or as they were
+-- what is left in the lent bytes: the rows' bytes in front of what they held, or all as it was
 unfoldable pub packedInto : List ℕ → List ℕ → List ℕ
-packedInto l b =
-    cond (isPackable l) (cond (leb (bytesFor (length l)) (length b)) (packing (rowsOf l) ++ drop (bytesFor (length l)) b) b) b
+packedInto l b = leftOf (isPackable l) (leb (bytesFor (length l)) (length b)) (packing (rowsOf l) ++ drop (bytesFor (length l)) b) b
 
 -- `pack` of the numbers l over the lent bytes b answers r and leaves b′
-pub record Pack (l b : List ℕ) (r : Packed) (b′ : List ℕ) : Type 0 where
+pub record Pack (l b : List ℕ) (r : Outcome) (b′ : List ℕ) : Type 0 where
   pub answer : r ≡ packedOf l (length b)
   pub bytes : b′ ≡ packedInto l b

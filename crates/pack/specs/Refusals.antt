@@ -5,8 +5,7 @@ use mathlib.Core.List.{List}
 use Rattle.row.specs.declared.fault.Reason.the-variants.{NoRoom, BadRows}
 use Rattle.row.specs.declared.fault.Fault.{Fault}
 use Rattle.row.specs.Fault.{nowhere}
-use Rattle.pack.specs.declared.packing.Packed.the-variants as packed
-use Rattle.pack.specs.declared.unpacking.Unpacked.the-variants as unpacked
+use Rattle.row.specs.declared.fault.Outcome.the-variants.{Refused}
 use Rattle.pack.specs.Pack.{Pack}
 use Rattle.pack.specs.Unpack.{Unpack}
 
@@ -17,5 +16,5 @@ pub data PackFault : Fault → Type 0 where
 
 -- `pack` and `unpack` answer no others
 pub record Refusals : Type 0 where
-  pub packs : (l b b′ : List ℕ) (f : Fault) → Pack l b (packed.Refused f) b′ → PackFault f
-  pub unpacks : (s b b′ : List ℕ) (f : Fault) → Unpack s b (unpacked.Refused f) b′ → PackFault f
+  pub packs : (l b b′ : List ℕ) (f : Fault) → Pack l b (Refused f) b′ → PackFault f
+  pub unpacks : (s b b′ : List ℕ) (f : Fault) → Unpack s b (Refused f) b′ → PackFault f

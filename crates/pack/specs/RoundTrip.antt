@@ -11,10 +11,8 @@ use Rattle.row.specs.Row.{Row, flat}
 use Rattle.raw.specs.Reader.{ok}
 use Rattle.raw.specs.Read.{strict, Read}
 use Rattle.row.specs.Numbers.{rowsOf}
-use Rattle.pack.specs.declared.packing.Packed.{Packed}
-use Rattle.pack.specs.declared.packing.Packed.the-variants as packed
-use Rattle.pack.specs.declared.unpacking.Unpacked.{Unpacked}
-use Rattle.pack.specs.declared.unpacking.Unpacked.the-variants as unpacked
+use Rattle.row.specs.declared.fault.Outcome.{Outcome}
+use Rattle.row.specs.declared.fault.Outcome.the-variants.{Count}
 use Rattle.pack.specs.Digits.{Bytes}
 use Rattle.pack.specs.Seven.{packing, unpacking}
 use Rattle.pack.specs.Pack.{isPackable, Pack}
@@ -34,17 +32,17 @@ pub record RoundTrip : Type 0 where
   pub bytes : (s : List ℕ) → Bytes s → isUnpackable s ≡ true
       → (isPackable (flat (unpacking s)) ≡ true) × (packing (rowsOf (flat (unpacking s))) ≡ s)
   -- the contracts: unpacking what packing gave returns the same rows, in front of what the lent numbers held
-  pub unpacks : (l b b′ : List ℕ) (n : ℕ) → Pack l b (packed.Bytes n) b′
-      → (c c′ : List ℕ) (r : Unpacked) → Unpack (take n b′) c r c′ → length l ≤ length c
-      → (r ≡ unpacked.Rows (length l / 4)) × (c′ ≡ l ++ drop (length l) c)
+  pub unpacks : (l b b′ : List ℕ) (n : ℕ) → Pack l b (Count n) b′
+      → (c c′ : List ℕ) (r : Outcome) → Unpack (take n b′) c r c′ → length l ≤ length c
+      → (r ≡ Count (length l / 4)) × (c′ ≡ l ++ drop (length l) c)
   -- packing what unpacking gave returns the same bytes, in front of what the lent bytes held
-  pub packs : (s c c′ : List ℕ) (n : ℕ) → Bytes s → Unpack s c (unpacked.Rows n) c′
-      → (b b′ : List ℕ) (r : Packed) → Pack (take (n * 4) c′) b r b′ → length s ≤ length b
-      → (r ≡ packed.Bytes (length s)) × (b′ ≡ s ++ drop (length s) b)
+  pub packs : (s c c′ : List ℕ) (n : ℕ) → Bytes s → Unpack s c (Count n) c′
+      → (b b′ : List ℕ) (r : Outcome) → Pack (take (n * 4) c′) b r b′ → length s ≤ length b
+      → (r ≡ Count (length s)) × (b′ ≡ s ++ drop (length s) b)
   -- what strict reading gives packs without refusal, of its definition and of its contract
   pub strictly : (s : List ℕ) (q : ℕ) (rs : List Row) → strict s ≡ ok q rs → isPackable (flat rs) ≡ true
   pub readings : (s c c′ : List ℕ) (n : ℕ) → Read s c (reading.Rows n) c′
-      → (b b′ : List ℕ) (r : Packed) → Pack (take (n * 4) c′) b r b′ → n * 7 ≤ length b → r ≡ packed.Bytes (n * 7)
+      → (b b′ : List ℕ) (r : Outcome) → Pack (take (n * 4) c′) b r b′ → n * 7 ≤ length b → r ≡ Count (n * 7)
   -- and 01's two rows are 01's fourteen bytes
-  pub edge : (b b′ : List ℕ) (r : Packed) → Pack edgeRows b r b′ → 14 ≤ length b
-      → (r ≡ packed.Bytes 14) × (b′ ≡ edgeBytes ++ drop 14 b)
+  pub edge : (b b′ : List ℕ) (r : Outcome) → Pack edgeRows b r b′ → 14 ≤ length b
+      → (r ≡ Count 14) × (b′ ≡ edgeBytes ++ drop 14 b)

@@ -1,8 +1,8 @@
 -- Rows in seven bytes each [01:Rows and their packing]: "Packed, a row is 7 bytes, most significant bit first: kind 4 bits, detail 4,
 -- start 24, length 24."
 --     packRow, packing          the bytes of a row, and of rows
---     unpackRow, unpacking      the row of seven bytes, and the rows of as many sevens as there are
---     threeAt, unpackAt         by index
+--     unpackRow, unpacking      the row of seven bytes, and bytes taken as rows, seven by seven
+--     threeAt, unpackAt         the number, and the row, from a byte on
 --     endFits, spanFits, every  the tests of spans, and a test of all rows
 --     InSeven                   a row that seven bytes hold
 -- Assumes nothing.

@@ -4,32 +4,27 @@
 -- Assumes nothing.
 use Prim.Native.Nat.{ℕ, _*_, _/_, _%_}
 use mathlib.Core.Path.{_≡_}
-use mathlib.Core.Bool.{Bool, cond, _&&_}
+use mathlib.Core.Bool.{Bool, _&&_}
 use mathlib.Core.List.{List, _++_}
 use lib.ListN.{length, drop}
 use lib.Dec.{eqb, leb}
 use Rattle.row.specs.Row.{flat}
 use Rattle.row.specs.Rules.{isRows}
-use Rattle.row.specs.declared.fault.Reason.the-variants.{BadRows, NoRoom}
-use Rattle.row.specs.Fault.{nowhere}
-use Rattle.pack.specs.declared.unpacking.Unpacked.{Unpacked}
-use Rattle.pack.specs.declared.unpacking.Unpacked.the-variants as unpacked
+use Rattle.row.specs.declared.fault.Outcome.{Outcome}
 use Rattle.pack.specs.Seven.{unpacking, endFits, every}
+use Rattle.pack.specs.Answer.{answerOf, leftOf}
 
 unfoldable pub isUnpackable : List ℕ → Bool
 isUnpackable s = eqb (length s % 7) 0 && (isRows (unpacking s) && every endFits (unpacking s))
 
-unfoldable pub unpackedOf : List ℕ → ℕ → Unpacked
-unpackedOf s size =
-    cond (isUnpackable s) (cond (leb (length s / 7) (size / 4)) (unpacked.Rows (length s / 7)) (unpacked.Refused (nowhere NoRoom)))
-    (unpacked.Refused (nowhere BadRows))
+unfoldable pub unpackedOf : List ℕ → ℕ → Outcome
+unpackedOf s size = answerOf (isUnpackable s) (leb (length s / 7) (size / 4)) (length s / 7)
 
--- the lent numbers: the rows in front of what they held, or as they were
+-- what is left in the lent numbers: the rows in front of what they held, or all as it was
 unfoldable pub unpackedInto : List ℕ → List ℕ → List ℕ
-unpackedInto s b =
-    cond (isUnpackable s) (cond (leb (length s / 7) (length b / 4)) (flat (unpacking s) ++ drop (length s / 7 * 4) b) b) b
+unpackedInto s b = leftOf (isUnpackable s) (leb (length s / 7) (length b / 4)) (flat (unpacking s) ++ drop (length s / 7 * 4) b) b
 
 -- `unpack` of the bytes s over the lent numbers b answers r and leaves b′
-pub record Unpack (s b : List ℕ) (r : Unpacked) (b′ : List ℕ) : Type 0 where
+pub record Unpack (s b : List ℕ) (r : Outcome) (b′ : List ℕ) : Type 0 where
   pub answer : r ≡ unpackedOf s (length b)
   pub rows : b′ ≡ unpackedInto s b

@@ -1,5 +1,6 @@
 // Rows into bytes: checked first, written second.
 use row::fault::Fault;
+use row::fault::Outcome;
 use row::fault::Reason;
 use row::limits::LAST_PLACE;
 use row::mask;
@@ -12,12 +13,6 @@ ghost use Rattle.row.specs.Row.{rowOf};
 ghost use Rattle.row.specs.Numbers.{rowsOf};
 ghost use Rattle.pack.specs.Seven.{packRow, packing, InSeven};
 ghost use Rattle.pack.specs.Pack.{isPackable, Pack};
-
-// The number of bytes, which then stand in the lent ones.
-pub enum Packed {
-    Bytes(usize),
-    Refused(Fault),
-}
 
 // Whether the rows pass the row check, and each span is a span of a file.
 fn is_packable(rows: &[u32]) -> bool
@@ -73,22 +68,22 @@ fn put_all(rows: &[u32], bytes: &mut [u8])
 }
 
 // Packs rows: the number of bytes, which then stand in the lent bytes, or the refusal, which leaves them as they were.
-pub fn pack(rows: &[u32], bytes: &mut [u8]) -> Packed
+pub fn pack(rows: &[u32], bytes: &mut [u8]) -> Outcome
     ensures { λ r. ⌜ Pack (now (rows .entry)) (now (bytes .entry)) r (now (bytes .exit)) ⌝ }
 {
     if is_packable(rows) {
         let n = rows.len() / 4;
         if bytes.len() / 7 < n {
-            return Packed::Refused(Fault {
+            return Outcome::Refused(Fault {
                 reason: Reason::NoRoom,
                 start: 0,
                 end: 0,
             });
         }
         put_all(rows, bytes);
-        return Packed::Bytes(n * 7);
+        return Outcome::Count(n * 7);
     }
-    Packed::Refused(Fault {
+    Outcome::Refused(Fault {
         reason: Reason::BadRows,
         start: 0,
         end: 0,

@@ -1,5 +1,6 @@
 // Bytes into rows: checked first, written second.
 use row::fault::Fault;
+use row::fault::Outcome;
 use row::fault::Reason;
 use row::form;
 use row::limits::LAST_PLACE;
@@ -12,12 +13,6 @@ ghost use Rattle.row.specs.Limits.{mostBytes};
 ghost use Rattle.row.specs.Row.{flat};
 ghost use Rattle.pack.specs.Seven.{unpacking, threeAt};
 ghost use Rattle.pack.specs.Unpack.{isUnpackable, Unpack};
-
-// The number of rows, which then stand in the lent numbers.
-pub enum Unpacked {
-    Rows(usize),
-    Refused(Fault),
-}
 
 // The number of the three bytes from p on, most significant first.
 fn three(bytes: &[u8], p: usize) -> u32
@@ -72,22 +67,22 @@ fn put_all(bytes: &[u8], rows: &mut [u32])
 }
 
 // Unpacks rows: their number, which then stand in the lent numbers, or the refusal, which leaves them as they were.
-pub fn unpack(bytes: &[u8], rows: &mut [u32]) -> Unpacked
+pub fn unpack(bytes: &[u8], rows: &mut [u32]) -> Outcome
     ensures { λ r. ⌜ Unpack (now (bytes .entry)) (now (rows .entry)) r (now (rows .exit)) ⌝ }
 {
     if is_unpackable(bytes) {
         let n = bytes.len() / 7;
         if rows.len() / 4 < n {
-            return Unpacked::Refused(Fault {
+            return Outcome::Refused(Fault {
                 reason: Reason::NoRoom,
                 start: 0,
                 end: 0,
             });
         }
         put_all(bytes, rows);
-        return Unpacked::Rows(n);
+        return Outcome::Count(n);
     }
-    Unpacked::Refused(Fault {
+    Outcome::Refused(Fault {
         reason: Reason::BadRows,
         start: 0,
         end: 0,

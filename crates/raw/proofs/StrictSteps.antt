@@ -4,13 +4,14 @@
 --     strict-file                 where strict reading does not refuse, it is the grammar's reading
 --     strict-bad                  a text inside the limit is refused with 2 or more
 --     strict-spans                the spans of an accepted text's rows lie in it
+--     rows-told                   what is known where a reading answered rows
 -- Assumes nothing.
-use Prim.Native.Nat.{ℕ, _≤_}
+use Prim.Native.Nat.{ℕ, _*_, _/_, _≤_}
 use native.Mathlib.Omega.{arith}
 use mathlib.Core.Path.{_≡_, refl, sym, ap, _∙_, subst}
 use mathlib.Core.Bool.{Bool, true, false, cond}
-use mathlib.Core.List.{List, [], _∷_}
-use lib.ListN.{length}
+use mathlib.Core.List.{List, [], _∷_, _++_}
+use lib.ListN.{length, drop}
 use lib.Dec.{leb}
 use borrow.Author.Tests.{leb-true, le-leb}
 use Rattle.text.specs.Utf8.{Octets, validityOf}
@@ -18,16 +19,17 @@ use Rattle.text.specs.declared.utf8.Validity.{Validity}
 use Rattle.text.specs.declared.utf8.Validity.the-variants as validity
 use Rattle.text.proofs.Rfc3629.{rfc3629}
 use Rattle.row.specs.declared.fault.Fault.{Fault}
-use Rattle.row.specs.declared.fault.Reason.the-variants.{TooLong, NotUtf8}
+use Rattle.row.specs.declared.fault.Reason.the-variants.{TooLong, NotUtf8, NoRoom}
 use Rattle.row.specs.Fault.{numberOf, faultAt, nowhere}
 use Rattle.row.specs.Limits.{mostBytes}
-use Rattle.row.specs.Row.{Row}
+use Rattle.row.specs.Row.{Row, flat}
 use Rattle.row.specs.Spans.{SpansIn}
 use Rattle.raw.specs.declared.answer.Answer.the-variants as answer
+use Rattle.raw.specs.declared.answer.Reading.the-variants as reading
 use Rattle.raw.specs.Reader.{Out, ok, bad}
 use Rattle.raw.specs.Grammar.{file}
 use Rattle.raw.specs.Says.{answerOf}
-use Rattle.raw.specs.Read.{checked, strict}
+use Rattle.raw.specs.Read.{checked, strict, readingOut, leftOut}
 use Rattle.raw.specs.Strict.{Spans}
 use Rattle.raw.proofs.Trace.{Refused, Traced}
 use Rattle.raw.proofs.Entries.{file-good}
@@ -88,3 +90,16 @@ spans-in s (r ∷ rs) x = (record { order = x .0 .order; inside = x .0 .inside }
 
 pub strict-spans : (s : List ℕ) (q : ℕ) (rs : List Row) → strict s ≡ ok q rs → SpansIn (length s) rs
 strict-spans s q rs e = spans-in s rs (strict-reading .accepts s q rs e .spans)
+
+-- ---- the lent numbers
+
+-- what is known where rows were answered: how many they are, that there was room, and where they stand
+pub rows-told : (q : ℕ) (rs : List Row) (b : List ℕ) {n : ℕ} → reading.Rows n ≡ readingOut (ok q rs) (length b)
+    → (n ≡ length rs) × (length rs ≤ length b / 4) × (leftOut (ok q rs) b ≡ flat rs ++ drop (length rs * 4) b)
+rows-told q rs b {n} = by (leb (length rs) (length b / 4)) refl
+  where
+    by : (x : Bool) → leb (length rs) (length b / 4) ≡ x
+        → reading.Rows n ≡ cond x (reading.Rows (length rs)) (reading.Refused (nowhere NoRoom))
+        → (n ≡ length rs) × (length rs ≤ length b / 4) × (leftOut (ok q rs) b ≡ flat rs ++ drop (length rs * 4) b)
+    by true d e = (cc, leb-true (length rs) (length b / 4) d, rw d)
+    by false d e = let z : _≡_ {A = ℕ} 0 1 = cc in absurd (omega arith)

@@ -1,6 +1,6 @@
 -- Numbers as rows, four to a row, and the contract of the row check [01:Rows and their packing]: "The row check, after a field name,
 -- takes the next row as a value row, or refuses with 17"; "rows whose numbers are no whole count of rows are refused with 17 too".
---     rowsOf              the rows of as many fours as there are
+--     rowsOf              numbers taken as rows, four by four
 --     isSound, checkOf    what `check` answers
 --     awaitOf, stateOf    the code's words for what may come next, and `Rules`' words
 -- Assumes nothing.
@@ -61,7 +61,7 @@ wholeOf s = whole (awaitOf s)
 abbrev pub orWrong : Bool → State → State
 orWrong b s = cond b s state.Wrong
 
--- the first of the rows, which stand from number i on, as a value row
+-- the rows stand from number i on: whether the first is a value row, and the number behind it
 unfoldable pub foundOf : ℕ → List Row → Found
 foundOf i [] = found.Other
 foundOf i (r ∷ rs) = cond (isKind Value (r .kind) && eqb (r .detail) 0) (found.Value (i + 4)) found.Other

@@ -1,4 +1,5 @@
-// Why a call refuses, and where: one refusal for all calls [01:Numbers a caller can get].
+// Why a call refuses, and where: one refusal for all calls [01:Numbers a caller can get]. And what a call comes to, where that is a count or
+// a refusal.
 ghost use mathlib.Core.Path.{_≡_};
 ghost use Rattle.row.specs.Fault.{numberOf};
 
@@ -28,6 +29,12 @@ pub struct Fault {
     pub reason: Reason,
     pub start: usize,
     pub end: usize,
+}
+
+// What a call comes to: the count of what it wrote, or a refusal.
+pub enum Outcome {
+    Count(usize),
+    Refused(Fault),
 }
 
 // Document 01's number of a reason.

@@ -1,6 +1,6 @@
 -- The rows that salvage gives.
 
--- what a piece gives, and what two calls give of which one is for both texts together
+-- what each piece gives, and what calls of `salvage` give for two texts and for both together
 pub mod EachPiece
 -- the rows keep the row rules, their starts never fall, and their spans lie in the file
 pub mod Order

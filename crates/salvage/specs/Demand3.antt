@@ -35,7 +35,7 @@ unfoldable pub fresh : List ℕ → Bool
 fresh [] = true
 fresh (b ∷ s) = head (b ∷ s)
 
--- n rows stand in front of what was lent
+-- the answer is the number of the rows, which stand in front of what was lent
 pub record Holds (rs : List Row) (b : List ℕ) (r : Reading) (b′ : List ℕ) : Type 0 where
   pub answer : r ≡ reading.Rows (length rs)
   pub rows : b′ ≡ flat rs ++ drop (length rs * 4) b

@@ -60,7 +60,7 @@ pub record FileToRead (s : List ℕ) (n : ℕ) : Type 0 where
   pub short : length s ≤ mostBytes
   pub valid : ValidTo s n
 
--- the rows of the pieces fill the lent numbers b where these are just as many
+-- the rows of the pieces stand in the lent numbers b where these are just as many as the rows need
 pub record Fills (s b : List ℕ) (r : Tally) (b′ : List ℕ) : Type 0 where
   pub tally : r ≡ tallyOf (salvageOf s)
   pub rows : length b ≡ length (salvageOf s) * 4 → b′ ≡ flat (salvageOf s)

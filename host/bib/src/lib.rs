@@ -55,7 +55,7 @@ pub fn unpack(bytes: &[u8]) -> Result<Rows, Refusal> {
     answered(proved::unpack, bytes, most, NUMBERS).map(Rows::new)
 }
 
-/// A file of n bytes has at most n + 1 rows (`Room` of crates/bib/specs/Room.antt).
+/// A file of n bytes has at most n + 1 rows (`EnoughRoom` of crates/bib/specs/EnoughRoom.antt).
 fn reading(file: &[u8], call: Call<u8, u32>) -> Result<Rows, Refusal> {
     let most = (file.len().min(MOST_BYTES) + 1) * NUMBERS;
     answered(call, file, most, NUMBERS).map(Rows::new)

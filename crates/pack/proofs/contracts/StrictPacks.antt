@@ -2,25 +2,22 @@
 -- 16,777,215 bytes. All three are theorems of `raw`.
 --     strictly, readings     of the definition, and of the contract of `read`
 -- Assumes nothing.
-use Prim.Native.Nat.{ℕ, _*_, _/_, _≤_}
+use Prim.Native.Nat.{ℕ, _*_, _≤_}
 use native.Mathlib.Omega.{arith}
 use mathlib.Core.Path.{_≡_, refl, ap, _∙_, subst}
-use mathlib.Core.Bool.{Bool, true, false, cond}
+use mathlib.Core.Bool.{true}
 use mathlib.Core.List.{List, _++_}
 use lib.ListN.{length, take, drop}
 use lib.Seq.{take-at}
-use lib.Dec.{leb}
-use Rattle.row.specs.declared.fault.Reason.the-variants as fault
-use Rattle.row.specs.Fault.{nowhere}
 use Rattle.raw.specs.declared.answer.Reading.the-variants as reading
 use Rattle.row.specs.Row.{Row, flat}
 use Rattle.raw.specs.Reader.{Out, ok, again, bad}
 use Rattle.raw.specs.Read.{strict, readingOut, leftOut, Read}
 use Rattle.raw.proofs.Strict.{strict-reading}
-use Rattle.raw.proofs.StrictSteps.{strict-short, strict-spans}
+use Rattle.raw.proofs.StrictSteps.{strict-short, strict-spans, rows-told}
 use Rattle.row.proofs.numbers.Flat.{flat-length}
-use Rattle.pack.specs.declared.packing.Packed.{Packed}
-use Rattle.pack.specs.declared.packing.Packed.the-variants as packed
+use Rattle.row.specs.declared.fault.Outcome.{Outcome}
+use Rattle.row.specs.declared.fault.Outcome.the-variants.{Count}
 use Rattle.pack.specs.Pack.{isPackable, bytesFor, Pack}
 use Rattle.pack.proofs.bytes.Accepted.{spans-fit, flat-packable}
 use Rattle.pack.proofs.contracts.KnownAnswers.{pack-gives}
@@ -31,27 +28,21 @@ strictly s q rs e =
     flat-packable rs (a .rules) (spans-fit (length s) (strict-short s q rs e) rs (strict-spans s q rs e))
 
 -- rows that stand in front of the lent numbers
-front-packs : (rs : List Row) (c b b′ : List ℕ) (r : Packed) → isPackable (flat rs) ≡ true
-    → Pack (take (length rs * 4) (flat rs ++ drop (length rs * 4) c)) b r b′ → length rs * 7 ≤ length b → r ≡ packed.Bytes (length rs * 7)
+front-packs : (rs : List Row) (c b b′ : List ℕ) (r : Outcome) → isPackable (flat rs) ≡ true
+    → Pack (take (length rs * 4) (flat rs ++ drop (length rs * 4) c)) b r b′ → length rs * 7 ≤ length b → r ≡ Count (length rs * 7)
 front-packs rs c b b′ r k p h =
     let x = take-at (flat rs) (drop (length rs * 4) c) (length rs * 4) (flat-length rs) in
     let e : bytesFor (length (flat rs)) ≡ length rs * 7 = omega (arith, flat-length rs) in
-    pack-gives (flat rs) b b′ r k (omega (arith, e)) (subst (λ (l : List ℕ). Pack l b r b′) x p) .0 ∙ ap packed.Bytes e
+    pack-gives (flat rs) b b′ r k (omega (arith, e)) (subst (λ (l : List ℕ). Pack l b r b′) x p) .0 ∙ ap Count e
 
-module _ (s c c′ : List ℕ) (n : ℕ) (b b′ : List ℕ) (r : Packed) (p : Pack (take (n * 4) c′) b r b′) (h : n * 7 ≤ length b) where
-  rows-packs : (q : ℕ) (rs : List Row) (y : Bool) → strict s ≡ ok q rs
-      → reading.Rows n ≡ cond y (reading.Rows (length rs)) (reading.Refused (nowhere fault.NoRoom))
-      → c′ ≡ cond y (flat rs ++ drop (length rs * 4) c) c → r ≡ packed.Bytes (n * 7)
-  rows-packs q rs true e f g =
-      let m : n ≡ length rs = cc in
-      rw m (front-packs rs c b b′ r (strictly s q rs e) (rw (m, g) at p) (rw m at h))
-  rows-packs q rs false e f g = let z : _≡_ {A = ℕ} 0 1 = cc in absurd (omega arith)
-
-  out-packs : (o : Out) → strict s ≡ o → reading.Rows n ≡ readingOut o (length c) → c′ ≡ leftOut o c → r ≡ packed.Bytes (n * 7)
-  out-packs (ok q rs) e f g = rows-packs q rs (leb (length rs) (length c / 4)) e f g
+module _ (s c c′ : List ℕ) (n : ℕ) (b b′ : List ℕ) (r : Outcome) (p : Pack (take (n * 4) c′) b r b′) (h : n * 7 ≤ length b) where
+  out-packs : (o : Out) → strict s ≡ o → reading.Rows n ≡ readingOut o (length c) → c′ ≡ leftOut o c → r ≡ Count (n * 7)
+  out-packs (ok q rs) e f g =
+      let t = rows-told q rs c f in
+      rw (t .0) (front-packs rs c b b′ r (strictly s q rs e) (rw (t .0, g ∙ t .2) at p) (rw (t .0) at h))
   out-packs (again q rs a) e f g = absurd (strict-reading .decides s q a rs e)
   out-packs (bad x) e f g = let z : _≡_ {A = ℕ} 0 1 = cc in absurd (omega arith)
 
 pub readings : (s c c′ : List ℕ) (n : ℕ) → Read s c (reading.Rows n) c′
-    → (b b′ : List ℕ) (r : Packed) → Pack (take (n * 4) c′) b r b′ → n * 7 ≤ length b → r ≡ packed.Bytes (n * 7)
+    → (b b′ : List ℕ) (r : Outcome) → Pack (take (n * 4) c′) b r b′ → n * 7 ≤ length b → r ≡ Count (n * 7)
 readings s c c′ n d b b′ r p h = out-packs s c c′ n b b′ r p h (strict s) refl (d .answer) (d .rows)

@@ -21,11 +21,11 @@ use Rattle.pack.specs.Seven.{unpacking, endFits, spanFits, every}
 use Rattle.pack.specs.Pack.{isPackable}
 use Rattle.pack.specs.Unpack.{isUnpackable}
 
--- rows that are left where a is awaited: whether they keep the rules and each passes the test t
+-- whether the rows rs keep the rules where a is awaited, and each passes the test t
 abbrev pub judged : (Row → Bool) → Await → List Row → Bool
 judged t a rs = whole (run a rs) && every t rs
 
--- the rows rs are left, the masks m stand for what is awaited, and whether the rows rs pass is the answer x
+-- the rows rs are still to be judged, the masks m stand for what is awaited, and the answer x is whether the rows rs pass
 pub record Judging (t : Row → Bool) (x : Bool) (m : Masks) (rs : List Row) : Type 0 where
   pub await : Await
   pub stand : m ≡ masksOf await

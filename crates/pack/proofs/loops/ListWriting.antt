@@ -23,7 +23,7 @@ module _ (l : List ℕ) (i a b c d e f g : ℕ) (h : i + 7 ≤ length l) where
       let e₆ : i + 6 ≡ suc (suc (suc (suc (suc (suc i))))) = omega arith in
       rw (e₁, e₂, e₃, e₄, e₅, e₆) (sets-eq (a ∷ b ∷ c ∷ d ∷ e ∷ f ∷ g ∷ []) l i h)
 
--- of the list t, the first p stand in out, over what b held
+-- the first p numbers of t stand in front of out, and behind them stands what b held; rest is still to be written
 pub record Written (t b : List ℕ) (p : ℕ) (rest out : List ℕ) : Type 0 where
   pub front : List ℕ
   pub size : length front ≡ p

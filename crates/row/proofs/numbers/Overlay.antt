@@ -1,6 +1,6 @@
 -- Rows put into lent numbers, and rows moved on in a file.
 --     length-put, put-sets, put-out    a row that is put: the length stays; the code's four stores; a row that does not fit
---     put-overlay, overlay-append      a row may be put after the rows behind it; one list of rows after another
+--     put-overlay, overlay-append      a row may be put before or after the rows behind it; two lists of rows, one after the other
 --     overlay-length, overlay-fits     the length stays; rows that all fit stand in front
 --     moved-length, moved-append, moved-none, row-up      rows moved on in a file
 -- Assumes nothing.
@@ -109,7 +109,7 @@ unfolding moved
 moved-append d [] ss = refl
 moved-append d (r ∷ rs) ss = ap (λ (l : List Row). rowUp d r ∷ l) (moved-append d rs ss)
 
--- as the code adds: the text's place in the file first
+-- the code adds the text's place in the file on the left
 pub row-up : (d : ℕ) (k : Kind) (a e : ℕ) → row k (d + a) (d + e) ≡ rowUp d (row k a e)
 row-up d k a e =
     ap₂ (λ (x y : ℕ). record { kind = kindOf k; detail = 0; start = x; end = y }) (same d a) (same d e)
@@ -117,7 +117,7 @@ row-up d k a e =
     same : (x y : ℕ) → x + y ≡ y + x
     same x y = omega arith
 
--- a file that begins with the text
+-- rows of a text at the beginning of a file are not moved
 pub moved-none : (rs : List Row) → moved 0 rs ≡ rs
 unfolding moved
 moved-none [] = refl

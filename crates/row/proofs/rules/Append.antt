@@ -1,7 +1,7 @@
 -- The row rules, and damage, of rows that are put together or moved on.
 --     afterRow                      what may come after one row
 --     run-append, run-wrong         the rules over two lists; once broken, they stay broken
---     Free                          a part of the sequence may begin, or the sequence may end
+--     Free                          where a part of the sequence may begin, and the sequence may end
 --     rows-append, rows-moved       two lists that keep the rules keep them together; rows moved on keep them as before
 --     clean-append, clean-moved     the same of damage
 -- Assumes nothing.
@@ -34,7 +34,7 @@ run-wrong (r ∷ rs) = by (isDetail (r .kind) (r .detail)) (run-wrong rs)
     by true e = e
     by false e = e
 
--- a part of the sequence may begin, or the sequence end
+-- here a part of the sequence may begin, and the sequence may end
 pub data Free : Await → Type 0 where
   none : (f : Bool) → Free (part f)
   one : (f : Bool) → Free (chunks f)
@@ -43,13 +43,13 @@ pub free-whole : (a : Await) → Free a → whole a ≡ true
 free-whole a (none f) = refl
 free-whole a (one f) = refl
 
--- what b allows, a allows
+-- whatever row may come where b is awaited may come where a is awaited
 data Covers : Await → Await → Type 0 where
   same : {a : Await} → Covers a a
   free : {a : Await} → Free a → Covers a (part false)
   over : {a : Await} → Covers a wrong
 
--- a part begins the same way wherever it may
+-- every part of the sequence that may begin outside an entry may also begin after a field
 begun-covers : (f : Bool) (n : ℕ) → Covers (begun f n) (begun false n)
 begun-covers true n = by (eqb n 1) (eqb n 4) refl
   where

@@ -1,8 +1,8 @@
 -- The turns of the row check, by what its code does.
 --     await-back, or-wrong      the code's words for what may come next
 --     begun-else                a kind that begins nothing
---     turn, ended               any row; the end
---     named-value, named-other  a name, and then a value row or another
+--     turn, ended               after any row; after the last row
+--     named-value, named-other  after a field's or definition's name: a value row stands there, or something else
 --     bad-rows, bad-count       what it refuses
 -- Assumes nothing.
 use Prim.Native.Nat.{ℕ, _+_, _%_, _≤_}
@@ -82,7 +82,7 @@ refused-row i f (r ∷ rs) e = by (eqb (r .kind) 5) (eqb (r .detail) 0) refl ref
 
 -- ---- one turn of the check at number i
 
--- what the check has still to find: the rows from number i on, where a is awaited
+-- whether all rows keep the rules comes down to the rows from number i on, where a is awaited
 abbrev pub Left : List ℕ → Await → ℕ → Type 0
 Left l a i = whole (run (part false) (rowsOf l)) ≡ whole (run a (rowsOf (drop i l)))
 
@@ -117,7 +117,7 @@ module _ (l : List ℕ) (i : ℕ) where
   unfolding isSound isRows run
   ended s h e o = rw (e, o, rows-end l i (omega arith))
 
--- a name, and then a value row or none
+-- after a name: a value row, or something else
 module _ (l : List ℕ) (i : ℕ) (s r : State) (f : Bool) (v : Found) (h : i + 4 ≤ length l) (e : Steps l i s r) (p : r ≡ state.Value f)
     (q : v ≡ foundOf (i + 4) (rowsOf (drop (i + 4) l))) (o : Left l (awaitOf s) i) where
   named : Left l (value f) (i + 4)

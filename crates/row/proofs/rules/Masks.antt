@@ -1,7 +1,7 @@
 -- Judging rows by masks comes to the same as judging them by the row rules.
 --     bit-kept                     bit k of a mask is set exactly if a row of kind k keeps the rules
---     masks-step, masks-whole      a row, and the end, by masks
---     after-chunk, after-else      the masks after a row, where the code goes by ranges of kinds
+--     masks-step, masks-whole      the masks after a row; whether the sequence may end
+--     after-chunk, after-else      the masks in the code's arms that take several kinds
 -- Assumes nothing.
 use Prim.Native.Nat.{ℕ, _≤_, _<_}
 use native.Mathlib.Omega.{arith}
@@ -19,7 +19,7 @@ use Rattle.row.proofs.rules.SmallKinds.{next-large}
 
 -- ---- a test of whatever may be awaited, which the checker computes
 
--- the test passes, whatever is awaited
+-- the test t passes at each thing that may be awaited
 abbrev Each : (Await → Bool) → Type 0
 Each t =
     T (t (part false)) × T (t (part true)) × T (t type) × T (t key) × T (t (value false)) × T (t (value true))
@@ -45,7 +45,7 @@ at-each t x wrong = x .11
 agree : (x y : Await → Bool) → Each (λ a. Bool·beq (x a) (y a)) → (a : Await) → x a ≡ y a
 agree x y e a = beq-eq (x a) (y a) (at-each (λ a. Bool·beq (x a) (y a)) e a)
 
--- the same for the kinds that there are
+-- the test t passes at each of the eleven kinds
 abbrev kinds : (Await → ℕ → Bool) → Await → Bool
 kinds t a = below (t a) 11
 
@@ -54,7 +54,7 @@ at-kind t e a k h = each (t a) 11 (at-each (kinds t) e a) k h
 
 -- ---- the masks' bits
 
--- the rules are kept
+-- the rules are not broken
 abbrev pub kept : Await → Bool
 kept (part f) = true
 kept type = true

@@ -1,6 +1,6 @@
 -- The first piece of a text and the rest, the boundaries of a text, and what strict reading opens there.
 --     Seam, Front, front                  the first piece of a text, and the rest
---     meet, parts                         a piece and the rest meet as strict reading wants it; at a boundary a text is two such parts
+--     meet, parts                         a piece and the rest are two texts as in ReadingAcrossCut; so are the two parts at a boundary
 --     head-opens, head-fresh              a text that begins with "@" is `fresh`, and continues no character of the text before it
 --     seam-boundary, boundary-shift       where the parts meet is a boundary; the second part's boundaries are the whole's
 --     opens-first, pass                   what is opened at the first byte; what is opened past a place that was opened
@@ -64,7 +64,7 @@ unfolding lined
 last-byte b [] r d h = eqb-true b 0x0A h
 last-byte b (c ∷ xs) r d h = last-byte c xs r d h
 
--- a text that ends in a newline is one before it
+-- a text that ends in a newline is another text and that newline
 last-split : (b : ℕ) (xs : List ℕ) → lined (b ∷ xs) ≡ true → (ys : List ℕ) × (b ∷ xs ≡ ys ++ 0x0A ∷ []) × (length ys ≡ length xs)
 unfolding lined
 last-split b [] h = ([], ap (λ (c : ℕ). c ∷ []) (eqb-true b 0x0A h), refl)

@@ -31,7 +31,7 @@ Halts t (Char c n) = t c ≡ false
 abbrev pub Clear : List ℕ → ℕ → Type 0
 Clear s j = (i c n : ℕ) → see s i ≡ Char c n → i < j → n ≤ j
 
--- a scan ends at a place where it must, and at no later one than any such that no character goes over
+-- the scan ends at a place that stops it, and no later than at any such place that no character goes over
 pub record Scanned (t : ℕ → Bool) (s : List ℕ) (p q : ℕ) : Type 0 where
   pub found : scan {P = Row} t s p ≡ ok q []
   pub from : p ≤ q
@@ -48,7 +48,7 @@ module _ (t : ℕ → Bool) (s : List ℕ) where
   scan-turned : (p : ℕ) → scan {P = Row} t s p ≡ after (eaten t (see s p) (turn 0 s) (stop s p)) (λ b q. many (scanTurn t) b s q)
   scan-turned p = many-turn (λ a. scan-turn-good t a .kept) 0 s p
 
-  -- where it must stop it eats nothing
+  -- a scan that is stopped at once eats nothing
   pub scan-stays : (p : ℕ) → Halts t (see s p) → scan {P = Row} t s p ≡ ok p []
   scan-stays p h = scan-turned p ∙ go (see s p) h
     where

@@ -31,7 +31,7 @@ use Rattle.salvage.proofs.cutting.ScanEnd.{Halts, Clear, Scanned, true-
 
 -- ---- after the white space
 
--- by what stands there
+-- an item, by what is seen at its place
 abbrev pub itemBy : List ℕ → ℕ → Seen → Out
 itemBy s p x =
     eaten (is 0x40) x (λ n. andThen (entry s p) (turn 0 s))

@@ -7,14 +7,11 @@ use Prim.Native.Nat.{ℕ, _+_, _/_, _≤_}
 use native.Mathlib.Omega.{arith}
 use mathlib.Core.Path.{_≡_, refl, sym, ap, _∙_, subst}
 use mathlib.Core.Logic.{_↔_}
-use mathlib.Core.Bool.{Bool, true, false, cond}
+use mathlib.Core.Bool.{true, false}
 use mathlib.Core.List.{List, _∷_, _++_}
 use lib.ListN.{length, length-append}
-use lib.Dec.{leb}
-use borrow.Author.Tests.{leb-true, le-leb}
+use borrow.Author.Tests.{le-leb}
 use Rattle.row.specs.declared.fault.Fault.{Fault}
-use Rattle.row.specs.declared.fault.Reason.the-variants.{NoRoom}
-use Rattle.row.specs.Fault.{nowhere}
 use Rattle.raw.specs.declared.answer.Reading.{Reading}
 use Rattle.raw.specs.declared.answer.Reading.the-variants as reading
 use Rattle.row.specs.Row.{Row, moved}
@@ -24,7 +21,7 @@ use Rattle.raw.specs.Read.{strict, readingOut, leftOut}
 use Rattle.row.specs.Rules.{clean}
 use Rattle.raw.proofs.Strict.{strict-reading}
 use Rattle.row.proofs.numbers.Overlay.{moved-length}
-use Rattle.raw.proofs.StrictSteps.{strict-bad}
+use Rattle.raw.proofs.StrictSteps.{strict-bad, rows-told}
 use Rattle.salvage.specs.Salvage.{Texts, cut, damaged, told, pieces, salvageOf, salvaged, Salvage}
 use Rattle.salvage.specs.Demand3.{lined, fresh, Holds, joined, CauseOf, PieceGives}
 use Rattle.salvage.proofs.cutting.ScanEnd.{true-not-false}
@@ -84,7 +81,7 @@ module _ (s b b′ : List ℕ) (r : Reading) (h : length s ≤ mostBytes) (c : S
   unfolding salvaged
   call-is = rw (le-leb (length s) mostBytes h) refl
 
-  -- where there is room
+  -- where there is room, the rows stand in front
   call-holds : length (salvageOf s) ≤ length b / 4 → Holds (salvageOf s) b r b′
   call-holds l =
       let t = le-leb (length (salvageOf s)) (length b / 4) l in
@@ -93,15 +90,11 @@ module _ (s b b′ : List ℕ) (r : Reading) (h : length s ≤ mostBytes) (c : S
         rows = c .rows ∙ ap (λ (o : Out). leftOut o b) call-is ∙ rw t refl;
       }
 
-  -- and where rows are answered there is
+  -- where rows are answered, there was room
   call-room : (n : ℕ) → r ≡ reading.Rows n → (n ≡ length (salvageOf s)) × (length (salvageOf s) ≤ length b / 4)
-  call-room n e = by (leb (length (salvageOf s)) (length b / 4)) refl (sym e ∙ c .answer ∙ ap (λ (o : Out). readingOut o (length b)) call-is)
-    where
-      by : (x : Bool) → leb (length (salvageOf s)) (length b / 4) ≡ x
-          → reading.Rows n ≡ cond x (reading.Rows (length (salvageOf s))) (reading.Refused (nowhere NoRoom))
-          → (n ≡ length (salvageOf s)) × (length (salvageOf s) ≤ length b / 4)
-      by true d k = (cc, leb-true (length (salvageOf s)) (length b / 4) d)
-      by false d k = let z : _≡_ {A = ℕ} 0 1 = cc in absurd (omega arith)
+  call-room n e =
+      let t = rows-told (length s) (salvageOf s) b (sym e ∙ c .answer ∙ ap (λ (o : Out). readingOut o (length b)) call-is) in
+      (t .0, t .1)
 
 module _ (a s x y b x′ y′ b′ : List ℕ) (m n : ℕ) (r : Reading) (h : lined a ≡ true) (k : fresh s ≡ true) (l : length (a ++ s) ≤ mostBytes) where
   pub calls : m + n ≤ length b / 4 → Salvage a x (reading.Rows m) x′ → Salvage s y (reading.Rows n) y′ → Salvage (a ++ s) b r b′

@@ -50,7 +50,7 @@ salvage-none : (r : List ℕ) (d : ℕ) → r ≡ [] → moved d (salvageOf r) �
 unfolding salvageOf pieces cut moved
 salvage-none r d e = ap (λ (l : List ℕ). moved d (salvageOf l)) e
 
--- the file of two texts, from the second on
+-- reading two texts from the second on is reading the second, moved
 rest : (a s : List ℕ) (k : ℕ) → length a ≡ suc k → file (a ++ s) (suc k) ≡ shifted (length a) (file s 0)
 rest a s k e = let x : suc k ≡ 0 + length a = omega arith in ap (file (a ++ s)) x ∙ file-good .shift a .moves s 0
 
@@ -89,14 +89,14 @@ module _ (b : ℕ) (s : List ℕ) where
   rows : salvageOf (b ∷ s) ≡ told w (strict w) ++ moved (length w) (salvageOf r)
   rows = salvage-front (b ∷ s) w r (f .3)
 
-  -- one piece
+  -- where the first piece is the only one
   rows-alone : r ≡ [] → salvageOf (b ∷ s) ≡ told w (strict w)
   rows-alone e = rows ∙ ap (λ (l : List Row). told w (strict w) ++ l) (salvage-none r (length w) e) ∙ append-nil (told w (strict w))
 
   strict-alone : r ≡ [] → strict (b ∷ s) ≡ strict w
   strict-alone e = ap strict (whole ∙ ap (λ (l : List ℕ). w ++ l) e ∙ append-nil w)
 
-  -- two texts that meet, both accepted
+  -- where the first piece and the rest are accepted, so is the whole
   both-accepted : length (b ∷ s) ≤ mostBytes → (lined w ≡ true) × (head r ≡ true)
       → Accepts w (told w (strict w)) → Accepts r (salvageOf r) → Accepts (b ∷ s) (salvageOf (b ∷ s))
   both-accepted h m x y =
@@ -127,7 +127,7 @@ module _ (b : ℕ) (s : List ℕ) where
 
   -- ---- the whole accepted
 
-  -- and its rows, where the rest gives what strict reading does
+  -- where the whole is accepted, and the rest gives the rows of strict reading, so does the whole
   both-same : (m : (lined w ≡ true) × (head r ≡ true)) (rs : List Row) → strict (b ∷ s) ≡ ok (length (b ∷ s)) rs
       → Opens (w ++ r) 0 (suc (length (f .0))) → ((ss : List Row) → strict r ≡ ok (length r) ss → salvageOf r ≡ ss) → salvageOf (b ∷ s) ≡ rs
   both-same m rs e p ih =
@@ -155,7 +155,7 @@ accepts s l k =
     let a = accepts-by (length s) s (omega arith) l k in
     a .1 ∙ ap (λ (n : ℕ). ok n (salvageOf s)) (strict-reading .accepts s (a .0) (salvageOf s) (a .1) .end)
 
--- and every boundary opens an entry: salvage of what stands before it shows no damage either
+-- every boundary opens an entry, because salvage of what stands before it shows no damage either
 pub opened : (s : List ℕ) → length s ≤ mostBytes → clean (salvageOf s) ≡ true → {e : ℕ} → Boundary s e → Opens s 0 e
 opened s l k (first h) = opens-first s h
 opened s l k (line e h g) =
@@ -171,7 +171,7 @@ opened s l k (line e h g) =
 
 -- ---- strict reading accepts the whole: so it does each piece, with the same rows
 
--- what is opened in the rest, where the whole opens every boundary
+-- where the whole opens an entry at every boundary, so does the rest
 -- every boundary of a text opens one of its entries
 abbrev AllOpen : List ℕ → Type 0
 AllOpen s = (e : ℕ) → Boundary s e → Opens s 0 e

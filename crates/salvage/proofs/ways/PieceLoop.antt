@@ -34,7 +34,7 @@ use Rattle.salvage.proofs.cutting.Boundaries.{head-fresh}
 
 -- ---- the rows that are left
 
--- those of the pieces from p on
+-- the rows of the pieces from p on
 abbrev left : List ℕ → ℕ → List Row
 left s p = pieces p (cut (drop p s))
 
@@ -65,7 +65,7 @@ module _ (rs : List Row) {t : Tally} (d : t ≡ tallyOf rs) {n : ℕ} where
 
 -- ---- the invariant
 
--- b₀ was lent, and holds b now; the pieces before p gave n rows
+-- the numbers b₀ were lent and are b now; the pieces before p gave n rows
 pub record Going (s b₀ b : List ℕ) (v p n : ℕ) (sound : Bool) : Type 0 where
   pub place : p ≤ length s
   pub most : n ≤ 8 * p
@@ -89,7 +89,7 @@ going-start s b v k =
 
 -- ---- the next piece
 
--- the numbers in front, with the first of a part that comes back
+-- the front of the numbers, after the part from i on has come back as y
 put-front : (b y : List ℕ) (i m : ℕ) → i ≤ length b → m ≤ length y
     → take (i + m) (putMid i (length b - i) b y) ≡ take i b ++ take m y
 put-front b y i m h l =

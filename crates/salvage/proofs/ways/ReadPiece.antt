@@ -50,7 +50,7 @@ module _ (w : List ℕ) (base : ℕ) (b : List ℕ) (f : Fault) where
 
 -- ---- `read_piece`
 
--- rows that are laid over numbers where all of them fit stand in front
+-- rows that all fit stand in front of the numbers that they were laid over
 overlay-front : (base : ℕ) (rs : List Row) (b : List ℕ) {b′ : List ℕ} → b′ ≡ overlay b 0 (moved base rs) → length rs * 4 ≤ length b
     → take (length rs * 4) b′ ≡ flat (moved base rs)
 overlay-front base rs b e h =

@@ -72,7 +72,7 @@ module _ (s b : List ℕ) {n : ℕ} (c : Counted s n) where
       let o : b′ ≡ overlay b 0 (moved 0 rs) = subst (λ (o : Out). Room 0 o 0 b b′) e (p .room) in
       fits l (o ∙ ap (overlay b 0) (moved-none rs) ∙ overlay-fits rs b (omega (arith, c .rows)))
 
-  -- the pieces were lent the numbers that the rows fill
+  -- the pieces were lent just the numbers that the rows need
   pub salvage-fills : n ≤ length b / 4 → {r : Tally} {y : List ℕ} → Fills s (take (n * 4) b) r y
       → Salvage s b (reading.Rows n) (y ++ drop (n * 4) b)
   salvage-fills l {r} {y} p =
