@@ -56,30 +56,35 @@ are-chunks t l e = both-sound t l (validityOf t) (sym e)
 
 -- ---- a writer
 
-pub refused : (c : Checked) (w b : List ℕ) (f : Fault) → c ≡ checked.Refused f → Write c w b (writing.Refused f) b
-refused c w b f e = subst (λ (x : Checked). Write x w b (writing.Refused f) b) (sym e) (record { answer = refl; bytes = refl })
+module _ {c : Checked} {w b : List ℕ} where
+  pub refused : {f : Fault} → c ≡ checked.Refused f → Write c w b (writing.Refused f) b
+  refused {f} e = subst (λ (x : Checked). Write x w b (writing.Refused f) b) (sym e) (record { answer = refl; bytes = refl })
 
-pub no-room : (c : Checked) (w b : List ℕ) → c ≡ checked.Sound → totalOf w (length b) ≡ total.More → Write c w b (writing.Refused (nowhere NoRoom)) b
-no-room c w b e q = subst (λ (x : Checked). Write x w b (writing.Refused (nowhere NoRoom)) b) (sym e) (by (leb (length w) (length b)) refl q)
-  where
-    by : (x : Bool) → leb (length w) (length b) ≡ x → cond x (total.Bytes (length w)) total.More ≡ total.More → Write checked.Sound w b (writing.Refused (nowhere NoRoom)) b
-    by true p q = let z : _≡_ {A = ℕ} 0 1 = cc in absurd (omega arith)
-    by false p q = record { answer = rw p refl; bytes = rw p refl }
+  pub no-room : c ≡ checked.Sound → totalOf w (length b) ≡ total.More → Write c w b (writing.Refused (nowhere NoRoom)) b
+  no-room e q = subst (λ (x : Checked). Write x w b (writing.Refused (nowhere NoRoom)) b) (sym e) (by (leb (length w) (length b)) refl q)
+    where
+      by : (x : Bool) → leb (length w) (length b) ≡ x → cond x (total.Bytes (length w)) total.More ≡ total.More →
+          Write checked.Sound w b (writing.Refused (nowhere NoRoom)) b
+      by true p q = let z : _≡_ {A = ℕ} 0 1 = cc in absurd (omega arith)
+      by false p q = record { answer = rw p refl; bytes = rw p refl }
 
-pub wrote : (c : Checked) (w b : List ℕ) (n : ℕ) (r : Total) (b′ : List ℕ) → c ≡ checked.Sound → totalOf w (length b) ≡ total.Bytes n → Fills w (length b) b r b′ → Write c w b (writing.Written n) b′
-wrote c w b n r b′ e q f = subst (λ (x : Checked). Write x w b (writing.Written n) b′) (sym e) (by (leb (length w) (length b)) refl q)
-  where
-    by : (x : Bool) → leb (length w) (length b) ≡ x → cond x (total.Bytes (length w)) total.More ≡ total.Bytes n → Write checked.Sound w b (writing.Written n) b′
-    by true p q =
-        let m : length w ≡ n = cc in
-        let l = leb-true (length w) (length b) p in
-        record { answer = rw p (ap writing.Written (sym m)); bytes = f .bytes l ∙ sets-fits w b l ∙ rw p refl }
-    by false p q = let z : _≡_ {A = ℕ} 0 1 = cc in absurd (omega arith)
+  pub wrote : {n : ℕ} {r : Total} {b′ : List ℕ} → c ≡ checked.Sound → totalOf w (length b) ≡ total.Bytes n → Fills w (length b) b r b′ →
+      Write c w b (writing.Written n) b′
+  wrote {n} {b′ = b′} e q f = subst (λ (x : Checked). Write x w b (writing.Written n) b′) (sym e) (by (leb (length w) (length b)) refl q)
+    where
+      by : (x : Bool) → leb (length w) (length b) ≡ x → cond x (total.Bytes (length w)) total.More ≡ total.Bytes n →
+          Write checked.Sound w b (writing.Written n) b′
+      by true p q =
+          let m : length w ≡ n = cc in
+          let l = leb-true (length w) (length b) p in
+          record { answer = rw p (ap writing.Written (sym m)); bytes = f .bytes l ∙ sets-fits w b l ∙ rw p refl }
+      by false p q = let z : _≡_ {A = ℕ} 0 1 = cc in absurd (omega arith)
 
-pub written : (c : Checked) (w b : List ℕ) (n : ℕ) (b′ : List ℕ) → Write c w b (writing.Written n) b′ → (c ≡ checked.Sound) × (take n b′ ≡ w)
-written (checked.Refused f) w b n b′ h = let e = h .answer in let z : _≡_ {A = ℕ} 0 1 = cc in absurd (omega arith)
-written checked.Sound w b n b′ h = (refl, by (leb (length w) (length b)) (h .answer) (h .bytes))
+pub written : (c : Checked) {w b b′ : List ℕ} {n : ℕ} → Write c w b (writing.Written n) b′ → (c ≡ checked.Sound) × (take n b′ ≡ w)
+written (checked.Refused f) h = let e = h .answer in let z : _≡_ {A = ℕ} 0 1 = cc in absurd (omega arith)
+written checked.Sound {w} {b} {b′} {n} h = (refl, by (leb (length w) (length b)) (h .answer) (h .bytes))
   where
-    by : (x : Bool) → writing.Written n ≡ cond x (writing.Written (length w)) (writing.Refused (nowhere NoRoom)) → b′ ≡ cond x (w ++ drop (length w) b) b → take n b′ ≡ w
+    by : (x : Bool) → writing.Written n ≡ cond x (writing.Written (length w)) (writing.Refused (nowhere NoRoom)) →
+        b′ ≡ cond x (w ++ drop (length w) b) b → take n b′ ≡ w
     by true e q = let m : length w ≡ n = cc in ap (take n) q ∙ take-at w (drop (length w) b) n m
     by false e q = let z : _≡_ {A = ℕ} 0 1 = cc in absurd (omega arith)

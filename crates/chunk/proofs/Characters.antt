@@ -110,7 +110,11 @@ module _ (c : ℕ) (e : isScalar c ≡ true) where
 abbrev inOctets : Written → Written
 inOctets x = written (utf8Of (x .text)) (x .white)
 
-module _ (c : ℕ) (cs : List ℕ) (e : isScalar c ≡ true) (ih : (w : Bool) (u : List ℕ) → lines w u (utf8Of cs) ≡ inOctets (charLines (white w u) cs)) (w : Bool) (u : List ℕ) where
+-- whatever stood before
+abbrev LinesOf : List ℕ → Type 0
+LinesOf cs = (w : Bool) (u : List ℕ) → lines w u (utf8Of cs) ≡ inOctets (charLines (white w u) cs)
+
+module _ (c : ℕ) (cs : List ℕ) (e : isScalar c ≡ true) (ih : LinesOf cs) (w : Bool) (u : List ℕ) where
   line-turn : isLineEnd c ≡ true → lines w u (octets c ++ utf8Of cs) ≡ inOctets (charLines (white w u) (c ∷ cs))
   unfolding lines charLines utf8Of octets isWhitespace whiteSpace
   line-turn p = ap (λ (v : List ℕ). lines w u (v ++ utf8Of cs)) (line-code c e p) ∙ rw p (by (white w u))
@@ -128,19 +132,19 @@ module _ (c : ℕ) (cs : List ℕ) (e : isScalar c ≡ true) (ih : (w : Bool) (u
       ∙ ap (before (octets c)) (ih w (u ++ octets c) ∙ ap (λ (v : Bool). inOctets (charLines v cs)) (white-code w u c e))
       ∙ rw p refl
 
-lined-on : (cs : List ℕ) → Scalars cs → (w : Bool) (u : List ℕ) → lines w u (utf8Of cs) ≡ inOctets (charLines (white w u) cs)
+lined-on : (cs : List ℕ) → Scalars cs → LinesOf cs
 unfolding lines charLines utf8Of
 lined-on [] s w u = refl
 lined-on (c ∷ cs) (chars.next e s) w u = by (isLineEnd c) refl (lined-on cs s)
   where
-    by : (x : Bool) → isLineEnd c ≡ x → ((w : Bool) (u : List ℕ) → lines w u (utf8Of cs) ≡ inOctets (charLines (white w u) cs)) →
-        lines w u (octets c ++ utf8Of cs) ≡ inOctets (charLines (white w u) (c ∷ cs))
+    by : (x : Bool) → isLineEnd c ≡ x → LinesOf cs → lines w u (octets c ++ utf8Of cs) ≡ inOctets (charLines (white w u) (c ∷ cs))
     by true p ih = line-turn c cs e ih w u p
     by false p ih = char-turn c cs e ih w u p
 
 -- ---- escapes
 
-escape-turn : (verb : Bool) (c : ℕ) (cs : List ℕ) → isScalar c ≡ true → (x : Bool) → isEscapable c verb false ≡ x → escaped verb (utf8Of cs) ≡ utf8Of (charEscaped verb cs) →
+escape-turn : (verb : Bool) (c : ℕ) (cs : List ℕ) → isScalar c ≡ true → (x : Bool) → isEscapable c verb false ≡ x →
+    escaped verb (utf8Of cs) ≡ utf8Of (charEscaped verb cs) →
     escaped verb (octets c) ++ escaped verb (utf8Of cs) ≡ utf8Of (cond x (0x5C ∷ c ∷ charEscaped verb cs) (c ∷ charEscaped verb cs))
 unfolding utf8Of octets
 escape-turn verb c cs e true p ih =

@@ -47,7 +47,9 @@ module _ (t : List ℕ) (a i j : ℕ) (h : a ≤ j) (e : i ≡ j + 1) (l : i ≤
   last-pass q = back ∙ rw (not-false (within tail (getD t j 0)) (boundary-in t j (omega arith) ∙ q)) refl
 
   pub last-found : isBoundary t j ≡ true → j ≡ a + lastAt (part t a i)
-  last-found q = sum a j _ _ (length-part t a j h (omega arith)) h (back ∙ rw (not-true (within tail (getD t j 0)) (boundary-in t j (omega arith) ∙ q)) refl)
+  last-found q =
+      let other = not-true (within tail (getD t j 0)) (boundary-in t j (omega arith) ∙ q) in
+      sum a j _ _ (length-part t a j h (omega arith)) h (back ∙ rw other refl)
     where
       sum : (a j n k : ℕ) → n ≡ j - a → a ≤ j → k ≡ 0 + n → j ≡ a + k
       sum a j n k p q r = omega arith
@@ -78,7 +80,9 @@ last-less t a e at h l q =
 last-append : (u w : List ℕ) (best i : ℕ) → lastFrom best i (u ++ w) ≡ lastFrom (lastFrom best i u) (i + length u) w
 unfolding lastFrom
 last-append [] w best i = ap (λ (k : ℕ). lastFrom best k w) (omega arith)
-last-append (b ∷ u) w best i = last-append u w (cond (within tail b) best i) (suc i) ∙ ap (λ (k : ℕ). lastFrom (lastFrom (cond (within tail b) best i) (suc i) u) k w) (omega arith)
+last-append (b ∷ u) w best i =
+    let now = cond (within tail b) best i in
+    last-append u w now (suc i) ∙ ap (λ (k : ℕ). lastFrom (lastFrom now (suc i) u) k w) (omega arith)
 
 last-tails : (w : List ℕ) (best i : ℕ) → ((n : ℕ) → n < length w → within tail (getD w n 0) ≡ true) → lastFrom best i w ≡ best
 unfolding lastFrom
@@ -88,7 +92,8 @@ last-tails (b ∷ w) best i h = rw (h 0 (omega arith)) (last-tails w best (suc i
 last-one : (w : List ℕ) (best i : ℕ) → isChar w ≡ true → lastFrom best i w ≡ i
 unfolding lastFrom
 last-one [] best i e = absurd (omega (arith, char-some [] e .0))
-last-one (b ∷ w) best i e = rw (char-first (b ∷ w) [] 0 e) (last-tails w i (suc i) (λ n l. char-further (b ∷ w) (suc n) 0 e (omega arith) (omega arith)))
+last-one (b ∷ w) best i e =
+    rw (char-first (b ∷ w) [] 0 e) (last-tails w i (suc i) (λ n l. char-further (b ∷ w) (suc n) 0 e (omega arith) (omega arith)))
 
 pub last-char : (u w : List ℕ) → isChar w ≡ true → lastAt (u ++ w) ≡ length u
 last-char u w e = last-append u w 0 0 ∙ last-one w (lastAt u) (0 + length u) e ∙ none (length u)
@@ -107,7 +112,8 @@ unfolding seeFrom
 seen [] i h = absurd (omega arith)
 seen (b ∷ t) i h = refl
 
-pub code-seen : (t v : List ℕ) (at to : ℕ) (r r₁ : Seen) → v ≡ take to t → at < to → to ≤ length t → r ≡ seeFrom (drop at v) at → r ≡ r₁ → codeIn r₁ ≡ code (part t at to)
+pub code-seen : (t v : List ℕ) (at to : ℕ) (r r₁ : Seen) → v ≡ take to t → at < to → to ≤ length t → r ≡ seeFrom (drop at v) at → r ≡ r₁ →
+    codeIn r₁ ≡ code (part t at to)
 code-seen t v at to r r₁ e l n h q =
     sym (ap codeIn q)
     ∙ ap codeIn h
@@ -129,7 +135,8 @@ white-none t a e h l = sym (ap endsWhite (ap (λ (n : ℕ). part t n e) same ∙
     same : a ≡ e
     same = omega arith
 
-pub white-last : (t : List ℕ) (a e at c : ℕ) → a < e → e ≤ length t → at ≡ a + lastAt (part t a e) → c ≡ code (part t at e) → isWhitespace c ≡ endsWhite (part t a e)
+pub white-last : (t : List ℕ) (a e at c : ℕ) → a < e → e ≤ length t → at ≡ a + lastAt (part t a e) → c ≡ code (part t at e) →
+    isWhitespace c ≡ endsWhite (part t a e)
 white-last t a e at c l n p q =
     ap isWhitespace (q ∙ ap (λ (n : ℕ). code (part t n e)) p ∙ sym (ap code (drop-part t a e (lastAt (part t a e)))))
     ∙ by (part t a e) (omega (arith, l, length-part t a e (omega arith) n))

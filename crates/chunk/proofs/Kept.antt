@@ -5,15 +5,18 @@
 -- Assumes nothing.
 use Prim.Native.Nat.{ℕ, _+_, _*_, _%_, _≤_}
 use native.Mathlib.Omega.{arith}
-use mathlib.Core.Path.{_≡_, refl, ap, subst, _∙_}
-use mathlib.Core.Bool.{Bool, true, false}
+use mathlib.Core.Path.{_≡_, refl, ap, ap₂, subst, _∙_}
+use mathlib.Core.Bool.{Bool, true, false, not, _&&_, _||_}
 use mathlib.Core.List.{List, [], _∷_}
-use borrow.Author.Tests.{ne-eqb}
+use lib.Dec.{eqb, leb}
+use borrow.Author.Tests.{ne-eqb, leb-true}
 use Rattle.text.specs.Utf8.{isChar, Octets, isScalar, octets, value, gather}
+use Rattle.text.specs.Class.{mark}
+use Rattle.text.proofs.general.Tests.{both-true}
 use Rattle.text.proofs.sequences.Lengths.{Shape, one, two, three, four, char-shape, shape-char}
 use Rattle.text.proofs.sequences.Octets.{octets-char}
 use Rattle.text.proofs.sequences.ScalarValues.{writes, reads}
-use Rattle.chunk.specs.Format.{isLineEnd, isEscapable, escaped}
+use Rattle.chunk.specs.Format.{isLineEnd, alwaysMarks, plainMarks, isEscapable, escaped}
 use Rattle.chunk.specs.Inner.{plain}
 
 pub ascii : (b : ℕ) → b ≤ 0x7F → isChar (b ∷ []) ≡ true
@@ -26,10 +29,27 @@ ascii-text b h = octets-char (b ∷ []) (ascii b h)
 pub high-line : (b : ℕ) → 0x80 ≤ b → isLineEnd b ≡ false
 high-line b h = rw (ne-eqb b 0x0A (λ e. omega arith), ne-eqb b 0x0D (λ e. omega arith))
 
+-- each is a mark of ASCII
+abbrev low-marks : List ℕ → Bool
+low-marks [] = true
+low-marks (m ∷ ms) = leb m 0x7F && low-marks ms
+
+high-mark : (b : ℕ) → 0x80 ≤ b → (ms : List ℕ) → low-marks ms ≡ true → mark ms b ≡ false
+high-mark b h [] e = refl
+high-mark b h (m ∷ ms) e =
+    let l = both-true (leb m 0x7F) (low-marks ms) e in
+    let low = leb-true m 0x7F (l .0) in rw (ne-eqb b m (λ q. omega (arith, low, q, h))) (high-mark b h ms (l .1))
+
 pub high-escape : (verb : Bool) (b : ℕ) → 0x80 ≤ b → isEscapable b verb false ≡ false
 unfolding isEscapable
 high-escape verb b h =
-    rw (ne-eqb b 0x7B (λ e. omega arith), ne-eqb b 0x7D (λ e. omega arith), ne-eqb b 0x5C (λ e. omega arith), ne-eqb b 0x7E (λ e. omega arith), ne-eqb b 0x5E (λ e. omega arith), ne-eqb b 0x23 (λ e. omega arith), ne-eqb b 0x26 (λ e. omega arith), ne-eqb b 0x25 (λ e. omega arith), ne-eqb b 0x24 (λ e. omega arith), ne-eqb b 0x5F (λ e. omega arith), ne-eqb b 0x3A (λ e. omega arith))
+    let always = high-mark b h alwaysMarks refl in
+    let plain = high-mark b h plainMarks refl in
+    ap₂ (λ (x y : Bool). x || (y && not verb) || (eqb b 0x3A && false)) always plain ∙ by (eqb b 0x3A)
+  where
+    by : (z : Bool) → (false || (false && not verb) || (z && false)) ≡ false
+    by true = refl
+    by false = refl
 
 -- a sequence is a character of ASCII, or has no octet of ASCII
 pub data High : List ℕ → Type 0 where

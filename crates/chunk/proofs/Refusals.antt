@@ -25,7 +25,8 @@ module _ (t l w : List ℕ) (n : ℕ) (f : Fault) where
   by-room true e = let z : _≡_ {A = ℕ} 0 1 = cc in absurd (omega arith)
   by-room false e = let q : nowhere NoRoom ≡ f = cc in subst (WriteFault t l) q full
 
-  by-rows : (x : Bool) → areChunks t l ≡ x → writing.Refused f ≡ writingOf (cond x checked.Sound (checked.Refused (nowhere BadRows))) w n → WriteFault t l f
+  by-rows : (x : Bool) → areChunks t l ≡ x → writing.Refused f ≡ writingOf (cond x checked.Sound (checked.Refused (nowhere BadRows))) w n →
+      WriteFault t l f
   by-rows true p e = by-room (leb (length w) n) e
   by-rows false p e = let q : nowhere BadRows ≡ f = cc in subst (WriteFault t l) q (unsound p)
 

@@ -3,7 +3,7 @@
 -- Assumes nothing.
 use mathlib.Core.Path.{_≡_, sym, _∙_}
 use denote.Ref.{now}
-use Rattle.text.proofs.Unique.{One, Both}
+use Rattle.text.proofs.general.Outcomes.{One, Both}
 use Rattle.chunk.proofs.form.kind_number.Kinds as kind-number-kinds
 use Rattle.chunk.proofs.form.kind_number.Reads as kind-number
 use Rattle.chunk.proofs.form.kind_from.Kinds as kind-from-kinds
@@ -33,11 +33,13 @@ pub one-check : One 2 check-kinds.ps check-kinds.r check.Post
 one-check κs a x y s t p q = p ∙ sym q
 
 -- the same answer, and the same bytes
-pub one-format-verbatim : Both 3 format-verbatim-kinds.ps format-verbatim-kinds.r format-verbatim.Post (λ κs x s y t. (x ≡ y) × (now (s .1 .1 .0) ≡ now (t .1 .1 .0)))
+pub one-format-verbatim : Both 3 format-verbatim-kinds.ps format-verbatim-kinds.r format-verbatim.Post
+    (λ κs x s y t. (x ≡ y) × (now (s .1 .1 .0) ≡ now (t .1 .1 .0)))
 one-format-verbatim κs a x y s t p q = (p .answer ∙ sym (q .answer), p .bytes ∙ sym (q .bytes))
 
 pub one-is-escapable : One 0 is-escapable-kinds.ps is-escapable-kinds.r is-escapable.Post
 one-is-escapable κs a x y s t p q = p ∙ sym q
 
-pub one-to-biblatex-string : Both 3 to-biblatex-string-kinds.ps to-biblatex-string-kinds.r to-biblatex-string.Post (λ κs x s y t. (x ≡ y) × (now (s .1 .1 .1 .0) ≡ now (t .1 .1 .1 .0)))
+pub one-to-biblatex-string : Both 3 to-biblatex-string-kinds.ps to-biblatex-string-kinds.r to-biblatex-string.Post
+    (λ κs x s y t. (x ≡ y) × (now (s .1 .1 .1 .0) ≡ now (t .1 .1 .1 .0)))
 one-to-biblatex-string κs a x y s t p q = (p .answer ∙ sym (q .answer), p .bytes ∙ sym (q .bytes))

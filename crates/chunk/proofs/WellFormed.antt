@@ -20,7 +20,8 @@ use Rattle.chunk.specs.declared.form.Kind.the-variants.{Normal, Verbatim
 use Rattle.chunk.specs.declared.answer.Checked.the-variants as checked
 use Rattle.chunk.specs.declared.answer.Writing.the-variants as writing
 use Rattle.chunk.specs.Chunk.{Chunk, ChunkRow, chunkRows, chunkOf, chunksOf, isChunk, everyChunk, areChunks}
-use Rattle.chunk.specs.Format.{Written, before, isLineEnd, white, lines, formatOne, formatFrom, formatVerbatim, isEscapable, escaped, opening, bodyOf, closing, extraAfter, biblatexFrom, toBiblatexString}
+use Rattle.chunk.specs.Format.{Written, before, isLineEnd, white, lines, formatOne, formatFrom}
+use Rattle.chunk.specs.Format.{isEscapable, escaped, opening, bodyOf, closing, extraAfter, biblatexFrom, toBiblatexString}
 use Rattle.chunk.specs.Write.{checkedOf, Write}
 use Rattle.chunk.specs.WellFormed.{Texts, WellFormed}
 use Rattle.chunk.specs.WellFormed as texts
@@ -31,28 +32,34 @@ use Rattle.chunk.proofs.Answers.{are-chunks, written}
 
 -- ---- what is written of a text
 
-line-char : (b : ℕ) (s : List ℕ) → b ≤ 0x7F → ((w : Bool) (u : List ℕ) → Octets (lines w u s .text)) → (w : Bool) (u : List ℕ) → Octets (lines w u (b ∷ s) .text)
+-- whatever stood before
+abbrev Lined : List ℕ → Type 0
+Lined t = (w : Bool) (u : List ℕ) → Octets (lines w u t .text)
+
+line-char : (b : ℕ) (s : List ℕ) → b ≤ 0x7F → Lined s → Lined (b ∷ s)
 unfolding lines
 line-char b s h ih w u = by (isLineEnd b) (white w u)
   where
-    by : (x y : Bool) → Octets (cond x (cond y (lines true [] s) (before (0x20 ∷ []) (lines true [] s))) (before (b ∷ []) (lines w (u ++ b ∷ []) s)) .text)
+    by : (x y : Bool) →
+        Octets (cond x (cond y (lines true [] s) (before (0x20 ∷ []) (lines true [] s))) (before (b ∷ []) (lines w (u ++ b ∷ []) s)) .text)
     by true true = ih true []
     by true false = next (0x20 ∷ []) (ascii 0x20 (omega arith)) (ih true [])
     by false y = next (b ∷ []) (ascii b h) (ih w (u ++ b ∷ []))
 
-lines-octets : {t : List ℕ} → Octets t → (w : Bool) (u : List ℕ) → Octets (lines w u t .text)
+lines-octets : {t : List ℕ} → Octets t → Lined t
 unfolding lines
 lines-octets none w u = none
 lines-octets (next c {s} e o) w u = by (kept (char-shape c e)) e (λ w u. lines-octets o w u) w u
   where
-    by : {c : List ℕ} → Kept c → isChar c ≡ true → ((w : Bool) (u : List ℕ) → Octets (lines w u s .text)) → (w : Bool) (u : List ℕ) → Octets (lines w u (c ++ s) .text)
+    by : {c : List ℕ} → Kept c → isChar c ≡ true → Lined s → Lined (c ++ s)
     by (low {b} h) e ih w u = line-char b s h ih w u
     by {c} (high h) e ih w u = subst (λ (x : Written). Octets (x .text)) (sym (run w u c s (high-plain h))) (next c e (ih w (u ++ c)))
 
 escaped-octets : (verb : Bool) {t : List ℕ} → Octets t → Octets (escaped verb t)
 unfolding escaped
 escaped-octets verb none = none
-escaped-octets verb (next c {s} e o) = subst Octets (sym (escaped-append verb c s)) (octets-append (by (kept (char-shape c e)) e) (escaped-octets verb o))
+escaped-octets verb (next c {s} e o) =
+    subst Octets (sym (escaped-append verb c s)) (octets-append (by (kept (char-shape c e)) e) (escaped-octets verb o))
   where
     alone : (b : ℕ) → b ≤ 0x7F → (x : Bool) → Octets (cond x (0x5C ∷ b ∷ []) (b ∷ []))
     alone b h true = next (0x5C ∷ []) (ascii 0x5C (omega arith)) (ascii-text b h)
@@ -131,14 +138,15 @@ check-texts t l e =
 
 -- ---- the calls
 
-call-octets : (t l w b : List ℕ) (n : ℕ) (b′ : List ℕ) → (Texts (chunksOf t l) → Octets w) → Write (checkedOf t l) w b (writing.Written n) b′ → Octets (take n b′)
-call-octets t l w b n b′ f h = let s = written (checkedOf t l) w b n b′ h in subst Octets (sym (s .1)) (f (check-texts t l (s .0)))
+call-octets : (t l : List ℕ) {w b b′ : List ℕ} {n : ℕ} → (Texts (chunksOf t l) → Octets w) → Write (checkedOf t l) w b (writing.Written n) b′ →
+    Octets (take n b′)
+call-octets t l f h = let s = written (checkedOf t l) h in subst Octets (sym (s .1)) (f (check-texts t l (s .0)))
 
 pub well-formed : WellFormed
 well-formed = record {
   checked = check-texts;
   formatted = λ cs h. format-octets false h;
   serialized = string-octets;
-  formats = λ t l b b′ n h. call-octets t l (formatVerbatim (chunksOf t l)) b n b′ (λ x. format-octets false x) h;
-  writes = λ verb t l b b′ n h. call-octets t l (toBiblatexString verb (chunksOf t l)) b n b′ (λ x. string-octets verb (chunksOf t l) x) h;
+  formats = λ t l b b′ n h. call-octets t l (λ x. format-octets false x) h;
+  writes = λ verb t l b b′ n h. call-octets t l (string-octets verb (chunksOf t l)) h;
 }
