@@ -1,24 +1,28 @@
 -- Which refusals the writers can answer, and their places: `refusals`.
 -- Assumes nothing.
-use Prim.Native.Nat.{ℕ}
+use Prim.Native.Nat.{ℕ, _≤_, _<_}
 use native.Mathlib.Omega.{arith}
-use mathlib.Core.Path.{_≡_, refl, subst}
+use mathlib.Core.Path.{_≡_, refl, sym, ap, _∙_, subst}
+use mathlib.Core.Logic.{_↔_}
 use mathlib.Core.Bool.{Bool, true, false, cond}
 use mathlib.Core.List.{List}
-use lib.ListN.{length}
+use lib.ListN.{length, replicate, length-replicate}
 use lib.Dec.{leb}
+use borrow.Author.Tests.{leb-false, le-leb, lt-leb}
 use Rattle.text.specs.Utf8.{validityOf}
 use Rattle.text.specs.declared.utf8.Validity.{Validity}
 use Rattle.text.specs.declared.utf8.Validity.the-variants as validity
 use Rattle.row.specs.declared.fault.Reason.the-variants.{NotUtf8, NoRoom, BadRows}
 use Rattle.row.specs.declared.fault.Fault.{Fault}
 use Rattle.row.specs.Fault.{faultAt, nowhere}
+use Rattle.chunk.specs.declared.answer.Checked.{Checked}
 use Rattle.chunk.specs.declared.answer.Checked.the-variants as checked
+use Rattle.chunk.specs.declared.answer.Writing.{Writing}
 use Rattle.chunk.specs.declared.answer.Writing.the-variants as writing
 use Rattle.chunk.specs.Chunk.{areChunks, chunksOf}
 use Rattle.chunk.specs.Format.{formatVerbatim, toBiblatexString}
-use Rattle.chunk.specs.Write.{rowsChecked, checkedOf, writingOf}
-use Rattle.chunk.specs.Refusals.{WriteFault, ill-formed, unsound, full, Refusals}
+use Rattle.chunk.specs.Write.{rowsChecked, checkedOf, writingOf, writtenInto, Write}
+use Rattle.chunk.specs.Refusals.{WriteFault, ill-formed, unsound, full, Answered, Refusals}
 
 module _ (t l w : List ℕ) (n : ℕ) (f : Fault) where
   by-room : (y : Bool) → writing.Refused f ≡ cond y (writing.Written (length w)) (writing.Refused (nowhere NoRoom)) → WriteFault t l f
@@ -38,8 +42,58 @@ write-fault : (t l w : List ℕ) (n : ℕ) (f : Fault) → writing.Refused f ≡
 unfolding checkedOf
 write-fault t l w n f e = by-text t l w n f (validityOf t) refl e
 
+-- ---- 16
+
+-- the check does not answer it
+check-not-full : (t l : List ℕ) (v : Validity) → rowsChecked t l v ≡ checked.Refused (nowhere NoRoom) → ⊥
+check-not-full t l validity.Valid e = by (areChunks t l) e
+  where
+    by : (x : Bool) → cond x checked.Sound (checked.Refused (nowhere BadRows)) ≡ checked.Refused (nowhere NoRoom) → ⊥
+    by true e = let z : _≡_ {A = ℕ} 0 1 = cc in absurd (omega arith)
+    by false e = let z : _≡_ {A = ℕ} 0 1 = cc in absurd (omega arith)
+check-not-full t l (validity.IllFormed m) e = let z : _≡_ {A = ℕ} 0 1 = cc in absurd (omega arith)
+
+-- a writer of w whose check comes to c
+module _ (w : List ℕ) where
+  full-told : (c : Checked) → (c ≡ checked.Refused (nowhere NoRoom) → ⊥) → (x : ℕ) → writingOf c w x ≡ writing.Refused (nowhere NoRoom) →
+      (c ≡ checked.Sound) × (x < length w)
+  full-told checked.Sound other x = by (leb (length w) x) refl
+    where
+      by : (y : Bool) → leb (length w) x ≡ y → cond y (writing.Written (length w)) (writing.Refused (nowhere NoRoom)) ≡ writing.Refused (nowhere NoRoom) →
+          (checked.Sound ≡ checked.Sound) × (x < length w)
+      by true d e = let z : _≡_ {A = ℕ} 0 1 = cc in absurd (omega arith)
+      by false d e = (refl, leb-false (length w) x d)
+  full-told (checked.Refused f) other x e = let z : f ≡ nowhere NoRoom = cc in absurd (other (ap checked.Refused z))
+
+  too-little : (c : Checked) (x y m : ℕ) → writing.Written m ≡ writingOf c w y → x < m → writingOf c w x ≡ writing.Refused (nowhere NoRoom)
+  too-little checked.Sound x y m = by (leb (length w) y)
+    where
+      by : (z : Bool) → writing.Written m ≡ cond z (writing.Written (length w)) (writing.Refused (nowhere NoRoom)) → x < m →
+          writingOf checked.Sound w x ≡ writing.Refused (nowhere NoRoom)
+      by true e h = let z : m ≡ length w = cc in rw (lt-leb (length w) x (omega arith))
+      by false e h = let z : _≡_ {A = ℕ} 0 1 = cc in absurd (omega arith)
+  too-little (checked.Refused f) x y m e h = let z : _≡_ {A = ℕ} 0 1 = cc in absurd (omega arith)
+
+  write-full : (c : Checked) → (c ≡ checked.Refused (nowhere NoRoom) → ⊥) → (b b′ : List ℕ) (r : Writing) → Write c w b r b′ →
+      (r ≡ writing.Refused (nowhere NoRoom)) ↔ ((n : ℕ) × Answered (Write c w) n × (length b < n))
+  write-full c other b b′ r p = (
+    λ e.
+        let t = full-told c other (length b) (sym (p .answer) ∙ e) in
+        let d = replicate (length w) 0 in
+        let k : writing.Written (length w) ≡ writingOf c w (length d) =
+        rw (t .0, le-leb (length w) (length d) (omega (arith, length-replicate (length w) 0))) in
+        (length w, (d, writtenInto c w d, record { answer = k; bytes = refl }), t .1),
+    λ h. p .answer ∙ too-little c (length b) (length (h .1 .0)) (h .0) (h .1 .2 .answer) (h .2),
+  )
+
+not-full : (t l : List ℕ) → checkedOf t l ≡ checked.Refused (nowhere NoRoom) → ⊥
+unfolding checkedOf
+not-full t l e = check-not-full t l (validityOf t) e
+
 pub refusals : Refusals
 refusals = record {
   formats = λ t l b b′ f r. write-fault t l (formatVerbatim (chunksOf t l)) (length b) f (r .answer);
   writes = λ verb t l b b′ f r. write-fault t l (toBiblatexString verb (chunksOf t l)) (length b) f (r .answer);
+  formats-full = λ t l. write-full (formatVerbatim (chunksOf t l)) (checkedOf t l) (not-full t l);
+  writes-full = λ verb t l. write-full (toBiblatexString verb (chunksOf t l)) (checkedOf t l) (not-full t l);
 }

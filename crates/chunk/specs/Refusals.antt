@@ -1,14 +1,17 @@
 -- Which refusals the writers can answer [01:Numbers a caller can get], and their places. The proof is `refusals` of proofs/Refusals.antt.
 -- Assumes nothing.
-use Prim.Native.Nat.{ℕ}
+use Prim.Native.Nat.{ℕ, _<_}
 use mathlib.Core.Path.{_≡_}
+use mathlib.Core.Logic.{_↔_}
 use mathlib.Core.Bool.{Bool, false}
 use mathlib.Core.List.{List}
+use lib.ListN.{length}
 use Rattle.text.specs.Utf8.{validityOf}
 use Rattle.text.specs.declared.utf8.Validity.the-variants as validity
 use Rattle.row.specs.declared.fault.Reason.the-variants.{NotUtf8, NoRoom, BadRows}
 use Rattle.row.specs.declared.fault.Fault.{Fault}
 use Rattle.row.specs.Fault.{faultAt, nowhere}
+use Rattle.chunk.specs.declared.answer.Writing.{Writing}
 use Rattle.chunk.specs.declared.answer.Writing.the-variants as writing
 use Rattle.chunk.specs.Chunk.{areChunks}
 use Rattle.chunk.specs.Write.{FormatVerbatim, ToBiblatexString}
@@ -19,7 +22,16 @@ pub data WriteFault (t l : List ℕ) : Fault → Type 0 where
   unsound : areChunks t l ≡ false → WriteFault t l (nowhere BadRows)
   full : WriteFault t l (nowhere NoRoom)
 
--- `format_verbatim` and `to_biblatex_string` answer no others
+-- of an input, over whatever is lent for the output: there is an answer, of n bytes
+abbrev pub Answered : (List ℕ → Writing → List ℕ → Type 0) → ℕ → Type 0
+Answered call n = (c : List ℕ) × (c′ : List ℕ) × call c (writing.Written n) c′
+
 pub record Refusals : Type 0 where
+  -- `format_verbatim` and `to_biblatex_string` answer no others
   pub formats : (t l b b′ : List ℕ) (f : Fault) → FormatVerbatim t l b (writing.Refused f) b′ → WriteFault t l f
   pub writes : (verb : Bool) (t l b b′ : List ℕ) (f : Fault) → ToBiblatexString verb t l b (writing.Refused f) b′ → WriteFault t l f
+  -- "then 16 exactly if an answer exists and needs more rows or bytes than a lent output has"
+  pub formats-full : (t l b b′ : List ℕ) (r : Writing) → FormatVerbatim t l b r b′ →
+      (r ≡ writing.Refused (nowhere NoRoom)) ↔ ((n : ℕ) × Answered (FormatVerbatim t l) n × (length b < n))
+  pub writes-full : (verb : Bool) (t l b b′ : List ℕ) (r : Writing) → ToBiblatexString verb t l b r b′ →
+      (r ≡ writing.Refused (nowhere NoRoom)) ↔ ((n : ℕ) × Answered (ToBiblatexString verb t l) n × (length b < n))

@@ -1,21 +1,24 @@
 -- Which refusals strict reading can answer, and their places: `refusals`.
 -- Assumes nothing.
-use Prim.Native.Nat.{ℕ, _/_}
+use Prim.Native.Nat.{ℕ, _*_, _/_, _≤_, _<_}
 use native.Mathlib.Omega.{arith}
 use mathlib.Core.Path.{_≡_, refl, sym, ap, _∙_, subst}
+use mathlib.Core.Logic.{_↔_}
 use mathlib.Core.Bool.{Bool, true, false, cond}
 use mathlib.Core.List.{List}
-use lib.ListN.{length}
+use lib.ListN.{length, replicate, length-replicate}
 use lib.Dec.{leb}
+use borrow.Author.Tests.{leb-false, le-leb, lt-leb}
 use Rattle.row.specs.declared.fault.Reason.the-variants.{TooLong, NotUtf8, NoRoom}
 use Rattle.row.specs.declared.fault.Fault.{Fault}
 use Rattle.row.specs.Row.{Row}
 use Rattle.row.specs.Fault.{faultAt, nowhere}
+use Rattle.raw.specs.declared.answer.Reading.{Reading}
 use Rattle.raw.specs.declared.answer.Reading.the-variants as reading
 use Rattle.raw.specs.Reader.{Out, ok, again, bad}
 use Rattle.raw.specs.Grammar.{file}
-use Rattle.raw.specs.Read.{strict, readingOut}
-use Rattle.raw.specs.Refusals.{ReadFault, long, met, full, Refusals}
+use Rattle.raw.specs.Read.{strict, readingOut, leftOut, Read}
+use Rattle.raw.specs.Refusals.{ReadFault, long, met, full, Full, Refusals}
 use Rattle.raw.proofs.Trace.{Refused, Traced}
 use Rattle.raw.proofs.Entries.{file-good}
 use Rattle.raw.proofs.Strict.{strict-by, file-refuses}
@@ -50,5 +53,64 @@ module _ (s : List ℕ) (f : Fault) where
   out-fault (again q rs a) n d e = rows-fault rs n e
   out-fault (bad g) n d e = let q : g ≡ f = cc in strict-fault (d ∙ ap bad q)
 
+-- ---- 16, of a reading that finds o
+
+-- where rows were found: too few numbers are lent; and where n rows are answered, less is too little
+module _ (rs : List Row) where
+  abbrev rowsOr : ℕ → Reading
+  rowsOr x = cond (leb (length rs) (x / 4)) (reading.Rows (length rs)) (reading.Refused (nowhere NoRoom))
+
+  rows-full : (x : ℕ) → rowsOr x ≡ reading.Refused (nowhere NoRoom) → x / 4 < length rs
+  rows-full x = by (leb (length rs) (x / 4)) refl
+    where
+      by : (y : Bool) → leb (length rs) (x / 4) ≡ y →
+          cond y (reading.Rows (length rs)) (reading.Refused (nowhere NoRoom)) ≡ reading.Refused (nowhere NoRoom) → x / 4 < length rs
+      by true d e = let z : _≡_ {A = ℕ} 0 1 = cc in absurd (omega arith)
+      by false d e = leb-false (length rs) (x / 4) d
+
+  rows-enough : reading.Rows (length rs) ≡ rowsOr (length (replicate (length rs * 4) 0))
+  rows-enough = rw (le-leb (length rs) (length (replicate (length rs * 4) 0) / 4) (omega (arith, length-replicate (length rs * 4) 0)))
+
+  rows-too-little : (x y m : ℕ) → reading.Rows m ≡ rowsOr y → x / 4 < m → rowsOr x ≡ reading.Refused (nowhere NoRoom)
+  rows-too-little x y m = by (leb (length rs) (y / 4))
+    where
+      by : (z : Bool) → reading.Rows m ≡ cond z (reading.Rows (length rs)) (reading.Refused (nowhere NoRoom)) → x / 4 < m →
+          rowsOr x ≡ reading.Refused (nowhere NoRoom)
+      by true e h = let z : m ≡ length rs = cc in rw (lt-leb (length rs) (x / 4) (omega arith))
+      by false e h = let z : _≡_ {A = ℕ} 0 1 = cc in absurd (omega arith)
+
+too-little : (o : Out) (x y m : ℕ) → reading.Rows m ≡ readingOut o y → x / 4 < m → readingOut o x ≡ reading.Refused (nowhere NoRoom)
+too-little (ok q rs) x y m e h = rows-too-little rs x y m e h
+too-little (again q rs a) x y m e h = rows-too-little rs x y m e h
+too-little (bad f) x y m e h = let z : _≡_ {A = ℕ} 0 1 = cc in absurd (omega arith)
+
+enough : (o : Out) → (o ≡ bad (nowhere NoRoom) → ⊥) → (x : ℕ) → readingOut o x ≡ reading.Refused (nowhere NoRoom) →
+    (n : ℕ) × (c : List ℕ) × (reading.Rows n ≡ readingOut o (length c)) × (x / 4 < n)
+enough (ok q rs) other x e = (length rs, replicate (length rs * 4) 0, rows-enough rs, rows-full rs x e)
+enough (again q rs a) other x e = (length rs, replicate (length rs * 4) 0, rows-enough rs, rows-full rs x e)
+enough (bad f) other x e = let z : f ≡ nowhere NoRoom = cc in absurd (other (ap bad z))
+
+-- of a call whose answer and rows are those of o
+pub full-of : (o : Out) → (o ≡ bad (nowhere NoRoom) → ⊥) → (call : List ℕ → Reading → List ℕ → Type 0) →
+    ((b b′ : List ℕ) (r : Reading) → call b r b′ → r ≡ readingOut o (length b)) →
+    ((b : List ℕ) → call b (readingOut o (length b)) (leftOut o b)) → Full call
+full-of o other call told make b b′ r p = (
+  λ e.
+      let t = enough o other (length b) (sym (told b b′ r p) ∙ e) in
+      (t .0, (t .1, leftOut o (t .1), subst (λ (x : Reading). call (t .1) x (leftOut o (t .1))) (sym (t .2)) (make (t .1))), t .3),
+  λ h. told b b′ r p ∙ too-little o (length b) (length (h .1 .0)) (h .0) (told (h .1 .0) (h .1 .1) (reading.Rows (h .0)) (h .1 .2)) (h .2),
+)
+
+-- strict reading refuses with no 16 of its own
+strict-not-full : (s : List ℕ) → strict s ≡ bad (nowhere NoRoom) → ⊥
+strict-not-full s =
+    strict-by s (λ o. o ≡ bad (nowhere NoRoom) → ⊥) (λ e. let z : _≡_ {A = ℕ} 0 1 = cc in absurd (omega arith))
+    (λ n h e. let z : _≡_ {A = ℕ} 0 1 = cc in absurd (omega arith))
+    (λ o e. let r : Refused s 0 (nowhere NoRoom) = subst (Traced s 0) e (file-good .traced s 0) in absurd (omega (arith, r .most)))
+
 pub refusals : Refusals
-refusals s b b′ f r = out-fault s f (strict s) (length b) refl (r .answer)
+refusals =
+    record {
+      reads = λ s b b′ f r. out-fault s f (strict s) (length b) refl (r .answer);
+      no-room = λ s. full-of (strict s) (strict-not-full s) (Read s) (λ b b′ r p. p .answer) (λ b. record { answer = refl; rows = refl });
+    }

@@ -1,13 +1,16 @@
 -- Which refusals strict reading can answer [01:Numbers a caller can get], and their places. The proof is `refusals` of proofs/Refusals.antt.
 -- Assumes nothing.
-use Prim.Native.Nat.{ℕ, _≤_}
+use Prim.Native.Nat.{ℕ, _/_, _≤_, _<_}
+use mathlib.Core.Path.{_≡_}
+use mathlib.Core.Logic.{_↔_}
 use mathlib.Core.List.{List}
 use lib.ListN.{length}
 use Rattle.row.specs.declared.fault.Reason.{Reason}
 use Rattle.row.specs.declared.fault.Reason.the-variants.{TooLong, NoRoom}
 use Rattle.row.specs.declared.fault.Fault.{Fault}
 use Rattle.row.specs.Fault.{numberOf, faultAt, nowhere}
-use Rattle.raw.specs.declared.answer.Reading.the-variants.{Refused}
+use Rattle.raw.specs.declared.answer.Reading.{Reading}
+use Rattle.raw.specs.declared.answer.Reading.the-variants.{Rows, Refused}
 use Rattle.raw.specs.Read.{Read}
 
 -- 1 and 16 at 0..0, and 2 to 10 at an empty place of the file s
@@ -16,6 +19,15 @@ pub data ReadFault (s : List ℕ) : Fault → Type 0 where
   met : (reason : Reason) (p : ℕ) → 2 ≤ numberOf reason → numberOf reason ≤ 10 → p ≤ length s → ReadFault s (faultAt reason p)
   full : ReadFault s (nowhere NoRoom)
 
--- `read` answers no others
-abbrev pub Refusals : Type 0
-Refusals = (s b b′ : List ℕ) (f : Fault) → Read s b (Refused f) b′ → ReadFault s f
+-- of a call, over whatever is lent for the rows: there is an answer of n rows
+abbrev pub Answered : (List ℕ → Reading → List ℕ → Type 0) → ℕ → Type 0
+Answered call n = (c : List ℕ) × (c′ : List ℕ) × call c (Rows n) c′
+
+-- "then 16 exactly if an answer exists and needs more rows or bytes than a lent output has"
+abbrev pub Full : (List ℕ → Reading → List ℕ → Type 0) → Type 0
+Full call = (b b′ : List ℕ) (r : Reading) → call b r b′ → (r ≡ Refused (nowhere NoRoom)) ↔ ((n : ℕ) × Answered call n × (length b / 4 < n))
+
+pub record Refusals : Type 0 where
+  -- `read` answers no others
+  pub reads : (s b b′ : List ℕ) (f : Fault) → Read s b (Refused f) b′ → ReadFault s f
+  pub no-room : (s : List ℕ) → Full (Read s)

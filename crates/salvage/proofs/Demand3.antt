@@ -2,12 +2,13 @@
 -- Assumes nothing.
 use Prim.Native.Nat.{ℕ, _+_, _≤_}
 use native.Mathlib.Omega.{arith}
-use mathlib.Core.Path.{_≡_, subst}
+use mathlib.Core.Path.{_≡_, sym, subst}
 use mathlib.Core.Logic.{_↔_}
 use mathlib.Core.Bool.{true}
 use mathlib.Core.List.{List}
 use lib.ListN.{length}
 use Rattle.row.specs.Limits.{mostBytes}
+use Rattle.row.specs.Row.{Row}
 use Rattle.row.specs.Rules.{isRows, clean}
 use Rattle.row.specs.Spans.{SpansIn}
 use Rattle.raw.specs.Strict.{Rising}
@@ -15,16 +16,18 @@ use Rattle.raw.proofs.Strict.{strict-reading}
 use Rattle.salvage.specs.Salvage.{cut, salvageOf}
 use Rattle.salvage.specs.Demand3.{joined, Whole, Demand3}
 use Rattle.salvage.proofs.cutting.PiecesAppend.{joined-cut, salvage-append}
-use Rattle.salvage.proofs.rows.EachPiece.{each, calls}
+use Rattle.salvage.proofs.rows.EachPiece.{each, calls, call-short, call-answered}
 use Rattle.salvage.proofs.cutting.PiecesAtBoundaries.{begins, cuts}
 use Rattle.salvage.proofs.rows.Order.{pieces-rules, pieces-spans, pieces-rising}
 use Rattle.salvage.proofs.rows.RowCount.{salvage-few}
 use Rattle.salvage.proofs.rows.Undamaged.{accepts, opened, same-rows}
 
-undamaged : (s : List ℕ) → length s ≤ mostBytes → (clean (salvageOf s) ≡ true) ↔ Whole s (salvageOf s)
+undamaged : (s : List ℕ) → length s ≤ mostBytes → (clean (salvageOf s) ≡ true) ↔ ((rs : List Row) × Whole s rs)
 undamaged s h = (
-  λ k. record { accepts = accepts s h k; opens = λ e x. opened s h k x },
-  λ v. strict-reading .accepts s (length s) (salvageOf s) (v .accepts) .sound,
+  λ k. (salvageOf s, record { accepts = accepts s h k; opens = λ e x. opened s h k x }),
+  λ v.
+      subst (λ (rs : List Row). clean rs ≡ true) (sym (same-rows s (v .0) (v .1)))
+      (strict-reading .accepts s (length s) (v .0) (v .1 .accepts) .sound),
 )
 
 checked : (s : List ℕ) → length s ≤ mostBytes → isRows (salvageOf s) ≡ true
@@ -52,6 +55,7 @@ demand3 =
       each = each;
       undamaged = undamaged;
       strictly = same-rows;
+      shows = λ s b b′ n c. let h = call-short s b b′ n c in (salvageOf s, call-answered s b b′ n h c, undamaged s h, same-rows s);
       checked = checked;
       rising = rising;
       inside = inside;

@@ -2,7 +2,7 @@
 -- Assumes nothing.
 use Prim.Native.Nat.{ℕ, _/_}
 use native.Mathlib.Omega.{arith}
-use mathlib.Core.Path.{_≡_, subst}
+use mathlib.Core.Path.{_≡_, refl, subst}
 use mathlib.Core.Bool.{Bool, true, false, cond}
 use mathlib.Core.List.{List}
 use lib.ListN.{length}
@@ -14,7 +14,8 @@ use Rattle.raw.specs.declared.answer.Reading.the-variants.{Rows, Refused}
 use Rattle.raw.specs.Reader.{ok, bad}
 use Rattle.row.specs.Limits.{mostBytes}
 use Rattle.raw.specs.Read.{readingOut}
-use Rattle.salvage.specs.Salvage.{salvageOf, salvaged}
+use Rattle.raw.proofs.Refusals.{full-of}
+use Rattle.salvage.specs.Salvage.{salvageOf, salvaged, Salvage}
 use Rattle.salvage.specs.Refusals.{SalvageFault, long, full, Refusals}
 
 module _ (s : List ℕ) (n : ℕ) (f : Fault) where
@@ -31,5 +32,18 @@ module _ (s : List ℕ) (n : ℕ) (f : Fault) where
       by true e = rows-fault (leb (length (salvageOf s)) (n / 4)) e
       by false e = let q : nowhere TooLong ≡ f = cc in subst SalvageFault q long
 
+-- salvage refuses with no 16 but for want of room
+salvaged-not-full : (s : List ℕ) → salvaged s ≡ bad (nowhere NoRoom) → ⊥
+unfolding salvaged
+salvaged-not-full s = by (leb (length s) mostBytes)
+  where
+    by : (x : Bool) → cond x (ok (length s) (salvageOf s)) (bad (nowhere TooLong)) ≡ bad (nowhere NoRoom) → ⊥
+    by true e = let z : _≡_ {A = ℕ} 0 1 = cc in absurd (omega arith)
+    by false e = let z : _≡_ {A = ℕ} 0 1 = cc in absurd (omega arith)
+
 pub refusals : Refusals
-refusals s b b′ f r = salvage-fault s (length b) f (r .answer)
+refusals =
+    record {
+      salvages = λ s b b′ f r. salvage-fault s (length b) f (r .answer);
+      no-room = λ s. full-of (salvaged s) (salvaged-not-full s) (Salvage s) (λ b b′ r p. p .answer) (λ b. record { answer = refl; rows = refl });
+    }

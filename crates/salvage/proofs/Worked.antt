@@ -1,4 +1,4 @@
--- The case of specs/Worked.antt computes: `worked`.
+-- The cases of specs/Worked.antt compute: `worked`.
 -- Assumes nothing.
 use mathlib.Core.Path.{refl}
 use Rattle.text.specs.Walk.{walkFrom}
@@ -24,4 +24,4 @@ unfolding
     stringLiteral numberTurn number bracedTurn inBraces braced ident singleField abbrElement abbrTurn abbrField comment field fieldEnd
     fieldsTurn fields key spells formOf lead rest atSign strings preamble commented body entry fileTurn file strict moved utf8 head cut
     pieces salvageOf
-worked = record { salvage = refl; strictly = refl }
+worked = record { salvage = refl; strictly = refl; later = refl }

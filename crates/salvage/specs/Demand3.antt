@@ -12,7 +12,7 @@ use Rattle.row.specs.declared.fault.Fault.{Fault}
 use Rattle.row.specs.Fault.{numberOf}
 use Rattle.raw.specs.declared.answer.Reading.{Reading}
 use Rattle.raw.specs.declared.answer.Reading.the-variants as reading
-use Rattle.row.specs.Row.{Row, moved, flat}
+use Rattle.row.specs.Row.{Row, rowOf, moved, flat}
 use Rattle.row.specs.Spans.{SpansIn}
 use Rattle.raw.specs.Reader.{ok, again, bad}
 use Rattle.raw.specs.Grammar.{white, fileTurn}
@@ -58,8 +58,9 @@ pub record PieceGives (s : List ℕ) (ws : Texts) (w : List ℕ) (vs : Texts) : 
   pub rows : salvageOf s ≡ pieces 0 ws ++ (moved (length (joined ws)) (told w (strict w)) ++ pieces (length (joined ws) + length w) vs)
   -- they are those of strict reading
   pub accepted : (q : ℕ) (rs : List Row) → strict w ≡ ok q rs → told w (strict w) ≡ rs
-  -- or damage and its cause, exactly if strict reading refuses
-  pub refused : (f : Fault) → strict w ≡ bad f → (told w (strict w) ≡ damaged w f) × CauseOf w f
+  -- or, exactly if strict reading refuses, a damage row over the piece, 9, and its cause, 10, with the number and the place of the refusal
+  pub refused : (f : Fault) → strict w ≡ bad f →
+      (told w (strict w) ≡ rowOf 9 0 0 (length w) ∷ rowOf 10 (numberOf (f .reason)) (f .start) (f .end) ∷ []) × CauseOf w f
   pub exactly : (clean (told w (strict w)) ≡ false) ↔ ((f : Fault) × (strict w ≡ bad f))
 
 -- an "@" that is the first byte, or follows a newline
@@ -77,28 +78,33 @@ pub record Whole (s : List ℕ) (rs : List Row) : Type 0 where
   pub accepts : strict s ≡ ok (length s) rs
   pub opens : (e : ℕ) → Boundary s e → Opens s 0 e
 
--- ---- the demand
+-- ---- the demand, sentence by sentence
 
 pub record Demand3 : Type 0 where
-  -- 1. Where one part ends in a newline, or is empty, and the next begins with "@", or is empty: the rows of the first, whatever it
-  -- holds, and then those of the second, moved
+  -- "Salvage cuts a file before each "@" that is its first byte or follows a newline."
+  -- The pieces make up the file; those after the first begin at boundaries, and at each boundary one begins.
+  pub whole : (s : List ℕ) → joined (cut s) ≡ s
+  pub begins : (s : List ℕ) (ws : Texts) (w : List ℕ) (vs : Texts) → cut s ≡ ws ++ w ∷ vs → 0 < length (joined ws) → Boundary s (length (joined ws))
+  pub cuts : (s : List ℕ) (n : ℕ) → Boundary s n → 0 < n → (ws : Texts) × (vs : Texts) × (cut s ≡ ws ++ vs) × (length (joined ws) ≡ n)
+  -- "Let P be empty or end in a newline, let S be empty or begin with "@", with length and rows enough for both. Salvaging P followed by S
+  -- gives P's rows, then S's rows moved by P's length, however damaged P is."
+  -- Of the definition, and of the call: here P is a, and S is s.
   pub parts : (a s : List ℕ) → lined a ≡ true → fresh s ≡ true → salvageOf (a ++ s) ≡ salvageOf a ++ moved (length a) (salvageOf s)
-  -- and of calls, where length and rows are enough for both
   pub calls : (a s x y b x′ y′ b′ : List ℕ) (m n : ℕ) (r : Reading)
       → lined a ≡ true → fresh s ≡ true → length (a ++ s) ≤ mostBytes → m + n ≤ length b / 4
       → Salvage a x (reading.Rows m) x′ → Salvage s y (reading.Rows n) y′ → Salvage (a ++ s) b r b′
       → (rs : List Row) × (ss : List Row) × Holds rs x (reading.Rows m) x′ × Holds ss y (reading.Rows n) y′ × Holds (rs ++ moved (length a) ss) b r b′
-  -- 2. The pieces make up the file, and begin at its boundaries, and there only; each gives the rows of its strict reading at its place, or
-  -- damage and cause
-  pub whole : (s : List ℕ) → joined (cut s) ≡ s
-  pub begins : (s : List ℕ) (ws : Texts) (w : List ℕ) (vs : Texts) → cut s ≡ ws ++ w ∷ vs → 0 < length (joined ws) → Boundary s (length (joined ws))
-  pub cuts : (s : List ℕ) (n : ℕ) → Boundary s n → 0 < n → (ws : Texts) × (vs : Texts) × (cut s ≡ ws ++ vs) × (length (joined ws) ≡ n)
+  -- "Each piece gives the strict rows of that piece alone, at their places in the file, or, exactly if strict reading refuses it, a damage row
+  -- and its cause."
   pub each : (s : List ℕ) (ws : Texts) (w : List ℕ) (vs : Texts) → length s ≤ mostBytes → cut s ≡ ws ++ w ∷ vs → PieceGives s ws w vs
-  -- 3. No damage shows exactly if strict reading accepts the whole file and every boundary opens one of its entries; the rows are
-  -- then those of strict reading
-  pub undamaged : (s : List ℕ) → length s ≤ mostBytes → (clean (salvageOf s) ≡ true) ↔ Whole s (salvageOf s)
+  -- "Where salvage does not refuse, no damage shows exactly if strict reading accepts the whole file and every such "@" opens one of its
+  -- entries, strings, preambles and comments counted; the rows are then those of strict reading."
+  -- Of the definition, and of the call, which leaves rows rs in front of what was lent.
+  pub undamaged : (s : List ℕ) → length s ≤ mostBytes → (clean (salvageOf s) ≡ true) ↔ ((rs : List Row) × Whole s rs)
   pub strictly : (s : List ℕ) (rs : List Row) → Whole s rs → salvageOf s ≡ rs
-  -- 4. The rows pass the row check, their starts never fall, and their spans lie in the file
+  pub shows : (s b b′ : List ℕ) (n : ℕ) → Salvage s b (reading.Rows n) b′
+      → (rs : List Row) × Holds rs b (reading.Rows n) b′ × ((clean rs ≡ true) ↔ ((ss : List Row) × Whole s ss)) × ((ss : List Row) → Whole s ss → rs ≡ ss)
+  -- Besides: the rows pass the row check, their starts never fall, and their spans lie in the file
   pub checked : (s : List ℕ) → length s ≤ mostBytes → isRows (salvageOf s) ≡ true
   pub rising : (s : List ℕ) → Rising 0 (salvageOf s)
   pub inside : (s : List ℕ) → SpansIn (length s) (salvageOf s)

@@ -7,11 +7,14 @@ use Prim.Native.Nat.{ℕ, _+_, _/_, _≤_}
 use native.Mathlib.Omega.{arith}
 use mathlib.Core.Path.{_≡_, refl, sym, ap, _∙_, subst}
 use mathlib.Core.Logic.{_↔_}
-use mathlib.Core.Bool.{true, false}
+use mathlib.Core.Bool.{Bool, true, false, cond}
 use mathlib.Core.List.{List, _∷_, _++_}
 use lib.ListN.{length, length-append}
-use borrow.Author.Tests.{le-leb}
+use lib.Dec.{leb}
+use borrow.Author.Tests.{leb-true, le-leb}
 use Rattle.row.specs.declared.fault.Fault.{Fault}
+use Rattle.row.specs.declared.fault.Reason.the-variants.{TooLong}
+use Rattle.row.specs.Fault.{nowhere}
 use Rattle.raw.specs.declared.answer.Reading.{Reading}
 use Rattle.raw.specs.declared.answer.Reading.the-variants as reading
 use Rattle.row.specs.Row.{Row, moved}
@@ -95,6 +98,24 @@ module _ (s b b′ : List ℕ) (r : Reading) (h : length s ≤ mostBytes) (c : S
   call-room n e =
       let t = rows-told (length s) (salvageOf s) b (sym e ∙ c .answer ∙ ap (λ (o : Out). readingOut o (length b)) call-is) in
       (t .0, t .1)
+
+rows-not-refused : {n : ℕ} {f : Fault} → reading.Rows n ≡ reading.Refused f → ⊥
+rows-not-refused e = let z : _≡_ {A = ℕ} 0 1 = cc in absurd (omega arith)
+
+module _ (s b b′ : List ℕ) (n : ℕ) where
+  -- a call that answers rows was lent no file that is too long
+  pub call-short : Salvage s b (reading.Rows n) b′ → length s ≤ mostBytes
+  unfolding salvaged
+  call-short c = by (leb (length s) mostBytes) refl (c .answer)
+    where
+      by : (t : Bool) → leb (length s) mostBytes ≡ t →
+          reading.Rows n ≡ readingOut (cond t (ok (length s) (salvageOf s)) (bad (nowhere TooLong))) (length b) → length s ≤ mostBytes
+      by true e k = leb-true (length s) mostBytes e
+      by false e k = absurd (rows-not-refused k)
+
+  -- its rows stand in front of what was lent
+  pub call-answered : length s ≤ mostBytes → Salvage s b (reading.Rows n) b′ → Holds (salvageOf s) b (reading.Rows n) b′
+  call-answered h c = call-holds s b b′ (reading.Rows n) h c (call-room s b b′ (reading.Rows n) h c n refl .1)
 
 module _ (a s x y b x′ y′ b′ : List ℕ) (m n : ℕ) (r : Reading) (h : lined a ≡ true) (k : fresh s ≡ true) (l : length (a ++ s) ≤ mostBytes) where
   pub calls : m + n ≤ length b / 4 → Salvage a x (reading.Rows m) x′ → Salvage s y (reading.Rows n) y′ → Salvage (a ++ s) b r b′
