@@ -26,7 +26,7 @@ use Rattle.row.specs.declared.fault.Fault.{Fault}
 use Rattle.row.specs.declared.fault.Reason.the-variants.{UnexpectedEof, ExpectedIdentifier, ExpectedOpeningBrace, ExpectedClosingBrace, ExpectedComma, ExpectedQuotationMark, ExpectedEquals, UnexpectedDecimalPoint}
 use Rattle.row.specs.declared.fault.Reason.{Reason}
 use Rattle.row.specs.Fault.{numberOf, faultAt}
-use Rattle.row.specs.Row.{Row, kindOf}
+use Rattle.row.specs.Row.{Row, Mark, plain, kindOf}
 use Rattle.raw.specs.Reader.{Out, ok, again, bad, Reader, more, andThen, under, eaten, after, stop, turn, refuse, _then_, over, overFrom, put, when, sees, loop, many, scan}
 use Rattle.raw.specs.Grammar.{is, any, need, white, comma, atSign, opening, closing, quote, equals, escape, quotedTurn, quoted, string, stringLiteral, numberTurn, number, bracedTurn, inBraces, braced, ident, singleField, abbrElement, abbrTurn, abbrField, comment, field, fieldEnd, fieldsTurn, fields, key, formOf, strings, preamble, commented, body, lead, rest, entry, fileTurn, file}
 use Rattle.raw.specs.Strict.{beginsValue}
@@ -99,7 +99,7 @@ stop-early = record { early = λ s p. tt }
 turn-early : (a : ℕ) → Early (turn a)
 turn-early a = record { early = λ s p. tt }
 
-put-early : (k : Kind) (a e : ℕ) → Early (put k a e)
+put-early : (m : Mark) (a e : ℕ) → Early (put m a e)
 put-early k a e = record { early = λ s p. tt }
 
 -- by another number than 3
@@ -123,10 +123,10 @@ look-early {f} F = record { early = λ s p. any-early s p (λ n. f s p) (λ n. F
 then-early : {f g : Reader} → Early f → Early g → Early (f then g)
 then-early {f} {g} F G = record { early = λ s p. chain-early s (f s p) (g s) (F .early s p) (G .early s) }
 
-from-early : (k : Kind) (a : ℕ) {f : Reader} → Early f → Early (overFrom k a f)
+from-early : (m : Mark) (a : ℕ) {f : Reader} → Early f → Early (overFrom m a f)
 from-early k a {f} F = record { early = λ s p. under-early s _ (f s p) (F .early s p) }
 
-over-early : (k : Kind) {f : Reader} → Early f → Early (over k f)
+over-early : (m : Mark) {f : Reader} → Early f → Early (over m f)
 over-early k F = record { early = λ s p. from-early k p F .early s p }
 
 scan-early : (t : ℕ → Bool) → Early (scan t)
@@ -209,7 +209,7 @@ string-early = then-early quote-early (then-early quoted-early quote-early)
 
 string-literal-early : Early stringLiteral
 unfolding stringLiteral
-string-literal-early = then-early quote-early (then-early (over-early kind.Literal quoted-early) quote-early)
+string-literal-early = then-early quote-early (then-early (over-early (plain kind.Literal) quoted-early) quote-early)
 
 number-turn-early : (a : ℕ) → Early (numberTurn a)
 unfolding numberTurn
@@ -236,7 +236,7 @@ in-braces-early = many-early braced-turn-good braced-turn-early 0
 
 braced-early : Early braced
 unfolding braced
-braced-early = then-early opening-early (then-early (over-early kind.Literal in-braces-early) closing-early)
+braced-early = then-early opening-early (then-early (over-early (plain kind.Literal) in-braces-early) closing-early)
 
 -- the refusal stands behind all that a value begins with
 abbr-element-early : Early abbrElement
@@ -246,8 +246,8 @@ abbr-element-early =
       early = λ s p.
           let E = EarlyOut s in
           let x = see s p in
-          eaten-else E (holdsOf test.Digit) x _ _ (λ n. over-early kind.Literal number-early .early s p)
-          (λ d. eaten-else E isIdStart x _ _ (λ n. over-early kind.Name ident-early .early s p)
+          eaten-else E (holdsOf test.Digit) x _ _ (λ n. over-early (plain kind.Literal) number-early .early s p)
+          (λ d. eaten-else E isIdStart x _ _ (λ n. over-early (plain kind.Name) ident-early .early s p)
           (λ i. eaten-else E (is 0x7B) x _ _ (λ n. braced-early .early s p)
           (λ b. eaten-else E (is 0x22) x _ _ (λ n. string-literal-early .early s p)
           (λ q y. no-value x d i b q))));
@@ -260,7 +260,7 @@ abbr-turn-early a =
 
 abbr-field-early : Early abbrField
 unfolding abbrField
-abbr-field-early = over-early kind.Value (many-early abbr-turn-good abbr-turn-early 0)
+abbr-field-early = over-early (plain kind.Value) (many-early abbr-turn-good abbr-turn-early 0)
 
 -- ---- fields
 
@@ -275,7 +275,7 @@ module _ (k : Kind) (d : eqb (kindOf k) 9 ≡ false) where
   field-early : Early (field k)
   unfolding field
   field-early =
-      then-early (over-early k ident-early) (then-early white-early (then-early equals-early (then-early white-early
+      then-early (over-early (plain k) ident-early) (then-early white-early (then-early equals-early (then-early white-early
       (then-early abbr-field-early (then-early white-early comment-early)))))
 
   fields-turn-early : (a : ℕ) → Early (fieldsTurn k a)
@@ -291,7 +291,7 @@ module _ (k : Kind) (d : eqb (kindOf k) 9 ≡ false) where
 body-early : Early body
 unfolding body key
 body-early =
-    then-early (over-early kind.Key (scan-early isKey)) (then-early white-early (then-early comma-early (then-early white-early
+    then-early (over-early (plain kind.Key) (scan-early isKey)) (then-early white-early (then-early comma-early (then-early white-early
     (then-early comment-early (then-early white-early (fields-early kind.FieldName refl))))))
 
 lead-early : Early lead
@@ -301,9 +301,9 @@ lead-early = then-early white-early (then-early opening-early white-early)
 rest-early : (form : Form) (p a e : ℕ) → Early (rest form p a e)
 unfolding rest strings preamble commented
 rest-early Strings p a e = then-early lead-early (fields-early kind.DefinitionName refl)
-rest-early Preambles p a e = then-early lead-early (over-early kind.Preamble string-early)
+rest-early Preambles p a e = then-early lead-early (over-early (plain kind.Preamble) string-early)
 rest-early Comments p a e = then-early lead-early (scan-early (fails test.ClosingBrace))
-rest-early Other p a e = from-early kind.Entry p (then-early (put-early kind.EntryType a e) (then-early lead-early body-early))
+rest-early Other p a e = from-early (plain kind.Entry) p (then-early (put-early (plain kind.EntryType) a e) (then-early lead-early body-early))
 
 named-early : (p a : ℕ) (s : List ℕ) (e : ℕ) → EarlyOut s (named p a s e)
 named-early p a s e = then-early (rest-early (formOf s a e) p a e) (then-early white-early closing-early) .early s e

@@ -8,7 +8,7 @@ use Rattle.row.specs.declared.fault.Fault.{Fault}
 use Rattle.raw.specs.declared.answer.Step.{Step}
 use Rattle.raw.specs.declared.answer.Step.the-variants as step
 use Rattle.raw.specs.declared.answer.Answer.the-variants as answer
-use Rattle.row.specs.Row.{row, putRow}
+use Rattle.row.specs.Row.{plain, row, putRow}
 use Rattle.raw.specs.Reader.{Out, ok, bad, Reader, _then_, over}
 use Rattle.raw.specs.Grammar.{quote, quoted, string}
 use Rattle.raw.specs.Says.{stepOf, Says}
@@ -19,7 +19,7 @@ use Rattle.raw.proofs.Saying.{says-of, says-on, says-mark}
 -- f opens, g reads the inside, h closes
 module _ (f g h : Reader) (s : List ℕ) (i : ℕ) (F : Bare (f s i)) (G : (p : ℕ) → Bare (g s p)) (H : (p : ℕ) → Bare (h s p)) where
   abbrev enclosed : Out
-  enclosed = (f then over kind.Literal g then h) s i
+  enclosed = (f then over (plain kind.Literal) g then h) s i
 
   module _ {r₁ : Step} (e₁ : r₁ ≡ stepOf (f s i)) where
     pub opens-off : {x : Fault} → r₁ ≡ step.Refused x → enclosed ≡ bad x

@@ -13,6 +13,7 @@ use Rattle.text.specs.declared.scanner.Seen.{Seen}
 use Rattle.text.specs.declared.scanner.Seen.the-variants.{End, Char}
 use Rattle.text.specs.declared.class.Test.the-variants as test
 use Rattle.row.specs.declared.form.Kind.the-variants as kind
+use Rattle.row.specs.Row.{plain}
 use Rattle.raw.specs.declared.entry.Form.{Form}
 use Rattle.raw.specs.declared.entry.Form.the-variants.{Strings, Preambles, Comments, Other}
 use Rattle.row.specs.declared.fault.Reason.the-variants.{UnexpectedEof}
@@ -38,7 +39,7 @@ rest-kept Strings p a e = led-good strings-good .kept
 rest-kept Preambles p a e = led-good (weaker preamble-good (omega arith)) .kept
 rest-kept Comments p a e = led-good commented-good .kept
 rest-kept Other p a e =
-    from-kept kind.Entry p (then-kept (put-kept {l = 0} kind.EntryType a e) (led-good body-good .kept) (omega arith))
+    from-kept (plain kind.Entry) p (then-kept (put-kept {l = 0} (plain kind.EntryType) a e) (led-good body-good .kept) (omega arith))
 
 pub rest-shifts : (x : List ℕ) (form : Form) (p a e : ℕ) → Shifts x (rest form p a e) (rest form (p + length x) (a + length x) (e + length x))
 unfolding rest
@@ -46,7 +47,7 @@ rest-shifts x Strings p a e = then-shifts (lead-good .shift x) (strings-good .sh
 rest-shifts x Preambles p a e = then-shifts (lead-good .shift x) (preamble-good .shift x)
 rest-shifts x Comments p a e = then-shifts (lead-good .shift x) (commented-good .shift x)
 rest-shifts x Other p a e =
-    from-shifts kind.Entry p (then-shifts (put-shifts kind.EntryType x a e) (then-shifts (lead-good .shift x) (body-good .shift x)))
+    from-shifts (plain kind.Entry) p (then-shifts (put-shifts (plain kind.EntryType) x a e) (then-shifts (lead-good .shift x) (body-good .shift x)))
 
 end-good : Good 1 1 0 (white then closing)
 end-good = then-good white-good closing-good (omega arith)
@@ -119,8 +120,8 @@ module _ (s : List ℕ) (p a e : ℕ) (x : Reach s p a) (y : Reach s a e) where
   rest-traced Preambles = plain-traced (weaker preamble-good (omega arith))
   rest-traced Comments = plain-traced commented-good
   rest-traced Other =
-      lay-traced s p kind.Entry ((put kind.EntryType a e then lead then body) s e) refl
-      (joined ((lead then body) s e) (joins (reach-trace x) (lays kind.EntryType refl (reach-trace y))) (led-good body-good .traced s e))
+      lay-traced s p (plain kind.Entry) ((put (plain kind.EntryType) a e then lead then body) s e) refl
+      (joined ((lead then body) s e) (joins (reach-trace x) (lays (plain kind.EntryType) refl (reach-trace y))) (led-good body-good .traced s e))
 
   named-traced : Traced s p (named p a s e)
   named-traced = chain-traced s p (rest (formOf s a e) p a e s e) ((white then closing) s) (rest-traced (formOf s a e)) (end-good .traced s)

@@ -20,7 +20,7 @@ use Rattle.raw.specs.declared.entry.Form.{Form}
 use Rattle.raw.specs.declared.entry.Form.the-variants.{Strings, Preambles, Comments, Other}
 use Rattle.row.specs.declared.fault.Reason.the-variants.{UnexpectedEof, ExpectedComma}
 use Rattle.row.specs.declared.fault.Reason.{Reason}
-use Rattle.row.specs.Row.{Row}
+use Rattle.row.specs.Row.{Row, Mark, plain}
 use Rattle.raw.specs.Reader.{Out, ok, again, bad, Reader, more, andThen, under, after, stop, turn, refuse, _then_, over, overFrom, put, when, sees, loop, many}
 use Rattle.raw.specs.Grammar.{is, any, white, comma, stringLiteral, braced, ident, singleField, abbrElement, abbrTurn, abbrField, comment, field, fieldEnd, fieldsTurn, fields, formOf, strings, preamble, body, lead, rest, entry, fileTurn, file}
 use Rattle.raw.proofs.Good.{Sound, Good, eaten-holds}
@@ -82,7 +82,7 @@ stop-few = record { few = λ s p. omega arith }
 turn-few : {w : ℕ} (a : ℕ) → Few 0 w 0 (turn a)
 turn-few a = record { few = λ s p. omega arith }
 
-put-few : {v : ℕ} (k : Kind) (a e : ℕ) → Few v 0 1 (put k a e)
+put-few : {v : ℕ} (m : Mark) (a e : ℕ) → Few v 0 1 (put m a e)
 put-few k a e = record { few = λ s p. omega arith }
 
 module _ {v w c : ℕ} where
@@ -105,10 +105,10 @@ module _ {v w c : ℕ} where
   sees-few t {f} {g} F G =
       record { few = λ s p. eaten-holds (FewOut v w c p) t (see s p) (λ n. f s p) (g s p) (λ k n x. F .few s p) (G .few s p) }
 
-  from-few : (k : Kind) (a : ℕ) {f : Reader} → Few v w c f → Few v w (suc c) (overFrom k a f)
+  from-few : (m : Mark) (a : ℕ) {f : Reader} → Few v w c f → Few v w (suc c) (overFrom m a f)
   from-few k a {f} F = record { few = λ s p. under-few v w c p _ (f s p) (F .few s p) }
 
-  over-few : (k : Kind) {f : Reader} → Few v w c f → Few v w (suc c) (over k f)
+  over-few : (m : Mark) {f : Reader} → Few v w c f → Few v w (suc c) (over m f)
   over-few k F = record { few = λ s p. from-few k p F .few s p }
 
 then-by : {w₁ c₁ v w c v′ w′ c′ : ℕ} {f g : Reader} → Few w₁ w₁ c₁ f → Few v w c g → (v′ + c₁ + c ≤ w₁ + v + c′) × (w′ + c₁ + c ≤ w₁ + w + c′) → Few v′ w′ c′ (f then g)
@@ -150,8 +150,8 @@ ident-few : Few 1 1 0 ident
 ident-few = bare-few ident-good ident-bare
 
 -- the row of a name is paid by its first character
-name-few : (k : Kind) → Few 0 0 0 (over k ident)
-name-few k = less-few (over-few k ident-few) (omega arith)
+name-few : (k : Kind) → Few 0 0 0 (over (plain k) ident)
+name-few k = less-few (over-few (plain k) ident-few) (omega arith)
 
 eof-few : {v w c : ℕ} → Few v w c (refuse UnexpectedEof)
 eof-few = refuse-few UnexpectedEof
@@ -163,19 +163,19 @@ string-literal-few : Few 0 0 0 stringLiteral
 unfolding stringLiteral
 string-literal-few =
     let quote-few = bare-few quote-good quote-bare in
-    then-few quote-few (then-by (over-few kind.Literal (bare-few quoted-good quoted-bare)) quote-few (omega arith))
+    then-few quote-few (then-by (over-few (plain kind.Literal) (bare-few quoted-good quoted-bare)) quote-few (omega arith))
 
 braced-few : Few 0 0 0 braced
 unfolding braced
 braced-few =
     then-few (bare-few opening-good opening-bare)
-    (then-by (over-few kind.Literal (bare-few in-braces-good in-braces-bare)) (bare-few closing-good closing-bare) (omega arith))
+    (then-by (over-few (plain kind.Literal) (bare-few in-braces-good in-braces-bare)) (bare-few closing-good closing-bare) (omega arith))
 
 -- that of a number is owed: its digit is not counted
 abbr-element-few : Few 0 0 1 abbrElement
 unfolding abbrElement singleField
 abbr-element-few =
-    sees-few (holdsOf test.Digit) (over-few kind.Literal (bare-few number-good number-bare))
+    sees-few (holdsOf test.Digit) (over-few (plain kind.Literal) (bare-few number-good number-bare))
     (less-few (sees-few isIdStart (name-few kind.Name) (sees-few (is 0x7B) braced-few (sees-few (is 0x22) string-literal-few eof-few))) (omega arith))
 
 -- a "#" pays it; the last one's stays owed
@@ -187,7 +187,7 @@ abbr-turn-few a =
 
 abbr-field-few : Few 0 0 2 abbrField
 unfolding abbrField
-abbr-field-few = over-few kind.Value (many-few abbr-turn-few (omega arith) 0)
+abbr-field-few = over-few (plain kind.Value) (many-few abbr-turn-few (omega arith) 0)
 
 -- ---- fields: of two rows that a value owes the "=" pays one, and the comma after the field the other; the last field's stays owed
 
@@ -220,7 +220,7 @@ module _ (k : Kind) where
 body-few : Few 0 0 1 body
 unfolding body
 body-few =
-    then-by (over-few kind.Key (bare-few key-good key-bare)) (then-few white-few (then-by {v′ = 0} {w′ = 0} {c′ = 0} comma-few
+    then-by (over-few (plain kind.Key) (bare-few key-good key-bare)) (then-few white-few (then-by {v′ = 0} {w′ = 0} {c′ = 0} comma-few
     (then-few white-few (then-few comment-few (then-few white-few (fields-few kind.FieldName)))) (omega arith))) (omega arith)
 
 lead-few : Few 1 1 0 lead
@@ -230,10 +230,10 @@ lead-few = then-few white-few (then-by (bare-few opening-good opening-bare) whit
 rest-few : (form : Form) (p a e : ℕ) → Few 0 0 2 (rest form p a e)
 unfolding rest strings preamble
 rest-few Strings p a e = then-by lead-few (fields-few kind.DefinitionName) (omega arith)
-rest-few Preambles p a e = then-by lead-few (over-few kind.Preamble (bare-few string-good string-bare)) (omega arith)
+rest-few Preambles p a e = then-by lead-few (over-few (plain kind.Preamble) (bare-few string-good string-bare)) (omega arith)
 rest-few Comments p a e = then-by lead-few (bare-few commented-good commented-bare) (omega arith)
 rest-few Other p a e =
-    from-few kind.Entry p (then-by (put-few kind.EntryType a e) (then-by {v′ = 0} {w′ = 0} {c′ = 0} lead-few body-few (omega arith)) (omega arith))
+    from-few (plain kind.Entry) p (then-by (put-few (plain kind.EntryType) a e) (then-by {v′ = 0} {w′ = 0} {c′ = 0} lead-few body-few (omega arith)) (omega arith))
 
 -- what is owed is paid by the "@", the type and the closing delimiter
 named-few : (p a : ℕ) (s : List ℕ) (e : ℕ) → FewOut 0 0 1 e (named p a s e)

@@ -17,7 +17,7 @@ use Rattle.row.specs.declared.fault.Reason.the-variants.{UnexpectedEof}
 use Rattle.row.specs.Fault.{faultAt}
 use Rattle.raw.specs.declared.answer.Answer.the-variants as answer
 use Rattle.raw.specs.declared.answer.Turn.the-variants as turned
-use Rattle.row.specs.Row.{row}
+use Rattle.row.specs.Row.{plain, row}
 use Rattle.raw.specs.Reader.{Out, ok, again, bad, andThen, under, eaten, after, many, sees, when, stop, turn, refuse, over, _then_}
 use Rattle.raw.specs.Inner.{Undelimited}
 use Rattle.raw.specs.Grammar.{is, any, white, number, numberTurn, ident, braced, stringLiteral, singleField, abbrElement, abbrTurn}
@@ -70,7 +70,7 @@ module _ (s : List ℕ) (i : ℕ) where
 
 module _ (s : List ℕ) (i : ℕ) {r : ℕ} (e : r ≡ pastOne (holdsOf test.Digit) i (see s i)) where
   abbrev nameOr : Out
-  nameOr = sees isIdStart (over kind.Name ident) singleField s i
+  nameOr = sees isIdStart (over (plain kind.Name) ident) singleField s i
 
   pub element-number : (r ≡ i → ⊥) → abbrElement s i ≡ under (row kind.Literal i) (number s i)
   unfolding abbrElement

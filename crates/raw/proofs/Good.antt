@@ -14,8 +14,7 @@ use Rattle.text.specs.Scan.{see}
 use Rattle.text.specs.declared.scanner.Seen.{Seen}
 use Rattle.text.specs.declared.scanner.Seen.the-variants.{End, Char}
 use Rattle.text.proofs.Moved.{see-ahead, seenUp, see-up}
-use Rattle.row.specs.declared.form.Kind.{Kind}
-use Rattle.row.specs.Row.{moved}
+use Rattle.row.specs.Row.{Mark, moved}
 use Rattle.row.specs.declared.fault.Reason.{Reason}
 use Rattle.row.specs.Fault.{numberOf}
 use Rattle.raw.specs.Strict.{Same, faultUp, shifted}
@@ -84,12 +83,12 @@ refuse-good reason m =
       shift = λ a. record { moves = λ s p. refl };
     }
 
-pub put-kept : {v l : ℕ} (k : Kind) (a e : ℕ) → Kept v 0 l (put k a e)
-put-kept k a e = record { sound = λ s p. omega arith; local = λ s t p q h i e. refl }
+pub put-kept : {v l : ℕ} (m : Mark) (a e : ℕ) → Kept v 0 l (put m a e)
+put-kept m a e = record { sound = λ s p. omega arith; local = λ s t p q h i e. refl }
 
-pub put-shifts : (k : Kind) (x : List ℕ) (a e : ℕ) → Shifts x (put k a e) (put k (a + length x) (e + length x))
+pub put-shifts : (m : Mark) (x : List ℕ) (a e : ℕ) → Shifts x (put m a e) (put m (a + length x) (e + length x))
 unfolding moved
-put-shifts k x a e = record { moves = λ s p. refl }
+put-shifts m x a e = record { moves = λ s p. refl }
 
 -- ---- weaker, and the same
 

@@ -9,8 +9,7 @@ use mathlib.Core.Bool.{Bool, true}
 use mathlib.Core.List.{List, [], _∷_, _++_}
 use lib.ListN.{length}
 use Rattle.text.specs.Scan.{see}
-use Rattle.row.specs.declared.form.Kind.{Kind}
-use Rattle.row.specs.Row.{Row, row, kindOf}
+use Rattle.row.specs.Row.{Row, Mark, marked, kindOf}
 use Rattle.row.specs.declared.fault.Reason.{Reason}
 use Rattle.raw.specs.Reader.{Out, ok, again, bad, Reader, more, andThen, under, after, stop, turn, refuse, _then_, over, overFrom, put, when, sees, loop, many}
 use Rattle.row.specs.Rules.{Await, next, isDetail, run}
@@ -46,18 +45,18 @@ after-leads P A Q (ok q rs) g h G = h
 after-leads P A Q (again q rs b) g h G = more-leads P A P Q rs (g b q) h (G b q)
 after-leads P A Q (bad f) g h G = tt
 
--- a row of kind k takes P to P′
-abbrev pub Takes : Kind → Awaits → Awaits → Type 0
-Takes k P P′ = (isDetail (kindOf k) 0 ≡ true) × ((a : Await) → P a → P′ (next a (kindOf k)))
+-- a row of the mark m takes P to P′
+abbrev pub Takes : Mark → Awaits → Awaits → Type 0
+Takes m P P′ = (isDetail (kindOf (m .kind)) (m .detail) ≡ true) × ((a : Await) → P a → P′ (next a (kindOf (m .kind))))
 
-row-leads : (k : Kind) (P P′ Q : Awaits) (p q : ℕ) (rs : List Row) → Takes k P P′ → ((a : Await) → P′ a → Q (run a rs)) → (a : Await) → P a → Q (run a (row k p q ∷ rs))
+row-leads : (m : Mark) (P P′ Q : Awaits) (p q : ℕ) (rs : List Row) → Takes m P P′ → ((a : Await) → P′ a → Q (run a rs)) → (a : Await) → P a → Q (run a (marked m p q ∷ rs))
 unfolding run
-row-leads k P P′ Q p q rs t h a x = rw (t .0) (h (next a (kindOf k)) (t .1 a x))
+row-leads m P P′ Q p q rs t h a x = rw (t .0) (h (next a (kindOf (m .kind))) (t .1 a x))
 
-under-leads : (k : Kind) (P P′ A Q : Awaits) (p : ℕ) (o : Out) → Takes k P P′ → LeadsOut P′ A Q o → LeadsOut P A Q (under (row k p) o)
-under-leads k P P′ A Q p (ok q rs) t h = row-leads k P P′ Q p q rs t h
-under-leads k P P′ A Q p (again q rs b) t h = row-leads k P P′ A p q rs t h
-under-leads k P P′ A Q p (bad f) t h = tt
+under-leads : (m : Mark) (P P′ A Q : Awaits) (p : ℕ) (o : Out) → Takes m P P′ → LeadsOut P′ A Q o → LeadsOut P A Q (under (marked m p) o)
+under-leads m P P′ A Q p (ok q rs) t h = row-leads m P P′ Q p q rs t h
+under-leads m P P′ A Q p (again q rs b) t h = row-leads m P P′ A p q rs t h
+under-leads m P P′ A Q p (bad f) t h = tt
 
 -- ---- readers
 
@@ -73,9 +72,9 @@ module _ {P A Q : Awaits} where
   pub refuse-leads : (reason : Reason) → Leads P A Q (refuse reason)
   refuse-leads reason = record { leads = λ s p. tt }
 
-  pub put-leads : (k : Kind) (a e : ℕ) → Takes k P Q → Leads P A Q (put k a e)
+  pub put-leads : (m : Mark) (a e : ℕ) → Takes m P Q → Leads P A Q (put m a e)
   unfolding run
-  put-leads k a e t = record { leads = λ s p. row-leads k P Q Q a e [] t (λ b x. x) }
+  put-leads m a e t = record { leads = λ s p. row-leads m P Q Q a e [] t (λ b x. x) }
 
   pub when-leads : (c : ℕ → Bool) {f g : Reader} → Leads P A Q f → Leads P A Q g → Leads P A Q (when c f g)
   when-leads c {f} {g} F G =
@@ -96,12 +95,12 @@ out-wider P Q R (bad f) h x = tt
 pub wider-leads : {P Q R : Awaits} {f : Reader} → ((a : Await) → Q a → R a) → Leads P Q Q f → Leads P R R f
 wider-leads {P} {Q} {R} {f} h F = record { leads = λ s p. out-wider P Q R (f s p) h (F .leads s p) }
 
-module _ {P P′ A Q : Awaits} (k : Kind) {f : Reader} (t : Takes k P P′) (F : Leads P′ A Q f) where
-  pub from-leads : (a : ℕ) → Leads P A Q (overFrom k a f)
-  from-leads a = record { leads = λ s p. under-leads k P P′ A Q a (f s p) t (F .leads s p) }
+module _ {P P′ A Q : Awaits} (m : Mark) {f : Reader} (t : Takes m P P′) (F : Leads P′ A Q f) where
+  pub from-leads : (a : ℕ) → Leads P A Q (overFrom m a f)
+  from-leads a = record { leads = λ s p. under-leads m P P′ A Q a (f s p) t (F .leads s p) }
 
-  pub over-leads : Leads P A Q (over k f)
-  over-leads = record { leads = λ s p. under-leads k P P′ A Q p (f s p) t (F .leads s p) }
+  pub over-leads : Leads P A Q (over m f)
+  over-leads = record { leads = λ s p. under-leads m P P′ A Q p (f s p) t (F .leads s p) }
 
 module _ {P Q : Awaits} {f : ℕ → Reader} (F : (a : ℕ) → Leads P P Q (f a)) where
   loop-leads : (A : Awaits) (s : List ℕ) (n a p : ℕ) → LeadsOut P A Q (loop f n a s p)

@@ -14,7 +14,7 @@ use Rattle.row.specs.declared.form.Kind.{Kind}
 use Rattle.row.specs.declared.form.Kind.the-variants as kind
 use Rattle.row.specs.declared.fault.Reason.the-variants.{UnexpectedEof, ExpectedIdentifier, ExpectedOpeningBrace, ExpectedClosingBrace, ExpectedComma, ExpectedQuotationMark, ExpectedEquals, UnexpectedDecimalPoint}
 use Rattle.row.specs.declared.fault.Reason.{Reason}
-use Rattle.row.specs.Row.{kindOf}
+use Rattle.row.specs.Row.{plain, kindOf}
 use Rattle.raw.specs.Reader.{refuse, scanTurn, scan}
 use Rattle.raw.specs.Grammar.{is, any, need, white, comma, atSign, opening, closing, quote, equals, escape, quotedTurn, quoted, string, stringLiteral, numberTurn, number, bracedTurn, inBraces, braced, ident, singleField, abbrElement, abbrTurn, abbrField, comment, field, fieldEnd, fieldsTurn, fields, key, strings, preamble, commented, body, lead}
 use Rattle.raw.proofs.Good.{Met, Good, stop-good, turn-good, refuse-good, weaker, when-good, sees-good}
@@ -84,7 +84,7 @@ string-good = then-good quote-good (then-good quoted-good quote-good (omega arit
 
 pub string-literal-good : Good 1 1 0 stringLiteral
 unfolding stringLiteral
-string-literal-good = then-good quote-good (then-good (over-good kind.Literal refl quoted-good) quote-good (omega arith)) (omega arith)
+string-literal-good = then-good quote-good (then-good (over-good (plain kind.Literal) refl quoted-good) quote-good (omega arith)) (omega arith)
 
 pub number-turn-good : (a : ℕ) → Good 1 0 1 (numberTurn a)
 unfolding numberTurn
@@ -116,7 +116,7 @@ in-braces-good = many-good braced-turn-good 0
 
 pub braced-good : Good 1 1 0 braced
 unfolding braced
-braced-good = then-good opening-good (then-good (over-good kind.Literal refl in-braces-good) closing-good (omega arith)) (omega arith)
+braced-good = then-good opening-good (then-good (over-good (plain kind.Literal) refl in-braces-good) closing-good (omega arith)) (omega arith)
 
 pub ident-good : Good 1 1 1 ident
 unfolding ident
@@ -129,8 +129,8 @@ single-field-good = sees-good (is 0x7B) braced-good (sees-good (is 0x22) string-
 pub abbr-element-good : Good 0 0 1 abbrElement
 unfolding abbrElement
 abbr-element-good =
-    sees-good (holdsOf test.Digit) (over-good kind.Literal refl number-good)
-    (sees-good isIdStart (over-good kind.Name refl (weaker ident-good (omega arith))) (weaker single-field-good (omega arith)) (omega arith)) (omega arith)
+    sees-good (holdsOf test.Digit) (over-good (plain kind.Literal) refl number-good)
+    (sees-good isIdStart (over-good (plain kind.Name) refl (weaker ident-good (omega arith))) (weaker single-field-good (omega arith)) (omega arith)) (omega arith)
 
 pub abbr-turn-good : (a : ℕ) → Good 1 0 1 (abbrTurn a)
 unfolding abbrTurn
@@ -141,7 +141,7 @@ abbr-turn-good a =
 
 pub abbr-field-good : Good 0 0 1 abbrField
 unfolding abbrField
-abbr-field-good = over-good kind.Value refl (many-good abbr-turn-good 0)
+abbr-field-good = over-good (plain kind.Value) refl (many-good abbr-turn-good 0)
 
 -- ---- fields
 
@@ -160,7 +160,7 @@ module _ (k : Kind) (d : eqb (kindOf k) 9 ≡ false) where
   pub field-good : Good 0 0 1 (field k)
   unfolding field
   field-good =
-      then-good (over-good k d ident-good) (then-good white-good (then-by equals-good (then-good white-good (then-good abbr-field-good (then-good white-good comment-good
+      then-good (over-good (plain k) d ident-good) (then-good white-good (then-by equals-good (then-good white-good (then-good abbr-field-good (then-good white-good comment-good
       (omega arith)) (omega arith)) (omega arith)) (omega arith)) (omega arith)) (omega arith)
 
   pub fields-turn-good : (a : ℕ) → Good 1 0 1 (fieldsTurn k a)
@@ -186,7 +186,7 @@ strings-good = fields-good kind.DefinitionName refl
 
 pub preamble-good : Good 1 1 0 preamble
 unfolding preamble
-preamble-good = over-good kind.Preamble refl string-good
+preamble-good = over-good (plain kind.Preamble) refl string-good
 
 pub commented-good : Good 0 0 1 commented
 unfolding commented
@@ -195,7 +195,7 @@ commented-good = scan-good (fails test.ClosingBrace)
 pub body-good : Good 0 0 1 body
 unfolding body
 body-good =
-    then-good (over-good kind.Key refl key-good) (then-good white-good (then-by comma-good (then-good white-good (then-good comment-good (then-good white-good
+    then-good (over-good (plain kind.Key) refl key-good) (then-good white-good (then-by comma-good (then-good white-good (then-good comment-good (then-good white-good
     (fields-good kind.FieldName refl) (omega arith)) (omega arith)) (omega arith)) (omega arith)) (omega arith)) (omega arith)
 
 pub lead-good : Good 0 0 1 lead

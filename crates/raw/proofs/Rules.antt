@@ -11,7 +11,7 @@ use Rattle.row.specs.declared.form.Kind.the-variants as kind
 use Rattle.raw.specs.declared.entry.Form.{Form}
 use Rattle.raw.specs.declared.entry.Form.the-variants.{Strings, Preambles, Comments, Other}
 use Rattle.row.specs.declared.fault.Reason.the-variants.{ExpectedComma}
-use Rattle.row.specs.Row.{Row}
+use Rattle.row.specs.Row.{Row, plain}
 use Rattle.raw.specs.Reader.{ok}
 use Rattle.raw.specs.Grammar.{is, any, atSign, stringLiteral, braced, ident, singleField, abbrElement, abbrTurn, abbrField, field, fieldEnd, fieldsTurn, fields, key, formOf, strings, preamble, body, rest, entry, fileTurn, file}
 use Rattle.row.specs.Rules.{Await, part, type, value, chunk, chunks, next, whole, isRows}
@@ -87,17 +87,17 @@ key-takes a is-it = at-part
 module _ {A : Awaits} (f : Bool) where
   string-literal-leads : Leads (Chunk f) A (Is (chunks f)) stringLiteral
   unfolding stringLiteral
-  string-literal-leads = then-leads quote-leads (then-leads (over-leads kind.Literal (refl, chunk-takes f) quoted-leads) quote-leads)
+  string-literal-leads = then-leads quote-leads (then-leads (over-leads (plain kind.Literal) (refl, chunk-takes f) quoted-leads) quote-leads)
 
   braced-leads : Leads (Chunk f) A (Is (chunks f)) braced
   unfolding braced
-  braced-leads = then-leads opening-leads (then-leads (over-leads kind.Literal (refl, chunk-takes f) in-braces-leads) closing-leads)
+  braced-leads = then-leads opening-leads (then-leads (over-leads (plain kind.Literal) (refl, chunk-takes f) in-braces-leads) closing-leads)
 
   abbr-element-leads : Leads (Chunk f) A (Is (chunks f)) abbrElement
   unfolding abbrElement singleField
   abbr-element-leads =
-      sees-leads (holdsOf test.Digit) (over-leads kind.Literal (refl, chunk-takes f) number-leads)
-      (sees-leads isIdStart (over-leads kind.Name (refl, name-takes f) ident-leads)
+      sees-leads (holdsOf test.Digit) (over-leads (plain kind.Literal) (refl, chunk-takes f) number-leads)
+      (sees-leads isIdStart (over-leads (plain kind.Name) (refl, name-takes f) ident-leads)
       (sees-leads (is 0x7B) braced-leads (sees-leads (is 0x22) string-literal-leads eof-leads)))
 
 is-more : (f : Bool) (a : Await) → Is (chunks f) a → Chunk f a
@@ -111,18 +111,18 @@ abbr-turn-leads f a =
 
 abbr-field-leads : {A : Awaits} (f : Bool) → Leads (Is (value f)) A (Is (chunks f)) abbrField
 unfolding abbrField
-abbr-field-leads f = over-leads kind.Value (refl, value-takes f) (many-leads (abbr-turn-leads f) 0)
+abbr-field-leads f = over-leads (plain kind.Value) (refl, value-takes f) (many-leads (abbr-turn-leads f) 0)
 
 -- ---- fields whose names, of kind k, may come where P is awaited
 
-module _ {P : Awaits} (k : Kind) (f : Bool) (t : Takes k P (Is (value f))) (back : P (chunks f)) where
+module _ {P : Awaits} (k : Kind) (f : Bool) (t : Takes (plain k) P (Is (value f))) (back : P (chunks f)) where
   again-leads : (a : Await) → Is (chunks f) a → P a
   again-leads a is-it = back
 
   field-leads : {A : Awaits} → Leads P A (Is (chunks f)) (field k)
   unfolding field
   field-leads =
-      then-leads (over-leads k t ident-leads) (then-leads white-leads (then-leads equals-leads (then-leads white-leads
+      then-leads (over-leads (plain k) t ident-leads) (then-leads white-leads (then-leads equals-leads (then-leads white-leads
       (then-leads (abbr-field-leads f) (then-leads white-leads comment-leads)))))
 
   field-end-leads : Leads (Is (chunks f)) P P fieldEnd
@@ -149,12 +149,12 @@ strings-leads = fields-leads kind.DefinitionName false (refl, definition-takes) 
 
 preamble-leads : {A : Awaits} → Leads Free A Free preamble
 unfolding preamble
-preamble-leads = over-leads kind.Preamble (refl, preamble-takes) string-leads
+preamble-leads = over-leads (plain kind.Preamble) (refl, preamble-takes) string-leads
 
 body-leads : {A : Awaits} → Leads (Is awaits.key) A (Part true) body
 unfolding body
 body-leads =
-    then-leads (over-leads kind.Key (refl, key-takes) key-leads) (then-leads white-leads (then-leads comma-leads (then-leads white-leads
+    then-leads (over-leads (plain kind.Key) (refl, key-takes) key-leads) (then-leads white-leads (then-leads comma-leads (then-leads white-leads
     (then-leads comment-leads (then-leads white-leads (fields-leads kind.FieldName true (refl, field-takes) at-chunks))))))
 
 rest-leads : (form : Form) (p a e : ℕ) → Leads Free Free Free (rest form p a e)
@@ -163,7 +163,7 @@ rest-leads Strings p a e = then-leads lead-leads strings-leads
 rest-leads Preambles p a e = then-leads lead-leads preamble-leads
 rest-leads Comments p a e = then-leads lead-leads commented-leads
 rest-leads Other p a e =
-    from-leads kind.Entry (refl, entry-takes) (then-leads (put-leads kind.EntryType a e (refl, type-takes)) (then-leads lead-leads (wider-leads part-free body-leads))) p
+    from-leads (plain kind.Entry) (refl, entry-takes) (then-leads (put-leads (plain kind.EntryType) a e (refl, type-takes)) (then-leads lead-leads (wider-leads part-free body-leads))) p
 
 named-leads : (A : Awaits) (p a : ℕ) (s : List ℕ) (e : ℕ) → LeadsOut Free A Free (named p a s e)
 named-leads A p a s e = then-leads {A = A} (rest-leads (formOf s a e) p a e) (then-leads white-leads closing-leads) .leads s e

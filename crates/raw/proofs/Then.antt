@@ -10,8 +10,7 @@ use mathlib.Core.Bool.{false}
 use mathlib.Core.List.{List, [], _∷_, _++_}
 use lib.ListN.{length}
 use lib.Dec.{eqb}
-use Rattle.row.specs.declared.form.Kind.{Kind}
-use Rattle.row.specs.Row.{Row, row, rowUp, kindOf, moved}
+use Rattle.row.specs.Row.{Row, Mark, marked, kindOf, moved}
 use Rattle.row.proofs.Rows.{moved-append}
 use Rattle.raw.specs.Reader.{OutOf, ok, again, bad, ReaderOf, Out, Reader, more, andThen, under, _then_, over, overFrom, turn}
 use Rattle.raw.specs.Strict.{Same, shifted}
@@ -138,32 +137,32 @@ module _ (mk : ℕ → Row) where
   under-sound v w p n (again q rs a) x = x
   under-sound v w p n (bad f) x = tt
 
-under-up : (k : Kind) (p d : ℕ) (o : Out) → under (row k (p + d)) (shifted d o) ≡ shifted d (under (row k p) o)
+under-up : (m : Mark) (p d : ℕ) (o : Out) → under (marked m (p + d)) (shifted d o) ≡ shifted d (under (marked m p) o)
 unfolding moved
-under-up k p d (ok q rs) = refl
-under-up k p d (again q rs a) = refl
-under-up k p d (bad f) = refl
+under-up m p d (ok q rs) = refl
+under-up m p d (again q rs a) = refl
+under-up m p d (bad f) = refl
 
-module _ {v w l : ℕ} (k : Kind) {f : Reader} where
+module _ {v w l : ℕ} (m : Mark) {f : Reader} where
   -- from a place before it
-  pub from-kept : (a : ℕ) → Kept v w l f → Kept v w l (overFrom k a f)
+  pub from-kept : (a : ℕ) → Kept v w l f → Kept v w l (overFrom m a f)
   from-kept a F =
       record {
-        sound = λ s p. under-sound (row k a) v w p (length s) (f s p) (F .sound s p);
-        local = λ s t p q h i e. ap (under (row k a)) (F .local s t p q (under-stops (row k a) (f s p) q h) i e);
+        sound = λ s p. under-sound (marked m a) v w p (length s) (f s p) (F .sound s p);
+        local = λ s t p q h i e. ap (under (marked m a)) (F .local s t p q (under-stops (marked m a) (f s p) q h) i e);
       }
 
   -- from its own
-  pub over-good : eqb (kindOf k) 9 ≡ false → Good v w l f → Good v w l (over k f)
+  pub over-good : eqb (kindOf (m .kind)) 9 ≡ false → Good v w l f → Good v w l (over m f)
   over-good d F =
       record {
         kept = record {
           sound = λ s p. from-kept p (F .kept) .sound s p;
           local = λ s t p q h i e. from-kept p (F .kept) .local s t p q h i e;
         };
-        traced = λ s p. lay-traced s p k (f s p) d (F .traced s p);
-        shift = λ a. record { moves = λ s p. rw (F .shift a .moves s p) (under-up k p (length a) (f s p)) };
+        traced = λ s p. lay-traced s p m (f s p) d (F .traced s p);
+        shift = λ a. record { moves = λ s p. rw (F .shift a .moves s p) (under-up m p (length a) (f s p)) };
       }
 
-pub from-shifts : (k : Kind) {x : List ℕ} (a : ℕ) {f g : Reader} → Shifts x f g → Shifts x (overFrom k a f) (overFrom k (a + length x) g)
-from-shifts k {x} a {f} F = record { moves = λ s p. rw (F .moves s p) (under-up k a (length x) (f s p)) }
+pub from-shifts : (m : Mark) {x : List ℕ} (a : ℕ) {f g : Reader} → Shifts x f g → Shifts x (overFrom m a f) (overFrom m (a + length x) g)
+from-shifts m {x} a {f} F = record { moves = λ s p. rw (F .moves s p) (under-up m a (length x) (f s p)) }

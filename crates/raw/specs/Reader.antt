@@ -8,12 +8,11 @@ use lib.ListN.{length}
 use Rattle.text.specs.Scan.{see}
 use Rattle.text.specs.declared.scanner.Seen.{Seen}
 use Rattle.text.specs.declared.scanner.Seen.the-variants.{End, Char}
-use Rattle.row.specs.declared.form.Kind.{Kind}
 use Rattle.row.specs.declared.fault.Fault.{Fault}
 use Rattle.row.specs.declared.fault.Reason.the-variants.{UnexpectedEof}
 use Rattle.row.specs.declared.fault.Reason.{Reason}
 use Rattle.row.specs.Fault.{faultAt}
-use Rattle.row.specs.Row.{Row, row}
+use Rattle.row.specs.Row.{Row, Mark, marked}
 
 -- a reader is done at a place; or one turn of a loop is, and the loop goes on with a number; or it refuses. P is what it emits
 pub data OutOf (P : Type 0) : Type 0 where
@@ -103,13 +102,13 @@ scan t = many (scanTurn t) 0
 
 -- ---- readers of rows
 
--- a row over all that f reads, or from a place before it
-abbrev pub over : Kind → Reader → Reader
-over k f s p = under (row k p) (f s p)
+-- a row of the mark m over all that f reads, or from a place before it
+abbrev pub over : Mark → Reader → Reader
+over m f s p = under (marked m p) (f s p)
 
-abbrev pub overFrom : Kind → ℕ → Reader → Reader
-overFrom k a f s p = under (row k a) (f s p)
+abbrev pub overFrom : Mark → ℕ → Reader → Reader
+overFrom m a f s p = under (marked m a) (f s p)
 
 -- a row from a place to another
-abbrev pub put : Kind → ℕ → ℕ → Reader
-put k a e s p = ok p (row k a e ∷ [])
+abbrev pub put : Mark → ℕ → ℕ → Reader
+put m a e s p = ok p (marked m a e ∷ [])
