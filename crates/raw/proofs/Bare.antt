@@ -2,28 +2,24 @@
 --     Bare                                  done with no row, or a refusal
 --     bare-at, bare-off                     by the step it told: an equation of the reader
 --     more-none, then-on, then-off          one reader after another, by such an equation
---     bare-then, bare-many                  readers put together of such
+--     bare                                  a reader that has the laws from any point is such
 -- Assumes nothing.
-use Prim.Native.Nat.{ℕ, zero, suc}
-use mathlib.Core.Path.{_≡_, refl, sym, ap, _∙_}
-use mathlib.Core.List.{List, []}
+use Prim.Native.Nat.{ℕ}
+use mathlib.Core.Path.{_≡_, refl, sym, ap, _∙_, subst}
+use mathlib.Core.List.{List, [], _++_, append-nil, append-assoc}
 use native.Mathlib.Omega.{arith}
 use Rattle.row.specs.declared.fault.Fault.{Fault}
 use Rattle.raw.specs.declared.answer.Step.{Step}
 use Rattle.raw.specs.declared.answer.Step.the-variants as step
-use lib.ListN.{length}
-use Rattle.raw.specs.Reader.{Out, ok, again, bad, Reader, more, andThen, after, loop, many}
+use Rattle.raw.specs.Reader.{Out, ok, again, bad, Reader, more, andThen}
 use Rattle.raw.specs.Says.{stepOf}
+use Rattle.row.specs.Row.{Row}
+use Rattle.raw.proofs.Points.{Order, Point, at, MovesOut, done, goes, fails}
+use Rattle.raw.proofs.Laws.{Laws}
 
 pub data Bare : Out → Type 0 where
   bare-ok : {q : ℕ} → Bare (ok q [])
   bare-bad : {f : Fault} → Bare (bad f)
-
--- and a turn of a loop of such
-pub data BareTurn : Out → Type 0 where
-  bare-done : {q : ℕ} → BareTurn (ok q [])
-  bare-again : {q a : ℕ} → BareTurn (again q [] a)
-  bare-stop : {f : Fault} → BareTurn (bad f)
 
 -- ---- by the step it told
 
@@ -56,23 +52,24 @@ module _ {o : Out} (g : ℕ → Out) where
   pub then-off : {f : Fault} → o ≡ bad f → andThen o g ≡ bad f
   then-off e = ap (λ (x : Out). andThen x g) e
 
--- ---- put together
+-- ---- a reader without rows
 
-pub bare-then : {o : Out} (g : ℕ → Out) → Bare o → ((q : ℕ) → Bare (g q)) → Bare (andThen o g)
-bare-then g (bare-ok {q}) h = rw (more-none (g q)) (h q)
-bare-then g bare-bad h = bare-bad
+-- the order of lists: each part comes behind those before it
+abbrev pub listed : Order Row
+listed = record { State = List Row; run = λ rs ss. rs ++ ss; run-none = append-nil; run-append = λ rs ss us. sym (append-assoc rs ss us) }
 
-module _ (f : ℕ → Reader) (turns : (a : ℕ) (s : List ℕ) (p : ℕ) → BareTurn (f a s p)) where
-  bare-after : {o : Out} (g : ℕ → ℕ → Out) → BareTurn o → ((a q : ℕ) → Bare (g a q)) → Bare (after o g)
-  bare-after g bare-done h = bare-ok
-  bare-after g (bare-again {q} {a}) h = rw (more-none (g a q)) (h a q)
-  bare-after g bare-stop h = bare-bad
+-- no row; and no point at all
+abbrev pub unrowed : ℕ → ℕ → Point listed
+unrowed e n = at e n (λ rs. rs ≡ [])
 
-  bare-loop : (n a : ℕ) (s : List ℕ) (p : ℕ) → Bare (loop f n a s p)
-  unfolding loop
-  bare-loop zero a s p = bare-bad
-  bare-loop (suc n) a s p = bare-after (λ b q. loop f n b s q) (turns a s p) (λ b q. bare-loop n b s q)
+abbrev pub nowhere : Point listed
+nowhere = at 0 0 (λ rs. ⊥)
 
-  pub bare-many : (a : ℕ) (s : List ℕ) (p : ℕ) → Bare (many f a s p)
-  unfolding many
-  bare-many a s p = bare-loop (suc (length s)) a s p
+bare-moves : {e n p : ℕ} {o : Out} → MovesOut (unrowed 0 0) nowhere (unrowed e n) p o → Bare o
+bare-moves (done {q} x) = subst (λ (rs : List Row). Bare (ok q rs)) (sym (x .leads [] refl)) bare-ok
+bare-moves (goes x) = absurd (x .leads [] refl)
+bare-moves fails = bare-bad
+
+-- a reader that has the laws from any point puts no row, and is no turn
+pub bare : {e n : ℕ} {f : Reader} → Laws (unrowed 0 0) nowhere (unrowed e n) f → (s : List ℕ) (p : ℕ) → Bare (f s p)
+bare F s p = bare-moves (F .core .moves s p)

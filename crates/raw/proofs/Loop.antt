@@ -1,19 +1,19 @@
--- Loops: enough fuel is as good as more, and a loop of good turns is a good reader.
+-- Loops: enough fuel is as good as more, and a loop of turns that go on keeps what they keep.
 --     loop-fuel     any two fuels that last to the end of the text answer the same, refusals too
 --     loop-more     any fuel that lasts to the answer's place answers the same
 --     many-turn     a loop is its first turn and then the loop: after this no fuel is seen
---     many-good
+--     many-kept, loop-traced
 -- Assumes nothing.
 use Prim.Native.Nat.{ℕ, zero, suc, _+_, _≤_, _<_}
 use native.Mathlib.Omega.{arith}
 use mathlib.Core.Path.{_≡_, refl, sym, ap, _∙_, subst}
-use mathlib.Core.List.{List, _++_}
-use lib.ListN.{length, length-append}
-use Rattle.raw.specs.Reader.{OutOf, ok, again, bad, ReaderOf, Out, Reader, more, after, loop, many}
+use mathlib.Core.List.{List}
+use lib.ListN.{length}
+use Rattle.raw.specs.Reader.{OutOf, ok, again, bad, ReaderOf, Reader, more, after, loop, many}
 use Rattle.raw.proofs.Trace.{here, Traced, after-traced}
-use Rattle.raw.specs.Strict.{Same, shifted}
-use Rattle.raw.proofs.Good.{Stops, Sound, Kept, Good}
-use Rattle.raw.proofs.Then.{more-stops, more-up, more-sound, sound-from, least-from}
+use Rattle.raw.specs.Strict.{Same}
+use Rattle.raw.proofs.Kept.{Stops, Sound, Kept}
+use Rattle.raw.proofs.Then.{more-stops, more-sound, sound-from, least-from}
 
 -- every `again` of a turn goes on, and not past the end
 module _ {P : Type 0} {w l : ℕ} {f : ℕ → ReaderOf P} (F : (a : ℕ) → Kept 1 w l (f a)) where
@@ -99,33 +99,7 @@ module _ {P : Type 0} {w l : ℕ} {f : ℕ → ReaderOf P} (F : (a : ℕ) → Ke
 
 -- ---- of rows
 
-module _ {w l : ℕ} {f : ℕ → Reader} (F : (a : ℕ) → Good 1 w l (f a)) where
-  loop-traced : (s : List ℕ) (n a p : ℕ) → Traced s p (loop f n a s p)
-  unfolding loop
-  loop-traced s zero a p = record { place = here; empty = refl; least = omega arith; most = omega arith }
-  loop-traced s (suc n) a p = after-traced s p (f a s p) (λ b q. loop f n b s q) (F a .traced s p) (loop-traced s n)
-
-  up-after : (c s : List ℕ) (n : ℕ) (o : Out) → ((b q : ℕ) → loop f n b (c ++ s) (q + length c) ≡ shifted (length c) (loop f n b s q)) → after (shifted (length c) o) (λ b q. loop f n b (c ++ s) q) ≡ shifted (length c) (after o (λ b q. loop f n b s q))
-  up-after c s n (ok q rs) ih = refl
-  up-after c s n (again q rs a) ih = rw (ih a q) (more-up (length c) rs (loop f n a s q))
-  up-after c s n (bad k) ih = refl
-
-  loop-up : (c s : List ℕ) (n a p : ℕ) → loop f n a (c ++ s) (p + length c) ≡ shifted (length c) (loop f n a s p)
-  unfolding loop
-  loop-up c s zero a p = refl
-  loop-up c s (suc n) a p = rw (F a .shift c .moves s p) (up-after c s n (f a s p) (loop-up c s n))
-
-  many-up : (a : ℕ) (c s : List ℕ) (p : ℕ) → many f a (c ++ s) (p + length c) ≡ shifted (length c) (many f a s p)
-  unfolding many
-  many-up a c s p =
-      loop-fuel (λ a. F a .kept) (length (c ++ s)) (length s) a (c ++ s) (p + length c) (omega arith) (omega (arith, length-append c s))
-      ∙ loop-up c s (suc (length s)) a p
-
-  pub many-good : {v : ℕ} (a : ℕ) → Good v w l (many f a)
-  unfolding many
-  many-good {v} a =
-      record {
-        kept = many-kept (λ a. F a .kept) a;
-        traced = λ s p. loop-traced s (suc (length s)) a p;
-        shift = λ c. record { moves = many-up a c };
-      }
+pub loop-traced : (f : ℕ → Reader) → ((a : ℕ) (s : List ℕ) (p : ℕ) → Traced s p (f a s p)) → (s : List ℕ) (n a p : ℕ) → Traced s p (loop f n a s p)
+unfolding loop
+loop-traced f F s zero a p = record { place = here; empty = refl; least = omega arith; most = omega arith }
+loop-traced f F s (suc n) a p = after-traced s p (f a s p) (λ b q. loop f n b s q) (F a s p) (loop-traced f F s n)

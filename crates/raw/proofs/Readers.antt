@@ -1,11 +1,10 @@
--- Every reader of the grammar up to an entry's is good: the numbers are what it eats at least in a turn that goes on, what it
--- eats at least else, and how far past its end it looks. `x-good` is of the reader x, `x-turn-good` of the turn of its loop.
--- Entries and the file are in Entries.antt.
+-- The laws of every reader of the grammar, in the order of specs/Grammar.antt: x-laws is of the reader x. A new reader is entered
+-- here once. Its points say how many bytes it eats at least, how many rows they pay, and which rows may come before and after it.
 -- Assumes nothing.
-use Prim.Native.Nat.{ℕ, zero, suc}
+use Prim.Native.Nat.{ℕ, zero, suc, _+_, _≤_}
 use native.Mathlib.Omega.{arith}
 use mathlib.Core.Path.{_≡_, refl}
-use mathlib.Core.Bool.{Bool, false, _||_}
+use mathlib.Core.Bool.{Bool, true, false, _||_}
 use lib.Dec.{eqb}
 use Rattle.text.specs.Class.{isWhitespace, isKey, isIdStart, isIdContinue, holdsOf}
 use Rattle.text.specs.Scan.{fails}
@@ -13,191 +12,200 @@ use Rattle.text.specs.declared.class.Test.the-variants as test
 use Rattle.row.specs.declared.form.Kind.{Kind}
 use Rattle.row.specs.declared.form.Kind.the-variants as kind
 use Rattle.row.specs.declared.fault.Reason.the-variants.{UnexpectedEof, ExpectedIdentifier, ExpectedOpeningBrace, ExpectedClosingBrace, ExpectedComma, ExpectedQuotationMark, ExpectedEquals, UnexpectedDecimalPoint}
-use Rattle.row.specs.declared.fault.Reason.{Reason}
-use Rattle.row.specs.Row.{plain, kindOf}
-use Rattle.raw.specs.Reader.{refuse, scanTurn, scan}
-use Rattle.raw.specs.Grammar.{is, any, need, white, comma, atSign, opening, closing, quote, equals, escape, quotedTurn, quoted, string, stringLiteral, numberTurn, number, bracedTurn, inBraces, braced, ident, singleField, abbrElement, abbrTurn, abbrField, comment, field, fieldEnd, fieldsTurn, fields, key, strings, preamble, commented, body, lead}
-use Rattle.raw.proofs.Good.{Met, Good, stop-good, turn-good, refuse-good, weaker, when-good, sees-good}
-use Rattle.raw.proofs.Then.{then-good, then-by, over-good}
-use Rattle.raw.proofs.Loop.{many-good}
+use Rattle.row.specs.Row.{Row, plain, kindOf}
+use Rattle.raw.specs.Reader.{Reader}
+use Rattle.raw.specs.Grammar.{is, any, white, comma, atSign, opening, closing, quote, equals, escape, quotedTurn, quoted, string, stringLiteral, numberTurn, number, bracedTurn, inBraces, braced, ident, singleField, abbrElement, abbrTurn, abbrField, comment, field, fieldEnd, fieldsTurn, fields, key, strings, preamble, commented, body, lead}
+use Rattle.raw.proofs.Kept.{Kept}
+use Rattle.raw.proofs.Points.{Order, Point, ate, onward, AtLeast, same, back, past, far, less-of, Takes}
+use Rattle.raw.proofs.RowOrder.{rules, awaiting, start, Is, is-in, Chunk, more, Part, at-chunks, literal-takes, name-takes, value-takes, field-takes, definition-takes, preamble-takes, key-takes}
+use Rattle.row.specs.Rules.{Await, value, chunks}
+use Rattle.row.specs.Rules as awaits
+use Rattle.row.proofs.Joins.{Free, one}
+use Rattle.raw.proofs.Laws.{Laws, going, stop-laws, turn-laws, refuse-laws, when-laws, sees-laws, when-any, sees-any, _then-laws_, over-laws, many-laws, less-laws, need-laws, scan-laws, value-laws}
 
--- ---- tokens
+-- the laws of a reader that do not speak of points
+pub from-start : {ω : Point rules} {f : Reader} → Laws start start ω f → Laws start start ω f
+from-start F = F
 
-pub scan-turn-good : (t : ℕ → Bool) (a : ℕ) → Good 1 0 1 (scanTurn t a)
-scan-turn-good t a = when-good t (turn-good {w = 0} a) stop-good (omega arith)
+-- ---- readers without rows: from any point
 
-pub scan-good : (t : ℕ → Bool) → Good 0 0 1 (scan t)
-scan-good t = many-good (scan-turn-good t) 0
+module _ {O : Order Row} {σ α : Point O} where
+  pub white-laws : Laws σ α σ white
+  unfolding white
+  white-laws = scan-laws isWhitespace
 
-pub need-good : {l : ℕ} (t : ℕ → Bool) (reason : Reason) → Met reason → Good 1 1 l (need t reason)
-need-good t reason m = when-good t (stop-good {v = 0}) (refuse-good reason m) (omega arith)
+  pub comma-laws : Laws σ α (ate σ) comma
+  unfolding comma
+  comma-laws = need-laws (holdsOf test.Comma) ExpectedComma (omega arith)
 
-pub white-good : Good 0 0 1 white
-unfolding white
-white-good = scan-good isWhitespace
+  pub at-sign-laws : Laws σ α (ate σ) atSign
+  unfolding atSign
+  at-sign-laws = need-laws (is 0x40) ExpectedIdentifier (omega arith)
 
-pub comma-good : Good 1 1 0 comma
-unfolding comma
-comma-good = need-good (holdsOf test.Comma) ExpectedComma (omega arith, omega arith)
+  pub opening-laws : Laws σ α (ate σ) opening
+  unfolding opening
+  opening-laws = need-laws (λ c. eqb c 0x7B || eqb c 0x22) ExpectedOpeningBrace (omega arith)
 
-pub at-sign-good : Good 1 1 0 atSign
-unfolding atSign
-at-sign-good = need-good (is 0x40) ExpectedIdentifier (omega arith, omega arith)
+  pub closing-laws : Laws σ α (ate σ) closing
+  unfolding closing
+  closing-laws = need-laws (λ c. eqb c 0x7D || eqb c 0x22) ExpectedClosingBrace (omega arith)
 
-pub opening-good : Good 1 1 0 opening
-unfolding opening
-opening-good = need-good (λ c. eqb c 0x7B || eqb c 0x22) ExpectedOpeningBrace (omega arith, omega arith)
+  pub quote-laws : Laws σ α (ate σ) quote
+  unfolding quote
+  quote-laws = need-laws (holdsOf test.QuotationMark) ExpectedQuotationMark (omega arith)
 
-pub closing-good : Good 1 1 0 closing
-unfolding closing
-closing-good = need-good (λ c. eqb c 0x7D || eqb c 0x22) ExpectedClosingBrace (omega arith, omega arith)
+  pub equals-laws : Laws σ α (ate σ) equals
+  unfolding equals
+  equals-laws = need-laws (holdsOf test.Equals) ExpectedEquals (omega arith)
 
-pub quote-good : Good 1 1 0 quote
-unfolding quote
-quote-good = need-good (holdsOf test.QuotationMark) ExpectedQuotationMark (omega arith, omega arith)
+escape-laws : {O : Order Row} {σ ω : Point O} (a : ℕ) → Laws (ate σ) (onward σ) ω (escape a)
+escape-laws a = when-laws any (turn-laws a far) (turn-laws a past)
 
-pub equals-good : Good 1 1 0 equals
-unfolding equals
-equals-good = need-good (holdsOf test.Equals) ExpectedEquals (omega arith, omega arith)
+module _ {O : Order Row} {σ : Point O} where
+  pub quoted-turn-laws : (a : ℕ) → Laws σ (onward σ) σ (quotedTurn a)
+  unfolding quotedTurn
+  quoted-turn-laws a = sees-laws (is 0x22) stop-laws (when-laws (is 0x5C) (escape-laws a) (when-any (turn-laws a past)))
 
--- ---- values
+  pub number-turn-laws : (a : ℕ) → Laws σ (onward σ) σ (numberTurn a)
+  unfolding numberTurn
+  number-turn-laws zero =
+      when-laws (holdsOf test.Digit) (turn-laws 0 past) (when-laws (is 0x2E) (turn-laws 1 past) (sees-any stop-laws))
+  number-turn-laws (suc a) =
+      when-laws (holdsOf test.Digit) (turn-laws 1 past)
+      (sees-laws (is 0x2E) (refuse-laws UnexpectedDecimalPoint (omega arith)) (sees-any stop-laws))
 
-eof-good : {v w l : ℕ} → Good v w l (refuse UnexpectedEof)
-eof-good = refuse-good UnexpectedEof (omega arith, omega arith)
+  pub braced-turn-laws : (d : ℕ) → Laws σ (onward σ) σ (bracedTurn d)
+  unfolding bracedTurn
+  braced-turn-laws zero =
+      sees-laws (is 0x7D) stop-laws
+      (when-laws (is 0x7B) (turn-laws 1 past) (when-laws (is 0x5C) (escape-laws 0) (when-any (turn-laws 0 past))))
+  braced-turn-laws (suc d) =
+      when-laws (is 0x7D) (turn-laws d past)
+      (when-laws (is 0x7B) (turn-laws (suc (suc d)) past) (when-laws (is 0x5C) (escape-laws (suc d)) (when-any (turn-laws (suc d) past))))
 
-escape-good : (a : ℕ) → Good 0 0 1 (escape a)
-escape-good a = when-good any (turn-good {w = 0} a) (turn-good a) (omega arith)
+module _ {O : Order Row} {σ α : Point O} where
+  pub quoted-laws : Laws σ α σ quoted
+  unfolding quoted
+  quoted-laws = many-laws quoted-turn-laws 0
 
-pub quoted-turn-good : (a : ℕ) → Good 1 0 1 (quotedTurn a)
-unfolding quotedTurn
-quoted-turn-good a =
-    sees-good (is 0x22) stop-good
-    (when-good (is 0x5C) (escape-good a) (when-good any (turn-good {w = 0} a) eof-good (omega arith)) (omega arith)) (omega arith)
+  pub number-laws : Laws σ α σ number
+  unfolding number
+  number-laws = many-laws number-turn-laws 0
 
-pub quoted-good : Good 0 0 1 quoted
-unfolding quoted
-quoted-good = many-good quoted-turn-good 0
+  pub in-braces-laws : Laws σ α σ inBraces
+  unfolding inBraces
+  in-braces-laws = many-laws braced-turn-laws 0
 
-pub string-good : Good 1 1 0 string
-unfolding string
-string-good = then-good quote-good (then-good quoted-good quote-good (omega arith)) (omega arith)
+  pub ident-laws : Laws σ α (ate σ) ident
+  unfolding ident
+  ident-laws = when-laws isIdStart (scan-laws isIdContinue) (refuse-laws ExpectedIdentifier (omega arith))
 
-pub string-literal-good : Good 1 1 0 stringLiteral
-unfolding stringLiteral
-string-literal-good = then-good quote-good (then-good (over-good (plain kind.Literal) refl quoted-good) quote-good (omega arith)) (omega arith)
+  pub comment-laws : Laws σ α σ comment
+  unfolding comment
+  comment-laws = when-laws (holdsOf test.Percent) (less-laws (scan-laws (fails test.Newline)) back) stop-laws
 
-pub number-turn-good : (a : ℕ) → Good 1 0 1 (numberTurn a)
-unfolding numberTurn
-number-turn-good zero =
-    when-good (holdsOf test.Digit) (turn-good {w = 0} 0)
-    (when-good (is 0x2E) (turn-good {w = 0} 1) (sees-good any stop-good eof-good (omega arith)) (omega arith)) (omega arith)
-number-turn-good (suc a) =
-    when-good (holdsOf test.Digit) (turn-good {w = 0} 1)
-    (sees-good (is 0x2E) (refuse-good UnexpectedDecimalPoint (omega arith, omega arith)) (sees-good any stop-good eof-good (omega arith)) (omega arith)) (omega arith)
+  pub key-laws : Laws σ α σ key
+  unfolding key
+  key-laws = scan-laws isKey
 
-pub number-good : Good 0 0 1 number
-unfolding number
-number-good = many-good number-turn-good 0
+  pub commented-laws : Laws σ α σ commented
+  unfolding commented
+  commented-laws = scan-laws (fails test.ClosingBrace)
 
-pub braced-turn-good : (d : ℕ) → Good 1 0 1 (bracedTurn d)
-unfolding bracedTurn
-braced-turn-good zero =
-    sees-good (is 0x7D) stop-good
-    (when-good (is 0x7B) (turn-good {w = 0} 1)
-    (when-good (is 0x5C) (escape-good 0) (when-good any (turn-good {w = 0} 0) eof-good (omega arith)) (omega arith)) (omega arith)) (omega arith)
-braced-turn-good (suc d) =
-    when-good (is 0x7D) (turn-good {w = 0} d)
-    (when-good (is 0x7B) (turn-good {w = 0} (suc (suc d)))
-    (when-good (is 0x5C) (escape-good (suc d)) (when-good any (turn-good {w = 0} (suc d)) eof-good (omega arith)) (omega arith)) (omega arith)) (omega arith)
+module _ {O : Order Row} {σ α : Point O} where
+  pub string-laws : Laws σ α (ate (ate σ)) string
+  unfolding string
+  string-laws = quote-laws then-laws quoted-laws then-laws quote-laws
 
-pub in-braces-good : Good 0 0 1 inBraces
-unfolding inBraces
-in-braces-good = many-good braced-turn-good 0
+  pub lead-laws : Laws σ α (ate σ) lead
+  unfolding lead
+  lead-laws = white-laws then-laws opening-laws then-laws white-laws
 
-pub braced-good : Good 1 1 0 braced
-unfolding braced
-braced-good = then-good opening-good (then-good (over-good (plain kind.Literal) refl in-braces-good) closing-good (omega arith)) (omega arith)
-
-pub ident-good : Good 1 1 1 ident
-unfolding ident
-ident-good = when-good isIdStart (scan-good isIdContinue) (refuse-good ExpectedIdentifier (omega arith, omega arith)) (omega arith)
-
-pub single-field-good : Good 1 1 0 singleField
-unfolding singleField
-single-field-good = sees-good (is 0x7B) braced-good (sees-good (is 0x22) string-literal-good eof-good (omega arith)) (omega arith)
-
-pub abbr-element-good : Good 0 0 1 abbrElement
-unfolding abbrElement
-abbr-element-good =
-    sees-good (holdsOf test.Digit) (over-good (plain kind.Literal) refl number-good)
-    (sees-good isIdStart (over-good (plain kind.Name) refl (weaker ident-good (omega arith))) (weaker single-field-good (omega arith)) (omega arith)) (omega arith)
-
-pub abbr-turn-good : (a : ℕ) → Good 1 0 1 (abbrTurn a)
-unfolding abbrTurn
-abbr-turn-good a =
-    then-good abbr-element-good
-    (then-good white-good
-    (when-good (holdsOf test.Hash) (then-good white-good (turn-good {w = 0} 0) (omega arith)) stop-good (omega arith)) (omega arith)) (omega arith)
-
-pub abbr-field-good : Good 0 0 1 abbrField
-unfolding abbrField
-abbr-field-good = over-good (plain kind.Value) refl (many-good abbr-turn-good 0)
-
--- ---- fields
-
-pub comment-good : Good 0 0 1 comment
-unfolding comment
-comment-good = when-good (holdsOf test.Percent) (scan-good (fails test.Newline)) stop-good (omega arith)
-
-pub field-end-good : Good 1 0 1 fieldEnd
+pub field-end-laws : {O : Order Row} {σ : Point O} → Laws σ (ate σ) σ fieldEnd
 unfolding fieldEnd
-field-end-good =
-    then-good white-good
-    (sees-good (is 0x2C) (then-by comma-good (then-good white-good (then-good comment-good (turn-good {w = 0} 0) (omega arith)) (omega arith)) (omega arith))
-    (sees-good (is 0x7D) stop-good (refuse-good ExpectedComma (omega arith, omega arith)) (omega arith)) (omega arith)) (omega arith)
+field-end-laws =
+    white-laws then-laws
+    sees-laws (is 0x2C) (comma-laws then-laws white-laws then-laws comment-laws then-laws turn-laws 0 same)
+    (sees-laws (is 0x7D) stop-laws
+    (refuse-laws ExpectedComma (omega arith)))
 
-module _ (k : Kind) (d : eqb (kindOf k) 9 ≡ false) where
-  pub field-good : Good 0 0 1 (field k)
+-- ---- values: f says whether they are a field's. The row of a literal or a name is paid by a byte before it
+
+module _ (f : Bool) {e n : ℕ} {α : Point rules} where
+  pub string-literal-laws : Laws (awaiting e (suc n) (Chunk f)) α (awaiting e n (Is (chunks f))) stringLiteral
+  unfolding stringLiteral
+  string-literal-laws =
+      less-laws (quote-laws then-laws over-laws refl (literal-takes f) quoted-laws then-laws quote-laws) (less-of (omega arith) (λ a x. x))
+
+  pub braced-laws : Laws (awaiting e (suc n) (Chunk f)) α (awaiting e n (Is (chunks f))) braced
+  unfolding braced
+  braced-laws =
+      less-laws (opening-laws then-laws over-laws refl (literal-takes f) in-braces-laws then-laws closing-laws) (less-of (omega arith) (λ a x. x))
+
+  pub abbr-element-laws : Laws (awaiting e (suc n) (Chunk f)) α (awaiting e n (Is (chunks f))) abbrElement
+  unfolding abbrElement singleField
+  abbr-element-laws =
+      value-laws (over-laws refl (literal-takes f) number-laws)
+      (less-laws (over-laws refl (name-takes f) ident-laws) (less-of (omega arith) (λ a x. x))) braced-laws string-literal-laws
+
+-- a "#" pays the next one's row
+pub abbr-turn-laws : (f : Bool) {e n : ℕ} (a : ℕ) → Laws (awaiting e (suc n) (Chunk f)) (awaiting (suc e) (suc n) (Chunk f)) (awaiting e n (Is (chunks f))) (abbrTurn a)
+unfolding abbrTurn
+abbr-turn-laws f a =
+    abbr-element-laws f then-laws white-laws then-laws
+    when-laws (holdsOf test.Hash) (white-laws then-laws turn-laws 0 (less-of (omega arith) (is-in (Chunk f) more))) stop-laws
+
+pub abbr-field-laws : (f : Bool) {e n : ℕ} {α : Point rules} → Laws (awaiting e (suc (suc n)) (Is (value f))) α (awaiting e n (Is (chunks f))) abbrField
+unfolding abbrField
+abbr-field-laws f = over-laws refl (value-takes f) (many-laws (abbr-turn-laws f) 0)
+
+-- ---- fields whose names, of kind k, may come where P is awaited. Of their three rows the name's first character and the "="
+-- pay two, and the comma before a field the third
+
+module _ {P : Await → Type 0} (k : Kind) (f : Bool) (d : eqb (kindOf k) 9 ≡ false) (t : Takes rules (plain k) P (Is (value f))) (back : P (chunks f)) {e n : ℕ} where
+  pub field-laws : {α : Point rules} → Laws (awaiting e (suc n) P) α (awaiting e n P) (field k)
   unfolding field
-  field-good =
-      then-good (over-good (plain k) d ident-good) (then-good white-good (then-by equals-good (then-good white-good (then-good abbr-field-good (then-good white-good comment-good
-      (omega arith)) (omega arith)) (omega arith)) (omega arith)) (omega arith)) (omega arith)
+  field-laws =
+      less-laws
+      (over-laws d t ident-laws then-laws white-laws then-laws equals-laws then-laws white-laws then-laws
+      abbr-field-laws f then-laws white-laws then-laws comment-laws) (less-of (omega arith) (is-in P back))
 
-  pub fields-turn-good : (a : ℕ) → Good 1 0 1 (fieldsTurn k a)
+  pub fields-turn-laws : (a : ℕ) → Laws (awaiting e (suc n) P) (awaiting (suc e) (suc n) P) (awaiting e n P) (fieldsTurn k a)
   unfolding fieldsTurn
-  fields-turn-good a =
-      sees-good any
-      (then-good white-good (sees-good (is 0x7D) stop-good (then-good field-good field-end-good (omega arith)) (omega arith)) (omega arith))
-      eof-good (omega arith)
+  fields-turn-laws a =
+      sees-any
+      (white-laws then-laws
+      sees-laws (is 0x7D) (less-laws stop-laws (less-of (omega arith) (λ a x. x))) (field-laws then-laws field-end-laws))
 
-  pub fields-good : Good 0 0 1 (fields k)
+  pub fields-laws : {α : Point rules} → Laws (awaiting e (suc n) P) α (awaiting e n P) (fields k)
   unfolding fields
-  fields-good = many-good fields-turn-good 0
-
-pub key-good : Good 0 0 1 key
-unfolding key
-key-good = scan-good isKey
+  fields-laws = many-laws fields-turn-laws 0
 
 -- ---- entries
 
-pub strings-good : Good 0 0 1 strings
-unfolding strings
-strings-good = fields-good kind.DefinitionName refl
+module _ {e n : ℕ} {α : Point rules} where
+  pub strings-laws : Laws (awaiting e (suc n) Free) α (awaiting e n Free) strings
+  unfolding strings
+  strings-laws = fields-laws kind.DefinitionName false refl definition-takes (one false)
 
-pub preamble-good : Good 1 1 0 preamble
-unfolding preamble
-preamble-good = over-good (plain kind.Preamble) refl string-good
+  pub preamble-laws : Laws (awaiting e (suc n) Free) α (awaiting (suc (suc e)) (suc (suc n)) Free) preamble
+  unfolding preamble
+  preamble-laws = over-laws refl preamble-takes string-laws
 
-pub commented-good : Good 0 0 1 commented
-unfolding commented
-commented-good = scan-good (fails test.ClosingBrace)
+  -- the comma pays the first field's row
+  pub body-laws : Laws (awaiting e (suc n) (Is awaits.key)) α (awaiting (suc e) n (Part true)) body
+  unfolding body
+  body-laws =
+      over-laws refl key-takes key-laws then-laws white-laws then-laws comma-laws then-laws white-laws then-laws comment-laws then-laws
+      white-laws then-laws fields-laws kind.FieldName true refl field-takes at-chunks
 
-pub body-good : Good 0 0 1 body
-unfolding body
-body-good =
-    then-good (over-good (plain kind.Key) refl key-good) (then-good white-good (then-by comma-good (then-good white-good (then-good comment-good (then-good white-good
-    (fields-good kind.FieldName refl) (omega arith)) (omega arith)) (omega arith)) (omega arith)) (omega arith)) (omega arith)
+-- ---- the turns of values go on
 
-pub lead-good : Good 0 0 1 lead
-unfolding lead
-lead-good = then-good white-good (then-by opening-good white-good (omega arith)) (omega arith)
+pub quoted-turn-kept : (a : ℕ) → Kept 1 0 1 (quotedTurn a)
+quoted-turn-kept a = going (quoted-turn-laws {σ = start} a)
+
+pub number-turn-kept : (a : ℕ) → Kept 1 0 1 (numberTurn a)
+number-turn-kept a = going (number-turn-laws {σ = start} a)
+
+pub braced-turn-kept : (d : ℕ) → Kept 1 0 1 (bracedTurn d)
+braced-turn-kept d = going (braced-turn-laws {σ = start} d)

@@ -17,7 +17,8 @@ use Rattle.raw.specs.Grammar.{file}
 use Rattle.raw.specs.Read.{strict, readingOut}
 use Rattle.raw.specs.Refusals.{ReadFault, long, met, full, Refusals}
 use Rattle.raw.proofs.Trace.{Refused, Traced}
-use Rattle.raw.proofs.Entries.{file-good}
+use Rattle.raw.proofs.Readers.{from-start}
+use Rattle.raw.proofs.Entries.{file-laws}
 use Rattle.raw.proofs.Strict.{strict-by, file-refuses}
 
 module _ (s : List ℕ) (f : Fault) where
@@ -27,7 +28,7 @@ module _ (s : List ℕ) (f : Fault) where
 
   file-fault : file s 0 ≡ bad f → ReadFault s f
   file-fault e =
-      let r : Refused s 0 f = subst (Traced s 0) e (file-good .traced s 0) in
+      let r : Refused s 0 f = subst (Traced s 0) e (from-start file-laws .traced s 0) in
       let x = met (f .reason) (f .start) (omega (arith, r .least)) (r .most) (file-refuses s f e .place) in
       subst (ReadFault s) (ap (λ (n : ℕ). record { reason = f .reason; start = f .start; end = n }) (sym (r .empty))) x
 

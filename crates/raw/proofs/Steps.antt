@@ -3,8 +3,8 @@
 --     white-on, comment-on     white space and a comment, which are never refused
 --     comment-off, comment-line, key-told, ident-off, ident-line, ident-letters     the ways through `comment`, `key` and `ident`
 -- Assumes nothing.
-use Prim.Native.Nat.{ℕ, zero, suc, _+_, _≤_, _<_, max}
-use mathlib.Core.Path.{_≡_, refl, sym, ap, _∙_, subst}
+use Prim.Native.Nat.{ℕ, _+_, _≤_, _<_, max}
+use mathlib.Core.Path.{_≡_, refl, sym, ap, _∙_}
 use mathlib.Core.Bool.{Bool, true, _||_}
 use mathlib.Core.List.{List, []}
 use native.Mathlib.Omega.{arith}
@@ -15,129 +15,70 @@ use Rattle.text.specs.Scan.{see, skip, pastOne, fails, Ahead}
 use Rattle.text.specs.Inner.{Letters}
 use Rattle.text.specs.declared.class.Test.the-variants as test
 use Rattle.text.proofs.AsciiTurns.{letters-id}
-use Rattle.row.specs.declared.fault.Reason.the-variants.{UnexpectedEof, ExpectedIdentifier, ExpectedOpeningBrace, ExpectedClosingBrace, ExpectedComma, ExpectedQuotationMark, ExpectedEquals, UnexpectedDecimalPoint}
+use Rattle.row.specs.declared.fault.Reason.the-variants.{ExpectedIdentifier}
 use Rattle.row.specs.Fault.{faultAt}
 use Rattle.row.specs.Row.{Row}
 use Rattle.raw.specs.declared.answer.Step.{Step}
 use Rattle.raw.specs.declared.answer.Step.the-variants as step
-use Rattle.raw.specs.Reader.{Out, ok, again, bad, Reader, eaten, scan}
-use Rattle.raw.specs.Grammar.{is, any, white, comma, atSign, opening, closing, quote, equals, comment, key, ident, escape, quotedTurn, quoted, numberTurn, number, bracedTurn, inBraces, string, lead, commented}
+use Rattle.raw.specs.Reader.{ok, bad, scan}
+use Rattle.raw.specs.Grammar.{white, comma, atSign, opening, closing, quote, equals, comment, key, ident, quoted, number, inBraces, string, lead}
 use Rattle.raw.specs.Says.{stepOf, Onward}
-use Rattle.raw.proofs.Good.{eaten-holds}
 use Rattle.raw.proofs.Scans.{scan-skip}
-use Rattle.raw.proofs.Bare.{Bare, bare-ok, bare-bad, BareTurn, bare-done, bare-again, bare-stop, bare-at, bare-then, bare-many}
-use Rattle.raw.proofs.Eaten.{not-at, eaten-off, eaten-on, need-bare}
+use Rattle.raw.proofs.Bare.{Bare, bare, bare-at}
+use Rattle.raw.proofs.Readers.{comment-laws, key-laws, ident-laws, comma-laws, at-sign-laws, opening-laws, closing-laws, quote-laws, equals-laws, quoted-laws, number-laws, in-braces-laws, string-laws, lead-laws}
+use Rattle.raw.proofs.Eaten.{not-at, eaten-off, eaten-on}
 
--- ---- scans
+-- ---- readers without rows
 
-module _ (t : ℕ → Bool) (s : List ℕ) (i : ℕ) where
-  pub scan-on : {r : ℕ} → r ≡ skip t s i → scan {P = Row} t s i ≡ ok r []
-  scan-on e = scan-skip t s i ∙ ap (λ (x : ℕ). ok x []) (sym e)
-
-  scan-bare : Bare (scan t s i)
-  scan-bare = subst Bare (sym (scan-skip t s i)) bare-ok
+pub scan-on : (t : ℕ → Bool) (s : List ℕ) (i : ℕ) {r : ℕ} → r ≡ skip t s i → scan {P = Row} t s i ≡ ok r []
+scan-on t s i e = scan-skip t s i ∙ ap (λ (x : ℕ). ok x []) (sym e)
 
 module _ (s : List ℕ) (i : ℕ) where
   pub white-on : {r : ℕ} → r ≡ skip isWhitespace s i → white s i ≡ ok r []
   unfolding white
   white-on e = scan-on isWhitespace s i e
 
-  pub white-bare : Bare (white s i)
-  unfolding white
-  white-bare = scan-bare isWhitespace s i
-
-  pub commented-bare : Bare (commented s i)
-  unfolding commented
-  commented-bare = scan-bare (fails test.ClosingBrace) s i
+  pub comment-bare : Bare (comment s i)
+  comment-bare = bare comment-laws s i
 
   pub key-bare : Bare (key s i)
-  unfolding key
-  key-bare = scan-bare isKey s i
-
-  pub comment-bare : Bare (comment s i)
-  unfolding comment
-  comment-bare =
-      eaten-holds Bare (holdsOf test.Percent) (see s i) (scan (fails test.Newline) s) (ok i []) (λ k n x. scan-bare (fails test.Newline) s n) bare-ok
+  key-bare = bare key-laws s i
 
   pub ident-bare : Bare (ident s i)
-  unfolding ident
-  ident-bare =
-      eaten-holds Bare isIdStart (see s i) (scan isIdContinue s) (bad (faultAt ExpectedIdentifier i)) (λ k n x. scan-bare isIdContinue s n) bare-bad
-
-  -- ---- one character
+  ident-bare = bare ident-laws s i
 
   pub comma-bare : Bare (comma s i)
-  unfolding comma
-  comma-bare = need-bare (holdsOf test.Comma) ExpectedComma s i
+  comma-bare = bare comma-laws s i
 
   pub at-sign-bare : Bare (atSign s i)
-  unfolding atSign
-  at-sign-bare = need-bare (is 0x40) ExpectedIdentifier s i
+  at-sign-bare = bare at-sign-laws s i
 
   pub opening-bare : Bare (opening s i)
-  unfolding opening
-  opening-bare = need-bare _ ExpectedOpeningBrace s i
+  opening-bare = bare opening-laws s i
 
   pub closing-bare : Bare (closing s i)
-  unfolding closing
-  closing-bare = need-bare _ ExpectedClosingBrace s i
+  closing-bare = bare closing-laws s i
 
   pub quote-bare : Bare (quote s i)
-  unfolding quote
-  quote-bare = need-bare (holdsOf test.QuotationMark) ExpectedQuotationMark s i
+  quote-bare = bare quote-laws s i
 
   pub equals-bare : Bare (equals s i)
-  unfolding equals
-  equals-bare = need-bare (holdsOf test.Equals) ExpectedEquals s i
+  equals-bare = bare equals-laws s i
 
--- ---- loops
-
-looks : (t : ℕ → Bool) (s : List ℕ) (i : ℕ) (f : ℕ → Out) (o : Out) → ((n : ℕ) → BareTurn (f n)) → BareTurn o → BareTurn (eaten t (see s i) f o)
-looks t s i f o y n = eaten-holds BareTurn t (see s i) f o (λ k m x. y m) n
-
-escape-bare : (a : ℕ) (s : List ℕ) (i : ℕ) → BareTurn (escape a s i)
-escape-bare a s i = looks any s i _ _ (λ n. bare-again) bare-again
-
-quoted-turn-bare : (a : ℕ) (s : List ℕ) (i : ℕ) → BareTurn (quotedTurn a s i)
-unfolding quotedTurn
-quoted-turn-bare a s i =
-    looks (is 0x22) s i _ _ (λ n. bare-done) (looks (is 0x5C) s i _ _ (λ n. escape-bare a s n) (looks any s i _ _ (λ n. bare-again) bare-stop))
-
-number-turn-bare : (a : ℕ) (s : List ℕ) (i : ℕ) → BareTurn (numberTurn a s i)
-unfolding numberTurn
-number-turn-bare zero s i =
-    looks (holdsOf test.Digit) s i _ _ (λ n. bare-again) (looks (is 0x2E) s i _ _ (λ n. bare-again) (looks any s i _ _ (λ n. bare-done) bare-stop))
-number-turn-bare (suc a) s i =
-    looks (holdsOf test.Digit) s i _ _ (λ n. bare-again) (looks (is 0x2E) s i _ _ (λ n. bare-stop) (looks any s i _ _ (λ n. bare-done) bare-stop))
-
-braced-turn-bare : (d : ℕ) (s : List ℕ) (i : ℕ) → BareTurn (bracedTurn d s i)
-unfolding bracedTurn
-braced-turn-bare zero s i =
-    looks (is 0x7D) s i _ _ (λ n. bare-done) (looks (is 0x7B) s i _ _ (λ n. bare-again) (looks (is 0x5C) s i _ _ (λ n. escape-bare 0 s n) (looks any s i _ _ (λ n. bare-again) bare-stop)))
-braced-turn-bare (suc d) s i =
-    looks (is 0x7D) s i _ _ (λ n. bare-again) (looks (is 0x7B) s i _ _ (λ n. bare-again) (looks (is 0x5C) s i _ _ (λ n. escape-bare (suc d) s n) (looks any s i _ _ (λ n. bare-again) bare-stop)))
-
-module _ (s : List ℕ) (i : ℕ) where
   pub quoted-bare : Bare (quoted s i)
-  unfolding quoted
-  quoted-bare = bare-many quotedTurn quoted-turn-bare 0 s i
+  quoted-bare = bare quoted-laws s i
 
   pub number-bare : Bare (number s i)
-  unfolding number
-  number-bare = bare-many numberTurn number-turn-bare 0 s i
+  number-bare = bare number-laws s i
 
   pub in-braces-bare : Bare (inBraces s i)
-  unfolding inBraces
-  in-braces-bare = bare-many bracedTurn braced-turn-bare 0 s i
+  in-braces-bare = bare in-braces-laws s i
 
-module _ (s : List ℕ) (i : ℕ) where
   pub string-bare : Bare (string s i)
-  unfolding string
-  string-bare = bare-then _ (quote-bare s i) (λ p. bare-then _ (quoted-bare s p) (λ q. quote-bare s q))
+  string-bare = bare string-laws s i
 
   pub lead-bare : Bare (lead s i)
-  unfolding lead
-  lead-bare = bare-then _ (white-bare s i) (λ p. bare-then _ (opening-bare s p) (λ q. white-bare s q))
+  lead-bare = bare lead-laws s i
 
 -- ---- the ways through
 

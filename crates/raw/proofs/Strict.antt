@@ -31,21 +31,19 @@ use Rattle.raw.specs.Read.{checked, strict}
 use Rattle.raw.specs.Strict.{Same, Fresh, Accepted, Refusal, Strict}
 use Rattle.raw.proofs.Trace.{Trace, Refused, Traced, trace-reach}
 use Rattle.raw.proofs.Spans.{reach-inside, reach-same, trace-rising, trace-spans, trace-clean}
-use Rattle.raw.proofs.Good.{Stops, Sound}
+use Rattle.raw.proofs.Kept.{Stops, Sound}
 use Rattle.raw.proofs.Loop.{many-turn}
-use Rattle.raw.proofs.Entries.{entry-good, file-turn-good, file-good}
-use Rattle.raw.proofs.Rules.{file-rules}
-use Rattle.raw.proofs.Few.{file-few}
-use Rattle.raw.proofs.Early.{file-early}
+use Rattle.raw.proofs.Readers.{from-start}
+use Rattle.raw.proofs.Entries.{entry-kept, entry-laws, file-turn-kept, file-laws, file-rules, file-few, file-early}
 
 -- ---- no fuel
 
 file-any : (a : ℕ) (s : List ℕ) (p : ℕ) → many fileTurn a s p ≡ file s p
 unfolding fileTurn file
-file-any a s p = many-turn (λ a. file-turn-good a .kept) a s p ∙ sym (many-turn (λ a. file-turn-good a .kept) 0 s p)
+file-any a s p = many-turn file-turn-kept a s p ∙ sym (many-turn file-turn-kept 0 s p)
 
 pub file-turn : (s : List ℕ) (p : ℕ) → file s p ≡ after (fileTurn 0 s p) (λ a q. file s q)
-file-turn s p = sym (file-any 0 s p) ∙ many-turn (λ a. file-turn-good a .kept) 0 s p ∙ by (fileTurn 0 s p)
+file-turn s p = sym (file-any 0 s p) ∙ many-turn file-turn-kept 0 s p ∙ by (fileTurn 0 s p)
   where
     by : (o : Out) → after o (λ a q. many fileTurn a s q) ≡ after o (λ a q. file s q)
     by (ok q rs) = refl
@@ -114,17 +112,17 @@ module _ (s : List ℕ) where
   pub file-ends : (p q : ℕ) (rs : List Row) → file s p ≡ ok q rs → p ≤ length s → q ≡ length s
   file-ends p q rs e h =
       let x : length s ≤ q = subst Done e (file-done p) in
-      let y : Sound 0 0 p (length s) (ok q rs) = subst (Sound 0 0 p (length s)) e (file-good .kept .sound s p) in
+      let y : Sound 0 0 p (length s) (ok q rs) = subst (Sound 0 0 p (length s)) e (from-start file-laws .core .kept .sound s p) in
       omega arith
 
 -- ---- what is looked at
 
 module _ (s : List ℕ) (p q : ℕ) (rs : List Row) (e : entry s p ≡ ok q rs) where
   entry-at : (p < q) × (q ≤ length s)
-  entry-at = let y : Sound 1 1 p (length s) (ok q rs) = subst (Sound 1 1 p (length s)) e (entry-good .kept .sound s p) in (omega arith, omega arith)
+  entry-at = let y : Sound 1 1 p (length s) (ok q rs) = subst (Sound 1 1 p (length s)) e (entry-kept .sound s p) in (omega arith, omega arith)
 
   entry-same : (t : List ℕ) → q ≤ length t → Same s t p q → entry t p ≡ ok q rs
-  entry-same t h x = entry-good .kept .local s t p q (subst (λ (o : Out). Stops o q) (sym e) refl) h (λ i a b. x i a (omega arith)) ∙ e
+  entry-same t h x = entry-kept .local s t p q (subst (λ (o : Out). Stops o q) (sym e) refl) h (λ i a b. x i a (omega arith)) ∙ e
 
   entry-longer : (t : List ℕ) → Fresh t → entry (s ++ t) p ≡ ok q rs
   entry-longer t f =
@@ -134,11 +132,11 @@ module _ (s : List ℕ) (p q : ℕ) (rs : List Row) (e : entry s p ≡ ok q rs) 
   entry-cut : entry (take q s) p ≡ ok q rs
   entry-cut =
       let a = entry-at in
-      let t : Trace s p rs q = subst (Traced s p) e (entry-good .traced s p) in
+      let t : Trace s p rs q = subst (Traced s p) e (from-start entry-laws .traced s p) in
       entry-same (take q s) (omega (arith, length-take q s)) (reach-same (trace-reach t))
 
 item-same : (a b : ℕ) (s t : List ℕ) (p q : ℕ) (rs : List Row) → fileTurn a s p ≡ again q rs b → q ≤ length t → Same s t p (q + 1) → fileTurn a t p ≡ again q rs b
-item-same a b s t p q rs e h x = file-turn-good a .kept .local s t p q (subst (λ (o : Out). Stops o q) (sym e) refl) h x ∙ e
+item-same a b s t p q rs e h x = file-turn-kept a .local s t p q (subst (λ (o : Out). Stops o q) (sym e) refl) h x ∙ e
 
 -- ---- strict reading
 
@@ -147,7 +145,7 @@ start-boundary s o = rfc3629 .boundary s 0 o .1 (record { inside = omega arith; 
 
 file-accepts : (s : List ℕ) (q : ℕ) (rs : List Row) → Octets s → file s 0 ≡ ok q rs → Accepted s q rs
 file-accepts s q rs o e =
-    let t : Trace s 0 rs q = subst (Traced s 0) e (file-good .traced s 0) in
+    let t : Trace s 0 rs q = subst (Traced s 0) e (from-start file-laws .traced s 0) in
     record {
       end = file-ends s 0 q rs e (omega arith);
       rules = file-rules s 0 q rs e;
@@ -159,7 +157,7 @@ file-accepts s q rs o e =
 
 pub file-refuses : (s : List ℕ) (f : Fault) → file s 0 ≡ bad f → Refusal s f
 file-refuses s f e =
-    let r : Refused s 0 f = subst (Traced s 0) e (file-good .traced s 0) in
+    let r : Refused s 0 f = subst (Traced s 0) e (from-start file-laws .traced s 0) in
     record {
       number = (omega (arith, r .least), r .most);
       place = reach-inside (r .place) (omega arith);
@@ -212,7 +210,7 @@ strict-reading =
       longer = λ s t p q rs e. entry-longer s p q rs e t;
       cut = entry-cut;
       items = item-same;
-      moves = λ a. file-good .shift a .moves;
+      moves = λ a. from-start file-laws .shift a .moves;
       accepts = accepts;
       refuses = refuses;
       decides = decides;

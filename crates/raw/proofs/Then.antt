@@ -1,21 +1,16 @@
--- One reader after another, and rows over what is read.
---     chain-sound, chain-local, chain-up      of what follows, given as a function of the place
---     then-good, then-by, then-turn           of `then`, and parts of them: `then-kept`, `then-shifts`
---     over-good, from-kept, from-shifts       of `over` and `overFrom`
+-- One reader after another, and rows over what is read: what they keep.
+--     chain-sound, chain-local        of what follows, given as a function of the place
+--     then-kept, over-kept, from-kept
 -- Assumes nothing.
 use Prim.Native.Nat.{ℕ, _+_, _≤_, max}
 use native.Mathlib.Omega.{arith}
 use mathlib.Core.Path.{_≡_, refl, sym, ap, _∙_, subst}
-use mathlib.Core.Bool.{false}
-use mathlib.Core.List.{List, [], _∷_, _++_}
+use mathlib.Core.List.{List, []}
 use lib.ListN.{length}
-use lib.Dec.{eqb}
-use Rattle.row.specs.Row.{Row, Mark, marked, kindOf, moved}
-use Rattle.row.proofs.Rows.{moved-append}
-use Rattle.raw.specs.Reader.{OutOf, ok, again, bad, ReaderOf, Out, Reader, more, andThen, under, _then_, over, overFrom, turn}
-use Rattle.raw.specs.Strict.{Same, shifted}
-use Rattle.raw.proofs.Good.{Stops, Sound, Shifts, Kept, Good, turn-good}
-use Rattle.raw.proofs.Trace.{chain-traced, lay-traced}
+use Rattle.row.specs.Row.{Row, Mark, marked}
+use Rattle.raw.specs.Reader.{OutOf, ok, again, bad, ReaderOf, Out, Reader, more, andThen, under, _then_, over, overFrom}
+use Rattle.raw.specs.Strict.{Same}
+use Rattle.raw.proofs.Kept.{Stops, Sound, Kept}
 
 -- ---- rows in front
 
@@ -23,11 +18,6 @@ pub more-none : {P : Type 0} (o : OutOf P) → more [] o ≡ o
 more-none (ok q ss) = refl
 more-none (again q ss a) = refl
 more-none (bad f) = refl
-
-pub more-up : (d : ℕ) (rs : List Row) (o : Out) → more (moved d rs) (shifted d o) ≡ shifted d (more rs o)
-more-up d rs (ok q ss) = rw moved-append
-more-up d rs (again q ss a) = rw moved-append
-more-up d rs (bad f) = refl
 
 pub more-stops : {P : Type 0} (rs : List P) (o : OutOf P) (q : ℕ) → Stops (more rs o) q → Stops o q
 more-stops rs (ok q′ ss) q h = h
@@ -89,11 +79,6 @@ module _ {P : Type 0} {w₁ m : ℕ} {f : ReaderOf P} (F : Kept w₁ w₁ m f) (
     pub chain-local : Stops (andThen (f s p) g) q → andThen (f t p) h ≡ andThen (f s p) g
     chain-local c = by-out (f s p) refl (F .sound s p) c
 
-pub chain-up : (d : ℕ) (g h : ℕ → Out) (o : Out) → ((r : ℕ) → h (r + d) ≡ shifted d (g r)) → andThen (shifted d o) h ≡ shifted d (andThen o g)
-chain-up d g h (ok q rs) G = rw (G q) (more-up d rs (g q))
-chain-up d g h (again q rs b) G = rw (G q) (more-up d rs (g q))
-chain-up d g h (bad j) G = refl
-
 -- ---- one after the other
 
 pub then-kept : {P : Type 0} {w₁ m v w l v′ w′ : ℕ} {f g : ReaderOf P} → Kept w₁ w₁ m f → Kept v w l g → (m ≤ v + l) × (m ≤ w + l) × (v′ ≤ w₁ + v) × (w′ ≤ w₁ + w) → Kept v′ w′ l (f then g)
@@ -103,26 +88,6 @@ then-kept {v = v} {w = w} {l = l} {v′ = v′} {w′ = w′} {g = g} F G k =
       local = λ s t p q h i e.
           chain-local F s p (g s) v w l t q (g t) (G .sound s) (λ r a b u. G .local s t r q u i (λ j x y. e j (omega arith) y)) i e (k .0, k .1) h;
     }
-
-pub then-shifts : {a : List ℕ} {f f′ g g′ : Reader} → Shifts a f f′ → Shifts a g g′ → Shifts a (f then g) (f′ then g′)
-then-shifts {a} {f} {f′} {g} {g′} F G =
-    record { moves = λ s p. rw (F .moves s p) (chain-up (length a) (g s) (g′ (a ++ s)) (f s p) (G .moves s)) }
-
-pub then-by : {w₁ m v w l v′ w′ : ℕ} {f g : Reader} → Good w₁ w₁ m f → Good v w l g → (m ≤ v + l) × (m ≤ w + l) × (v′ ≤ w₁ + v) × (w′ ≤ w₁ + w) → Good v′ w′ l (f then g)
-then-by {f = f} {g = g} F G k =
-    record {
-      kept = then-kept (F .kept) (G .kept) k;
-      traced = λ s p. chain-traced s p (f s p) (g s) (F .traced s p) (G .traced s);
-      shift = λ a. then-shifts (F .shift a) (G .shift a);
-    }
-
--- by what the second eats
-pub then-good : {w₁ m v w l : ℕ} {f g : Reader} → Good w₁ w₁ m f → Good v w l g → (m ≤ v + l) × (m ≤ w + l) → Good v w l (f then g)
-then-good F G k = then-by F G (omega arith)
-
--- by what the first eats
-pub then-turn : {w : ℕ} {f : Reader} (a : ℕ) → Good 1 1 1 f → Good 1 w 1 (f then turn a)
-then-turn {w = w} a F = then-by F (turn-good {w = w} {l = 1} a) (omega arith)
 
 -- ---- a row over it
 
@@ -137,12 +102,6 @@ module _ (mk : ℕ → Row) where
   under-sound v w p n (again q rs a) x = x
   under-sound v w p n (bad f) x = tt
 
-under-up : (m : Mark) (p d : ℕ) (o : Out) → under (marked m (p + d)) (shifted d o) ≡ shifted d (under (marked m p) o)
-unfolding moved
-under-up m p d (ok q rs) = refl
-under-up m p d (again q rs a) = refl
-under-up m p d (bad f) = refl
-
 module _ {v w l : ℕ} (m : Mark) {f : Reader} where
   -- from a place before it
   pub from-kept : (a : ℕ) → Kept v w l f → Kept v w l (overFrom m a f)
@@ -153,16 +112,5 @@ module _ {v w l : ℕ} (m : Mark) {f : Reader} where
       }
 
   -- from its own
-  pub over-good : eqb (kindOf (m .kind)) 9 ≡ false → Good v w l f → Good v w l (over m f)
-  over-good d F =
-      record {
-        kept = record {
-          sound = λ s p. from-kept p (F .kept) .sound s p;
-          local = λ s t p q h i e. from-kept p (F .kept) .local s t p q h i e;
-        };
-        traced = λ s p. lay-traced s p m (f s p) d (F .traced s p);
-        shift = λ a. record { moves = λ s p. rw (F .shift a .moves s p) (under-up m p (length a) (f s p)) };
-      }
-
-pub from-shifts : (m : Mark) {x : List ℕ} (a : ℕ) {f g : Reader} → Shifts x f g → Shifts x (overFrom m a f) (overFrom m (a + length x) g)
-from-shifts m {x} a {f} F = record { moves = λ s p. rw (F .moves s p) (under-up m a (length x) (f s p)) }
+  pub over-kept : Kept v w l f → Kept v w l (over m f)
+  over-kept F = record { sound = λ s p. from-kept p F .sound s p; local = λ s t p q h i e. from-kept p F .local s t p q h i e }

@@ -1,0 +1,272 @@
+-- All laws of a reader in one record, closed under the ways to make readers: a reader's laws are proved by saying its definition
+-- once more, with these in the place of the combinators.
+--     Core        what also a reader has that is told places of the text: `put`, `overFrom`
+--     Laws        and what one has that is told none: its rows stand over what it ate, and it moves with its text
+--     stop-laws, turn-laws, refuse-laws, when-laws, sees-laws, _then-laws_, over-laws, many-laws, need-laws, scan-laws
+--     when-any, sees-any      with `UnexpectedEof` where no character is seen
+--     less-laws, same-laws    to a point that asks less; of a reader that answers the same
+-- Assumes nothing.
+use Prim.Native.Nat.{ℕ, zero, suc, _+_, _≤_}
+use native.Mathlib.Omega.{arith}
+use mathlib.Core.Path.{_≡_, refl, sym, ap, _∙_, subst}
+use mathlib.Core.Bool.{Bool, false}
+use mathlib.Core.List.{List, _++_}
+use lib.ListN.{length}
+use lib.Dec.{eqb}
+use Rattle.text.specs.Class.{isIdStart, holdsOf}
+use Rattle.text.specs.Scan.{see}
+use Rattle.text.specs.declared.class.Test.the-variants as test
+use Rattle.text.proofs.Moved.{see-ahead}
+use Rattle.row.specs.declared.fault.Reason.{Reason}
+use Rattle.row.specs.declared.fault.Reason.the-variants.{UnexpectedEof}
+use Rattle.row.specs.Fault.{numberOf, faultAt}
+use Rattle.row.specs.Row.{Row, Mark, marked, kindOf}
+use Rattle.raw.specs.Reader.{Out, ok, again, bad, Reader, stop, turn, refuse, _then_, over, overFrom, put, when, sees, many, scan}
+use Rattle.raw.specs.Grammar.{is, any, need}
+use Rattle.raw.specs.Strict.{shifted, beginsValue}
+use Rattle.raw.proofs.Trace.{here, none, Traced, eat-traced, chain-traced, lay-traced}
+use Rattle.raw.proofs.Kept.{Stops, Sound, Kept, stop-kept, turn-kept, refuse-kept, put-kept, eaten-holds, when-kept, sees-kept}
+use Rattle.raw.proofs.Then.{then-kept, over-kept, from-kept}
+use Rattle.raw.proofs.Loop.{many-kept, loop-traced}
+use Rattle.raw.proofs.Shifts.{Shifts, stop-shifts, turn-shifts, refuse-shifts, when-shifts, sees-shifts, then-shifts, over-shifts, many-shifts}
+use Rattle.raw.proofs.Points.{Order, Point, at, ate, onward, AtLeast, same, past, MovesOut, done, goes, fails, Takes, stay, eat-moves, chain-moves, less-moves, loop-moves, under-moves, put-moves}
+use Rattle.raw.proofs.Early.{EarlyOut, chain-early, under-early, eaten-else, any-early, no-value, loop-early}
+
+-- ---- the words
+
+-- from the point σ, by `again` to α, else to ω
+pub record Core {O : Order Row} (σ α ω : Point O) (f : Reader) : Type 0 where
+  pub kept : Kept 0 0 1 f
+  pub moves : (s : List ℕ) (p : ℕ) → MovesOut σ α ω p (f s p)
+  pub early : (s : List ℕ) (p : ℕ) → EarlyOut s (f s p)
+
+pub record Laws {O : Order Row} (σ α ω : Point O) (f : Reader) : Type 0 where
+  pub core : Core σ α ω f
+  pub traced : (s : List ℕ) (p : ℕ) → Traced s p (f s p)
+  pub shift : (x : List ℕ) → Shifts x f f
+
+-- ---- readers that are told places
+
+module _ {O : Order Row} where
+  pub then-core : {σ τ α ω : Point O} {f g : Reader} → Core σ τ τ f → Core τ α ω g → Core σ α ω (f then g)
+  then-core {f = f} {g = g} F G =
+      record {
+        kept = then-kept (F .kept) (G .kept) (omega arith);
+        moves = λ s p. chain-moves (g s) (F .moves s p) (G .moves s);
+        early = λ s p. chain-early s (f s p) (g s) (F .early s p) (G .early s);
+      }
+
+  module _ {P P′ : O .State → Type 0} {e n : ℕ} {α : Point O} {m : Mark} (t : Takes O m P P′) where
+    pub put-core : (x y : ℕ) → Core (at e (suc n) P) α (at e n P′) (put m x y)
+    put-core x y = record { kept = put-kept m x y; moves = λ s p. put-moves t; early = λ s p. tt }
+
+    pub from-core : {ω : Point O} (x : ℕ) {f : Reader} → Core (at e n P′) α ω f → Core (at e (suc n) P) α ω (overFrom m x f)
+    from-core x {f} F =
+        record {
+          kept = from-kept m x (F .kept);
+          moves = λ s p. under-moves t x (F .moves s p);
+          early = λ s p. under-early s (marked m x) (f s p) (F .early s p);
+        }
+
+  pub less-core : {σ α ω ω′ : Point O} {f : Reader} → Core σ α ω f → AtLeast ω ω′ → Core σ α ω′ f
+  less-core F h = record { kept = F .kept; moves = λ s p. less-moves h (F .moves s p); early = F .early }
+
+-- ---- readers without parts
+
+-- a reason that the readers meet by name: 01's numbers 4 to 10
+abbrev pub Met : Reason → Type 0
+Met reason = (4 ≤ numberOf reason) × (numberOf reason ≤ 10)
+
+pub stop-laws : {O : Order Row} {σ α : Point O} → Laws σ α σ stop
+stop-laws =
+    record {
+      core = record { kept = stop-kept; moves = λ s p. done (stay p same); early = λ s p. tt };
+      traced = λ s p. none;
+      shift = λ x. stop-shifts;
+    }
+
+eof-traced : (s : List ℕ) (p : ℕ) → Traced s p (refuse UnexpectedEof s p)
+eof-traced s p = record { place = here; empty = refl; least = omega arith; most = omega arith }
+
+module _ {O : Order Row} {σ α ω : Point O} where
+  pub turn-laws : (a : ℕ) → AtLeast σ α → Laws σ α ω (turn a)
+  turn-laws a h =
+      record {
+        core = record { kept = turn-kept a; moves = λ s p. goes (stay p h); early = λ s p. tt };
+        traced = λ s p. none;
+        shift = λ x. turn-shifts a;
+      }
+
+  pub refuse-laws : (reason : Reason) → Met reason → Laws σ α ω (refuse reason)
+  refuse-laws reason m =
+      record {
+        core = record { kept = refuse-kept reason; moves = λ s p. fails; early = λ s p e. absurd (omega (arith, m .0)) };
+        traced = λ s p. record { place = here; empty = refl; least = omega (arith, m .0); most = m .1 };
+        shift = λ x. refuse-shifts reason;
+      }
+
+  -- ---- readers that look
+
+  pub when-laws : (t : ℕ → Bool) {f g : Reader} → Laws (ate σ) α ω f → Laws σ α ω g → Laws σ α ω (when t f g)
+  when-laws t {f} {g} F G =
+      record {
+        core = record {
+          kept = when-kept t (F .core .kept) (G .core .kept) (omega arith);
+          moves = λ s p.
+              eaten-holds (MovesOut σ α ω p) t (see s p) (f s) (g s p)
+              (λ k n x. eat-moves (see-ahead s p k n x .0) (F .core .moves s n)) (G .core .moves s p);
+          early = λ s p. eaten-holds (EarlyOut s) t (see s p) (f s) (g s p) (λ k n x. F .core .early s n) (G .core .early s p);
+        };
+        traced = λ s p. eaten-holds (Traced s p) t (see s p) (f s) (g s p) (λ k n x. eat-traced s p k n (f s n) x (F .traced s n)) (G .traced s p);
+        shift = λ x. when-shifts x t (F .shift x) (G .shift x);
+      }
+
+  pub sees-laws : (t : ℕ → Bool) {f g : Reader} → Laws σ α ω f → Laws σ α ω g → Laws σ α ω (sees t f g)
+  sees-laws t {f} {g} F G =
+      record {
+        core = record {
+          kept = sees-kept t (F .core .kept) (G .core .kept) (omega arith);
+          moves = λ s p. eaten-holds (MovesOut σ α ω p) t (see s p) (λ n. f s p) (g s p) (λ k n x. F .core .moves s p) (G .core .moves s p);
+          early = λ s p. eaten-holds (EarlyOut s) t (see s p) (λ n. f s p) (g s p) (λ k n x. F .core .early s p) (G .core .early s p);
+        };
+        traced = λ s p. eaten-holds (Traced s p) t (see s p) (λ n. f s p) (g s p) (λ k n x. F .traced s p) (G .traced s p);
+        shift = λ x. sees-shifts x t (F .shift x) (G .shift x);
+      }
+
+  -- `UnexpectedEof` where no character is seen
+  pub when-any : {f : Reader} → Laws (ate σ) α ω f → Laws σ α ω (when any f (refuse UnexpectedEof))
+  when-any {f} F =
+      record {
+        core = record {
+          kept = when-kept any (F .core .kept) (refuse-kept UnexpectedEof) (omega arith);
+          moves = λ s p.
+              eaten-holds (MovesOut σ α ω p) any (see s p) (f s) (bad (faultAt UnexpectedEof p))
+              (λ k n x. eat-moves (see-ahead s p k n x .0) (F .core .moves s n)) fails;
+          early = λ s p. any-early s p (f s) (F .core .early s);
+        };
+        traced = λ s p.
+            eaten-holds (Traced s p) any (see s p) (f s) (bad (faultAt UnexpectedEof p))
+            (λ k n x. eat-traced s p k n (f s n) x (F .traced s n)) (eof-traced s p);
+        shift = λ x. when-shifts x any (F .shift x) (refuse-shifts UnexpectedEof);
+      }
+
+  pub sees-any : {f : Reader} → Laws σ α ω f → Laws σ α ω (sees any f (refuse UnexpectedEof))
+  sees-any {f} F =
+      record {
+        core = record {
+          kept = sees-kept any (F .core .kept) (refuse-kept UnexpectedEof) (omega arith);
+          moves = λ s p.
+              eaten-holds (MovesOut σ α ω p) any (see s p) (λ n. f s p) (bad (faultAt UnexpectedEof p)) (λ k n x. F .core .moves s p) fails;
+          early = λ s p. any-early s p (λ n. f s p) (λ n. F .core .early s p);
+        };
+        traced = λ s p.
+            eaten-holds (Traced s p) any (see s p) (λ n. f s p) (bad (faultAt UnexpectedEof p)) (λ k n x. F .traced s p) (eof-traced s p);
+        shift = λ x. sees-shifts x any (F .shift x) (refuse-shifts UnexpectedEof);
+      }
+
+-- ---- readers of several
+
+-- a turn that goes on eats
+module _ {O : Order Row} {σ ω : Point O} where
+  turn-sound : {p : ℕ} (n : ℕ) {o : Out} → MovesOut σ (onward σ) ω p o → Sound 0 0 p n o → Sound 1 0 p n o
+  turn-sound n (done x) y = y
+  turn-sound n (goes x) y = omega (arith, x .eats)
+  turn-sound n fails y = tt
+
+  pub going : {f : Reader} → Laws σ (onward σ) ω f → Kept 1 0 1 f
+  going F =
+      record {
+        sound = λ s p. turn-sound (length s) (F .core .moves s p) (F .core .kept .sound s p);
+        local = F .core .kept .local;
+      }
+
+module _ {O : Order Row} {α ω : Point O} where
+  infixr 20 _then-laws_
+  pub _then-laws_ : {σ τ : Point O} {f g : Reader} → Laws σ τ τ f → Laws τ α ω g → Laws σ α ω (f then g)
+  _then-laws_ {f = f} {g = g} F G =
+      record {
+        core = then-core (F .core) (G .core);
+        traced = λ s p. chain-traced s p (f s p) (g s) (F .traced s p) (G .traced s);
+        shift = λ x. then-shifts (F .shift x) (G .shift x);
+      }
+
+  -- a row that is no damage row
+  pub over-laws : {P P′ : O .State → Type 0} {e n : ℕ} {m : Mark} {f : Reader} → eqb (kindOf (m .kind)) 9 ≡ false → Takes O m P P′ → Laws (at e n P′) α ω f → Laws (at e (suc n) P) α ω (over m f)
+  over-laws {m = m} {f = f} d t F =
+      record {
+        core = record {
+          kept = over-kept m (F .core .kept);
+          moves = λ s p. under-moves t p (F .core .moves s p);
+          early = λ s p. under-early s (marked m p) (f s p) (F .core .early s p);
+        };
+        traced = λ s p. lay-traced s p m (f s p) d (F .traced s p);
+        shift = λ x. over-shifts m (F .shift x);
+      }
+
+  pub many-laws : {σ : Point O} {f : ℕ → Reader} → ((a : ℕ) → Laws σ (onward σ) ω (f a)) → (a : ℕ) → Laws σ α ω (many f a)
+  unfolding many
+  many-laws {f = f} F a =
+      record {
+        core = record {
+          kept = many-kept (λ a. going (F a)) a;
+          moves = λ s p. loop-moves f (λ a. F a .core .moves) s (suc (length s)) a p;
+          early = λ s p. loop-early (λ a. going (F a)) (λ a. F a .core .early) s (suc (length s)) a p (omega arith);
+        };
+        traced = λ s p. loop-traced f (λ a. F a .traced) s (suc (length s)) a p;
+        shift = λ x. many-shifts (λ a. going (F a)) x (λ a. F a .shift x) a;
+      }
+
+  pub less-laws : {σ ω′ : Point O} {f : Reader} → Laws σ α ω f → AtLeast ω ω′ → Laws σ α ω′ f
+  less-laws F h = record { core = less-core (F .core) h; traced = F .traced; shift = F .shift }
+
+  -- a reader that answers like one that has the laws
+  pub same-laws : {σ : Point O} {f : Reader} (g : Reader) → Laws σ α ω f → ((s : List ℕ) (p : ℕ) → f s p ≡ g s p) → Laws σ α ω g
+  same-laws {σ} g F u =
+      record {
+        core = record {
+          kept = record {
+            sound = λ s p. subst (Sound 0 0 p (length s)) (u s p) (F .core .kept .sound s p);
+            local = λ s t p q h i e.
+                sym (u t p) ∙ F .core .kept .local s t p q (subst (λ (o : Out). Stops o q) (sym (u s p)) h) i e ∙ u s p;
+          };
+          moves = λ s p. subst (MovesOut σ α ω p) (u s p) (F .core .moves s p);
+          early = λ s p. subst (EarlyOut s) (u s p) (F .core .early s p);
+        };
+        traced = λ s p. subst (Traced s p) (u s p) (F .traced s p);
+        shift = λ x. record { moves = λ s p. sym (u (x ++ s) (p + length x)) ∙ F .shift x .moves s p ∙ ap (shifted (length x)) (u s p) };
+      }
+
+module _ {O : Order Row} {σ α : Point O} where
+  pub need-laws : (t : ℕ → Bool) (reason : Reason) → Met reason → Laws σ α (ate σ) (need t reason)
+  need-laws t reason m = when-laws t stop-laws (refuse-laws reason m)
+
+  pub scan-laws : (t : ℕ → Bool) → Laws σ α σ (scan t)
+  scan-laws t = many-laws (λ a. when-laws t (turn-laws a past) stop-laws) 0
+
+-- what a value may begin with; the refusal stands behind all of it
+module _ {O : Order Row} {σ α ω : Point O} {f g h k : Reader} (F : Laws σ α ω f) (G : Laws σ α ω g) (H : Laws σ α ω h) (K : Laws σ α ω k) where
+  abbrev begins : Reader
+  begins = sees (holdsOf test.Digit) f (sees isIdStart g (sees (is 0x7B) h (sees (is 0x22) k (refuse UnexpectedEof))))
+
+  -- by what is seen, of four; else R of the refusal
+  value-by : (R : Out → Type 0) (s : List ℕ) (p : ℕ) → R (f s p) → R (g s p) → R (h s p) → R (k s p) → (beginsValue (see s p) ≡ false → R (bad (faultAt UnexpectedEof p))) → R (begins s p)
+  value-by R s p x y z u w =
+      let c = see s p in
+      eaten-else R (holdsOf test.Digit) c _ _ (λ n. x) (λ d. eaten-else R isIdStart c _ _ (λ n. y) (λ i.
+      eaten-else R (is 0x7B) c _ _ (λ n. z) (λ b. eaten-else R (is 0x22) c _ _ (λ n. u) (λ q. w (no-value c d i b q)))))
+
+  pub value-laws : Laws σ α ω begins
+  value-laws =
+      record {
+        core = record {
+          kept =
+              sees-kept (holdsOf test.Digit) (F .core .kept) (sees-kept isIdStart (G .core .kept) (sees-kept (is 0x7B) (H .core .kept)
+              (sees-kept (is 0x22) (K .core .kept) (refuse-kept UnexpectedEof) (omega arith)) (omega arith)) (omega arith)) (omega arith);
+          moves = λ s p. value-by (MovesOut σ α ω p) s p (F .core .moves s p) (G .core .moves s p) (H .core .moves s p) (K .core .moves s p) (λ e. fails);
+          early = λ s p. value-by (EarlyOut s) s p (F .core .early s p) (G .core .early s p) (H .core .early s p) (K .core .early s p) (λ e x. e);
+        };
+        traced = λ s p. value-by (Traced s p) s p (F .traced s p) (G .traced s p) (H .traced s p) (K .traced s p) (λ e. eof-traced s p);
+        shift = λ x.
+            sees-shifts x (holdsOf test.Digit) (F .shift x) (sees-shifts x isIdStart (G .shift x) (sees-shifts x (is 0x7B) (H .shift x)
+            (sees-shifts x (is 0x22) (K .shift x) (refuse-shifts UnexpectedEof))));
+      }
