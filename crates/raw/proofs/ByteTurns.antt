@@ -25,8 +25,8 @@ use Rattle.raw.specs.declared.answer.Step.the-variants as step
 use Rattle.raw.specs.Reader.{Reader, ok, again, bad}
 use Rattle.raw.specs.Grammar.{is, escape, quotedTurn, quoted, numberTurn, number, bracedTurn, inBraces}
 use Rattle.raw.specs.Says.{stepOf, Onward}
-use Rattle.raw.proofs.Loop.{many-turn}
-use Rattle.raw.proofs.Readers.{quoted-turn-kept, number-turn-kept, braced-turn-kept}
+use Rattle.raw.proofs.readers.Loop.{many-turn}
+use Rattle.raw.proofs.grammar.Readers.{quoted-turn-kept, number-turn-kept, braced-turn-kept}
 use Rattle.raw.proofs.Eaten.{narrow-is}
 use Rattle.raw.proofs.Bytes.{Narrow, seen-key, seen-other, Unrolls, Wide, Reached, on-turn, on-char, on-cut, on-escape, at-stop, at-bad}
 

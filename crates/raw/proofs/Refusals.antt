@@ -16,9 +16,9 @@ use Rattle.raw.specs.Reader.{Out, ok, again, bad}
 use Rattle.raw.specs.Grammar.{file}
 use Rattle.raw.specs.Read.{strict, readingOut}
 use Rattle.raw.specs.Refusals.{ReadFault, long, met, full, Refusals}
-use Rattle.raw.proofs.Trace.{Refused, Traced}
-use Rattle.raw.proofs.Readers.{from-start}
-use Rattle.raw.proofs.Entries.{file-laws}
+use Rattle.raw.proofs.readers.Trace.{Refused, Traced}
+use Rattle.raw.proofs.grammar.Readers.{from-start}
+use Rattle.raw.proofs.grammar.Entries.{file-laws}
 use Rattle.raw.proofs.Strict.{strict-by, file-refuses}
 
 module _ (s : List ℕ) (f : Fault) where

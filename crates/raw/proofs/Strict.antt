@@ -29,12 +29,12 @@ use Rattle.raw.specs.Grammar.{is, any, white, comment, entry, fileTurn, 
 use Rattle.row.specs.Limits.{mostBytes}
 use Rattle.raw.specs.Read.{checked, strict}
 use Rattle.raw.specs.Strict.{Same, Fresh, Accepted, Refusal, Strict}
-use Rattle.raw.proofs.Trace.{Trace, Refused, Traced, trace-reach}
-use Rattle.raw.proofs.Spans.{reach-inside, reach-same, trace-rising, trace-spans, trace-clean}
-use Rattle.raw.proofs.Kept.{Stops, Sound}
-use Rattle.raw.proofs.Loop.{many-turn}
-use Rattle.raw.proofs.Readers.{from-start}
-use Rattle.raw.proofs.Entries.{entry-kept, entry-laws, file-turn-kept, file-laws, file-rules, file-few, file-early}
+use Rattle.raw.proofs.readers.Trace.{Trace, Refused, Traced, trace-reach}
+use Rattle.raw.proofs.readers.Spans.{reach-inside, reach-same, trace-rising, trace-spans, trace-clean}
+use Rattle.raw.proofs.readers.Kept.{Stops, Advances}
+use Rattle.raw.proofs.readers.Loop.{many-turn}
+use Rattle.raw.proofs.grammar.Readers.{from-start}
+use Rattle.raw.proofs.grammar.Entries.{entry-kept, entry-laws, file-turn-kept, file-laws, file-rules, file-few, file-early}
 
 -- ---- no fuel
 
@@ -112,14 +112,14 @@ module _ (s : List ℕ) where
   pub file-ends : (p q : ℕ) (rs : List Row) → file s p ≡ ok q rs → p ≤ length s → q ≡ length s
   file-ends p q rs e h =
       let x : length s ≤ q = subst Done e (file-done p) in
-      let y : Sound 0 0 p (length s) (ok q rs) = subst (Sound 0 0 p (length s)) e (from-start file-laws .core .kept .sound s p) in
+      let y : Advances 0 0 p (length s) (ok q rs) = subst (Advances 0 0 p (length s)) e (from-start file-laws .core .kept .advances s p) in
       omega arith
 
 -- ---- what is looked at
 
 module _ (s : List ℕ) (p q : ℕ) (rs : List Row) (e : entry s p ≡ ok q rs) where
   entry-at : (p < q) × (q ≤ length s)
-  entry-at = let y : Sound 1 1 p (length s) (ok q rs) = subst (Sound 1 1 p (length s)) e (entry-kept .sound s p) in (omega arith, omega arith)
+  entry-at = let y : Advances 1 1 p (length s) (ok q rs) = subst (Advances 1 1 p (length s)) e (entry-kept .advances s p) in (omega arith, omega arith)
 
   entry-same : (t : List ℕ) → q ≤ length t → Same s t p q → entry t p ≡ ok q rs
   entry-same t h x = entry-kept .local s t p q (subst (λ (o : Out). Stops o q) (sym e) refl) h (λ i a b. x i a (omega arith)) ∙ e

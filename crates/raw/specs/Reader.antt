@@ -85,7 +85,7 @@ when t f g s p = eaten t (see s p) (f s) (g s p)
 abbrev pub sees : {P : Type 0} → (ℕ → Bool) → ReaderOf P → ReaderOf P → ReaderOf P
 sees t f g s p = eaten t (see s p) (λ n. f s p) (g s p)
 
--- turns of f, beginning with the number a, for as long as they say `again`. The fuel never runs out (`many-turn` of proofs/Loop.antt)
+-- turns of f, beginning with the number a, for as long as they say `again`. The fuel never runs out (`many-turn` of proofs/readers/Loop.antt)
 unfoldable pub loop : {P : Type 0} → (ℕ → ReaderOf P) → ℕ → ℕ → ReaderOf P
 loop f zero a s p = bad (faultAt UnexpectedEof p)
 loop f (suc n) a s p = after (f a s p) (λ b q. loop f n b s q)

@@ -18,8 +18,8 @@ use Rattle.text.proofs.Moved.{see-ahead}
 use Rattle.row.specs.Row.{Row}
 use Rattle.raw.specs.Reader.{ok, more, after, eaten, stop, turn, many, scanTurn, scan}
 use Rattle.raw.specs.Grammar.{white}
-use Rattle.raw.proofs.Loop.{many-turn}
-use Rattle.raw.proofs.Scans.{scan-turn-kept}
+use Rattle.raw.proofs.readers.Loop.{many-turn}
+use Rattle.raw.proofs.readers.Scans.{scan-turn-kept}
 
 -- a scan of class t stops here
 abbrev pub Halts : (ℕ → Bool) → Seen → Type 0

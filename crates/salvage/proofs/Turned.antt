@@ -21,10 +21,10 @@ use Rattle.row.specs.Row.{Row}
 use Rattle.raw.specs.Reader.{Out, ok, again, bad, Reader, andThen, eaten, stop, turn}
 use Rattle.raw.specs.Grammar.{is, any, white, comment, entry, fileTurn}
 use Rattle.raw.specs.Strict.{Same}
-use Rattle.raw.proofs.Kept.{Stops, Sound}
-use Rattle.raw.proofs.Then.{more-none}
-use Rattle.raw.proofs.Readers.{from-start, white-laws, comment-laws}
-use Rattle.raw.proofs.Entries.{entry-kept, file-turn-kept}
+use Rattle.raw.proofs.readers.Kept.{Stops, Advances}
+use Rattle.raw.proofs.readers.Then.{more-none}
+use Rattle.raw.proofs.grammar.Readers.{from-start, white-laws, comment-laws}
+use Rattle.raw.proofs.grammar.Entries.{entry-kept, file-turn-kept}
 use Rattle.salvage.proofs.Scanned.{Halts, Clear, Scanned, true-not-false, ok-place, scan-found, white-found, white-stays}
 
 -- ---- after the white space
@@ -46,7 +46,7 @@ turn-white s p q e = ap (λ (o : Out). andThen o (item s)) e ∙ more-none (item
 -- a turn that goes on, goes on
 pub turn-sound : (s : List ℕ) (p q a : ℕ) (rs : List Row) → fileTurn 0 s p ≡ again q rs a → (p < q) × (q ≤ max p (length s))
 turn-sound s p q a rs e =
-    let y : Sound 1 0 p (length s) (again q rs a) = subst (Sound 1 0 p (length s)) e (file-turn-kept 0 .sound s p) in
+    let y : Advances 1 0 p (length s) (again q rs a) = subst (Advances 1 0 p (length s)) e (file-turn-kept 0 .advances s p) in
     (omega arith, omega arith)
 
 pub item-sound : (s : List ℕ) (p q a : ℕ) (rs : List Row) → Halts isWhitespace (see s p) → item s p ≡ again q rs a → (p < q) × (q ≤ max p (length s))

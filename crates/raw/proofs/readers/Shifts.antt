@@ -18,8 +18,8 @@ use Rattle.row.specs.declared.fault.Reason.{Reason}
 use Rattle.row.proofs.Rows.{moved-append}
 use Rattle.raw.specs.Reader.{Out, ok, again, bad, Reader, more, andThen, after, eaten, under, stop, turn, refuse, put, _then_, over, overFrom, when, sees, loop, many}
 use Rattle.raw.specs.Strict.{shifted}
-use Rattle.raw.proofs.Kept.{Kept}
-use Rattle.raw.proofs.Loop.{loop-fuel}
+use Rattle.raw.proofs.readers.Kept.{Kept}
+use Rattle.raw.proofs.readers.Loop.{loop-fuel}
 
 -- g behind the text a answers what f answers without it, moved
 pub record Shifts (a : List ℕ) (f g : Reader) : Type 0 where

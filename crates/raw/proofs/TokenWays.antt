@@ -1,7 +1,6 @@
--- The readers without rows, as such; and by what the scanner told of them.
---     x-bare                   each of them
---     white-on, comment-on     white space and a comment, which are never refused
---     comment-off, comment-line, key-told, ident-off, ident-line, ident-letters     the ways through `comment`, `key` and `ident`
+-- The ways through the functions of src/token.rt, by what the scanner told.
+--     scan-on, white-on, comment-on, key-on       scans, white space, a comment and a key, which are never refused
+--     key-told, comment-off, comment-line, ident-off, ident-line, ident-letters       the ways through `key`, `comment` and `ident`
 -- Assumes nothing.
 use Prim.Native.Nat.{ℕ, _+_, _≤_, _<_, max}
 use mathlib.Core.Path.{_≡_, refl, sym, ap, _∙_}
@@ -21,14 +20,13 @@ use Rattle.row.specs.Row.{Row}
 use Rattle.raw.specs.declared.answer.Step.{Step}
 use Rattle.raw.specs.declared.answer.Step.the-variants as step
 use Rattle.raw.specs.Reader.{ok, bad, scan}
-use Rattle.raw.specs.Grammar.{white, comma, atSign, opening, closing, quote, equals, comment, key, ident, quoted, number, inBraces, string, lead}
+use Rattle.raw.specs.Grammar.{white, comment, key, ident}
 use Rattle.raw.specs.Says.{stepOf, Onward}
-use Rattle.raw.proofs.Scans.{scan-skip}
-use Rattle.raw.proofs.Bare.{Bare, bare, bare-at}
-use Rattle.raw.proofs.Readers.{comment-laws, key-laws, ident-laws, comma-laws, at-sign-laws, opening-laws, closing-laws, quote-laws, equals-laws, quoted-laws, number-laws, in-braces-laws, string-laws, lead-laws}
+use Rattle.raw.proofs.readers.Scans.{scan-skip}
+use Rattle.raw.proofs.grammar.Rowless.{rowless-at, comment-rowless, key-rowless}
 use Rattle.raw.proofs.Eaten.{not-at, eaten-off, eaten-on}
 
--- ---- readers without rows
+-- ---- scans
 
 pub scan-on : (t : ℕ → Bool) (s : List ℕ) (i : ℕ) {r : ℕ} → r ≡ skip t s i → scan {P = Row} t s i ≡ ok r []
 scan-on t s i e = scan-skip t s i ∙ ap (λ (x : ℕ). ok x []) (sym e)
@@ -38,57 +36,15 @@ module _ (s : List ℕ) (i : ℕ) where
   unfolding white
   white-on e = scan-on isWhitespace s i e
 
-  pub comment-bare : Bare (comment s i)
-  comment-bare = bare comment-laws s i
-
-  pub key-bare : Bare (key s i)
-  key-bare = bare key-laws s i
-
-  pub ident-bare : Bare (ident s i)
-  ident-bare = bare ident-laws s i
-
-  pub comma-bare : Bare (comma s i)
-  comma-bare = bare comma-laws s i
-
-  pub at-sign-bare : Bare (atSign s i)
-  at-sign-bare = bare at-sign-laws s i
-
-  pub opening-bare : Bare (opening s i)
-  opening-bare = bare opening-laws s i
-
-  pub closing-bare : Bare (closing s i)
-  closing-bare = bare closing-laws s i
-
-  pub quote-bare : Bare (quote s i)
-  quote-bare = bare quote-laws s i
-
-  pub equals-bare : Bare (equals s i)
-  equals-bare = bare equals-laws s i
-
-  pub quoted-bare : Bare (quoted s i)
-  quoted-bare = bare quoted-laws s i
-
-  pub number-bare : Bare (number s i)
-  number-bare = bare number-laws s i
-
-  pub in-braces-bare : Bare (inBraces s i)
-  in-braces-bare = bare in-braces-laws s i
-
-  pub string-bare : Bare (string s i)
-  string-bare = bare string-laws s i
-
-  pub lead-bare : Bare (lead s i)
-  lead-bare = bare lead-laws s i
-
 -- ---- the ways through
 
 module _ (s : List ℕ) (i : ℕ) where
   -- a reader that is never refused: by the place it told
   pub comment-on : {r : ℕ} → step.At r ≡ stepOf (comment s i) → comment s i ≡ ok r []
-  comment-on e = bare-at (comment-bare s i) e refl
+  comment-on e = rowless-at (comment-rowless s i) e refl
 
   pub key-on : {r : ℕ} → step.At r ≡ stepOf (key s i) → key s i ≡ ok r []
-  key-on e = bare-at (key-bare s i) e refl
+  key-on e = rowless-at (key-rowless s i) e refl
 
   pub key-told : {r : ℕ} → r ≡ skip isKey s i → Ahead s i r → (step.At r ≡ stepOf (key s i)) × (i ≤ r) × (r ≤ max i (length s))
   unfolding key

@@ -50,7 +50,7 @@ module _ {T : Type 0} {O : Order T} where
   pub record Moves (σ ω : Point O) (p q : ℕ) (rs : List T) : Type 0 where
     pub eats : p + ω .eaten ≤ q + σ .eaten
     pub pays : length rs + p + ω .spare ≤ q + σ .spare
-    pub leads : (a : O .State) → σ .awaits a → ω .awaits (O .run a rs)
+    pub follows : (a : O .State) → σ .awaits a → ω .awaits (O .run a rs)
 
   -- of an answer: one that says `again` stands at α, one that is done at ω
   pub data MovesOut (σ α ω : Point O) (p : ℕ) : OutOf T → Type 0 where
@@ -82,7 +82,7 @@ module _ {T : Type 0} {O : Order T} where
       record {
         eats = omega (arith, h .eaten);
         pays = omega (arith, h .spare);
-        leads = λ a x. subst (τ .awaits) (sym (O .run-none a)) (h .awaits a x);
+        follows = λ a x. subst (τ .awaits) (sym (O .run-none a)) (h .awaits a x);
       }
 
   pub join : {σ τ ω : Point O} {p q r : ℕ} {rs ss : List T} → Moves σ τ p q rs → Moves τ ω q r ss → Moves σ ω p r (rs ++ ss)
@@ -90,7 +90,7 @@ module _ {T : Type 0} {O : Order T} where
       record {
         eats = omega (arith, x .eats, y .eats);
         pays = omega (arith, x .pays, y .pays, length-append rs ss);
-        leads = λ a h. subst (ω .awaits) (sym (O .run-append a rs ss)) (y .leads _ (x .leads a h));
+        follows = λ a h. subst (ω .awaits) (sym (O .run-append a rs ss)) (y .follows _ (x .follows a h));
       }
 
   pub less : {σ τ ω : Point O} {p q : ℕ} {rs : List T} → AtLeast τ ω → Moves σ τ p q rs → Moves σ ω p q rs
@@ -98,12 +98,12 @@ module _ {T : Type 0} {O : Order T} where
       record {
         eats = omega (arith, h .eaten, x .eats);
         pays = omega (arith, h .spare, x .pays);
-        leads = λ a y. h .awaits _ (x .leads a y);
+        follows = λ a y. h .awaits _ (x .follows a y);
       }
 
   -- behind a byte
   byte : {σ ω : Point O} {p n q : ℕ} {rs : List T} → p < n → Moves (ate σ) ω n q rs → Moves σ ω p q rs
-  byte h x = record { eats = omega (arith, x .eats); pays = omega (arith, x .pays); leads = x .leads }
+  byte h x = record { eats = omega (arith, x .eats); pays = omega (arith, x .pays); follows = x .follows }
 
   -- ---- of answers
 
@@ -152,7 +152,7 @@ module _ {O : Order Row} {P P′ : O .State → Type 0} {e n : ℕ} {m : Mark} (
       record {
         eats = omega (arith, h .eats);
         pays = omega (arith, h .pays);
-        leads = λ a z. subst (ω .awaits) (sym (O .run-append a (marked m x y ∷ []) rs)) (h .leads _ (t .takes a x y z));
+        follows = λ a z. subst (ω .awaits) (sym (O .run-append a (marked m x y ∷ []) rs)) (h .follows _ (t .takes a x y z));
       }
 
   pub under-moves : {α ω : Point O} {p : ℕ} {o : Out} (x : ℕ) → MovesOut (at e n P′) α ω p o → MovesOut (at e (suc n) P) α ω p (under (marked m x) o)

@@ -22,7 +22,7 @@ use Rattle.row.specs.Row.{Row}
 use Rattle.raw.specs.Reader.{Out, ok, again, bad, Reader, more, andThen, under, eaten, after, loop}
 use Rattle.raw.specs.Grammar.{is, any}
 use Rattle.raw.specs.Strict.{beginsValue}
-use Rattle.raw.proofs.Kept.{Sound, Kept}
+use Rattle.raw.proofs.readers.Kept.{Advances, Kept}
 
 -- a refusal by 3 is where no value begins
 abbrev pub EarlyOut : List ℕ → Out → Type 0
@@ -77,7 +77,7 @@ any-early s p f F = eaten-else (EarlyOut s) any (see s p) f (bad (faultAt Unexpe
 
 -- turns that go on: the fuel n lasts to the end of the text
 module _ {w l : ℕ} {f : ℕ → Reader} (K : (a : ℕ) → Kept 1 w l (f a)) (F : (a : ℕ) (s : List ℕ) (p : ℕ) → EarlyOut s (f a s p)) where
-  after-early : (s : List ℕ) (p n : ℕ) (o : Out) (g : ℕ → ℕ → Out) → Sound 1 w p (length s) o → EarlyOut s o → length s ≤ p + suc n → ((b q : ℕ) → length s ≤ q + n → EarlyOut s (g b q)) → EarlyOut s (after o g)
+  after-early : (s : List ℕ) (p n : ℕ) (o : Out) (g : ℕ → ℕ → Out) → Advances 1 w p (length s) o → EarlyOut s o → length s ≤ p + suc n → ((b q : ℕ) → length s ≤ q + n → EarlyOut s (g b q)) → EarlyOut s (after o g)
   after-early s p n (ok q rs) g y x h H = tt
   after-early s p n (again q rs a) g y x h H = more-early s rs (g a q) (H a q (omega arith))
   after-early s p n (bad j) g y x h H = x
@@ -86,4 +86,4 @@ module _ {w l : ℕ} {f : ℕ → Reader} (K : (a : ℕ) → Kept 1 w l (f a)) (
   unfolding loop
   loop-early s zero a p h = let e = see-end s p (omega arith) in λ x. rw e
   loop-early s (suc n) a p h =
-      after-early s p n (f a s p) (λ b q. loop f n b s q) (K a .sound s p) (F a s p) h (loop-early s n)
+      after-early s p n (f a s p) (λ b q. loop f n b s q) (K a .advances s p) (F a s p) h (loop-early s n)

@@ -28,17 +28,17 @@ use Rattle.row.specs.declared.fault.Reason.the-variants.{ExpectedClosingBrace}
 use Rattle.raw.specs.Reader.{Out, ok, again, bad, Reader, andThen, eaten, _then_, put, when, sees, turn, scan}
 use Rattle.raw.specs.Grammar.{is, any, white, closing, ident, comment, formOf, strings, preamble, commented, body, lead, rest, atSign, entry, fileTurn, file}
 use Rattle.raw.specs.Strict.{shifted, beginsValue}
-use Rattle.raw.proofs.Trace.{Reach, here, lays, joins, Traced, reach-on, trace-reach, reach-trace, joined, back-traced, chain-traced, lay-traced}
-use Rattle.raw.proofs.Kept.{Sound, Kept, stop-kept, refuse-kept, kept-weaker, when-kept}
-use Rattle.raw.proofs.Then.{more-none, chain-sound, chain-local, then-kept}
-use Rattle.raw.proofs.Shifts.{Shifts, put-shifts, chain-up, then-shifts, from-shifts}
-use Rattle.raw.proofs.Points.{Point, Moves, MovesOut, done, same, past, less-of, chain-moves, less-moves}
-use Rattle.raw.proofs.Early.{EarlyOut, chain-early}
-use Rattle.raw.proofs.RowOrder.{rules, awaiting, start, Is, Part, part-free, entry-takes, type-takes}
-use Rattle.raw.proofs.Laws.{Core, Laws, then-core, put-core, from-core, going, stop-laws, turn-laws, when-laws, sees-laws, _then-laws_, many-laws, less-laws, scan-laws, same-laws}
-use Rattle.raw.proofs.Spells.{form-same, form-up}
-use Rattle.raw.proofs.Bare.{Bare, bare-ok, bare-bad, bare}
-use Rattle.raw.proofs.Readers.{from-start, white-laws, closing-laws, at-sign-laws, ident-laws, comment-laws, lead-laws, strings-laws, preamble-laws, commented-laws, body-laws}
+use Rattle.raw.proofs.readers.Trace.{Reach, here, lays, joins, Traced, reach-on, trace-reach, reach-trace, joined, back-traced, chain-traced, lay-traced}
+use Rattle.raw.proofs.readers.Kept.{Advances, Kept, stop-kept, refuse-kept, kept-weaker, when-kept}
+use Rattle.raw.proofs.readers.Then.{more-none, chain-advances, chain-local, then-kept}
+use Rattle.raw.proofs.readers.Shifts.{Shifts, put-shifts, chain-up, then-shifts, from-shifts}
+use Rattle.raw.proofs.readers.Points.{Point, Moves, MovesOut, done, same, past, less-of, chain-moves, less-moves}
+use Rattle.raw.proofs.grammar.Early.{EarlyOut, chain-early}
+use Rattle.raw.proofs.grammar.RowOrder.{rules, awaiting, start, Is, Part, part-free, entry-takes, type-takes}
+use Rattle.raw.proofs.grammar.Laws.{Core, Laws, then-core, put-core, from-core, going, stop-laws, turn-laws, when-laws, sees-laws, _then-laws_, many-laws, less-laws, scan-laws, same-laws}
+use Rattle.raw.proofs.grammar.Spells.{form-same, form-up}
+use Rattle.raw.proofs.grammar.Rowless.{Rowless, rowless-ok, rowless-bad, rowless}
+use Rattle.raw.proofs.grammar.Readers.{from-start, white-laws, closing-laws, at-sign-laws, ident-laws, comment-laws, lead-laws, strings-laws, preamble-laws, commented-laws, body-laws}
 
 -- ---- after an entry's type
 
@@ -93,8 +93,8 @@ end-kept = then-kept (from-start white-laws .core .kept) closing-kept (omega ari
 close-kept : (form : Form) (p a e : ℕ) → Kept 1 1 0 (rest form p a e then white then closing)
 close-kept form p a e = then-kept (rest-core {e = 0} {n = 0} {α = start} form p a e .kept) end-kept (omega arith)
 
-named-sound : (p a : ℕ) (s : List ℕ) (e : ℕ) → Sound 1 1 e (length s) (named p a s e)
-named-sound p a s e = close-kept (formOf s a e) p a e .sound s e
+named-advances : (p a : ℕ) (s : List ℕ) (e : ℕ) → Advances 1 1 e (length s) (named p a s e)
+named-advances p a s e = close-kept (formOf s a e) p a e .advances s e
 
 ident-kept : Kept 0 0 1 ident
 ident-kept = from-start ident-laws .core .kept
@@ -102,9 +102,9 @@ ident-kept = from-start ident-laws .core .kept
 typed-kept : (p : ℕ) → Kept 1 1 0 (typed p)
 typed-kept p =
     record {
-      sound = λ s a. chain-sound ident-kept s a (named p a s) 1 1 1 1 (named-sound p a s) (omega arith, omega arith);
+      advances = λ s a. chain-advances ident-kept s a (named p a s) 1 1 1 1 (named-advances p a s) (omega arith, omega arith);
       local = λ s t a q h i e.
-          chain-local ident-kept s a (named p a s) 1 1 0 t q (named p a t) (named-sound p a s)
+          chain-local ident-kept s a (named p a s) 1 1 0 t q (named p a t) (named-advances p a s)
           (λ r x y u.
           rw (form-same s t a r (λ j b c. e j b (omega arith)))
           (close-kept (formOf s a r) p a r .local s t r q u i (λ j b c. e j (omega arith) c)))
@@ -113,7 +113,7 @@ typed-kept p =
 
 pub entry-kept : Kept 1 1 0 entry
 unfolding entry
-entry-kept = record { sound = λ s p. begun p .sound s p; local = λ s t p. begun p .local s t p }
+entry-kept = record { advances = λ s p. begun p .advances s p; local = λ s t p. begun p .local s t p }
   where
     begun : (p : ℕ) → Kept 1 1 0 (atSign then typed p)
     begun p = then-kept (from-start at-sign-laws .core .kept) (typed-kept p) (omega arith)
@@ -134,9 +134,9 @@ typed-shifts x p =
 
 -- ---- the rows of an entry stand over it
 
-bare-chain : (s : List ℕ) (p a : ℕ) {o : Out} (g : ℕ → Out) → Bare o → Traced s a o → Reach s p a → ((e : ℕ) → Reach s a e → Traced s p (g e)) → Traced s p (andThen o g)
-bare-chain s p a g (bare-ok {q = e}) t x G = subst (Traced s p) (sym (more-none (g e))) (G e (trace-reach t))
-bare-chain s p a g (bare-bad {f = f}) t x G = back-traced s p a (bad f) x t
+rowless-chain : (s : List ℕ) (p a : ℕ) {o : Out} (g : ℕ → Out) → Rowless o → Traced s a o → Reach s p a → ((e : ℕ) → Reach s a e → Traced s p (g e)) → Traced s p (andThen o g)
+rowless-chain s p a g (rowless-ok {q = e}) t x G = subst (Traced s p) (sym (more-none (g e))) (G e (trace-reach t))
+rowless-chain s p a g (rowless-bad {f = f}) t x G = back-traced s p a (bad f) x t
 
 module _ (s : List ℕ) (p a e : ℕ) (x : Reach s p a) (y : Reach s a e) where
   behind : {ω : Point rules} {f : Reader} → Laws start start ω f → Traced s p (f s e)
@@ -157,7 +157,7 @@ module _ (s : List ℕ) (p a e : ℕ) (x : Reach s p a) (y : Reach s a e) where
 
 typed-traced : (s : List ℕ) (p a : ℕ) → Reach s p a → Traced s p (typed p s a)
 typed-traced s p a x =
-    bare-chain s p a (named p a s) (bare ident-laws s a) (from-start ident-laws .traced s a) x (λ e y. named-traced s p a e x y)
+    rowless-chain s p a (named p a s) (rowless ident-laws s a) (from-start ident-laws .traced s a) x (λ e y. named-traced s p a e x y)
 
 -- ---- an entry
 
@@ -176,7 +176,7 @@ entry-laws {e} {n} {α} =
             (λ a. chain-early s (ident s a) (named p a s) (from-start ident-laws .core .early s a) (λ b. close p a b s .early s b));
       };
       traced = λ s p.
-          bare-chain s p p (typed p s) (bare at-sign-laws s p) (from-start at-sign-laws .traced s p) here (typed-traced s p);
+          rowless-chain s p p (typed p s) (rowless at-sign-laws s p) (from-start at-sign-laws .traced s p) here (typed-traced s p);
       shift = λ x. record {
         moves = λ s p.
             rw (from-start at-sign-laws .shift x .moves s p)
@@ -235,7 +235,7 @@ module _ (s : List ℕ) (p q : ℕ) (rs : List Row) (e : file s p ≡ ok q rs) w
   -- they pass the row rules
   pub file-rules : isRows rs ≡ true
   unfolding isRows
-  file-rules = free-whole _ (file-moves .leads (part false) (none false))
+  file-rules = free-whole _ (file-moves .follows (part false) (none false))
 
   -- and are at most as many as the bytes
   pub file-few : length rs + p ≤ q

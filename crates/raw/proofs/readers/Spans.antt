@@ -19,7 +19,7 @@ use Rattle.text.proofs.Boundaries.{boundaries}
 use Rattle.row.specs.Row.{Row}
 use Rattle.row.specs.Rules.{clean}
 use Rattle.raw.specs.Strict.{Same, Rising, Spans}
-use Rattle.raw.proofs.Trace.{Reach, here, on, Trace, none, eats, joins, lays, trace-reach}
+use Rattle.raw.proofs.readers.Trace.{Reach, here, on, Trace, none, eats, joins, lays, trace-reach}
 
 -- ---- of rows
 

@@ -24,13 +24,13 @@ use Rattle.row.specs.Row.{Row, Mark, marked, kindOf}
 use Rattle.raw.specs.Reader.{Out, ok, again, bad, Reader, stop, turn, refuse, _then_, over, overFrom, put, when, sees, many, scan}
 use Rattle.raw.specs.Grammar.{is, any, need}
 use Rattle.raw.specs.Strict.{shifted, beginsValue}
-use Rattle.raw.proofs.Trace.{here, none, Traced, eat-traced, chain-traced, lay-traced}
-use Rattle.raw.proofs.Kept.{Stops, Sound, Kept, stop-kept, turn-kept, refuse-kept, put-kept, eaten-holds, when-kept, sees-kept}
-use Rattle.raw.proofs.Then.{then-kept, over-kept, from-kept}
-use Rattle.raw.proofs.Loop.{many-kept, loop-traced}
-use Rattle.raw.proofs.Shifts.{Shifts, stop-shifts, turn-shifts, refuse-shifts, when-shifts, sees-shifts, then-shifts, over-shifts, many-shifts}
-use Rattle.raw.proofs.Points.{Order, Point, at, ate, onward, AtLeast, same, past, MovesOut, done, goes, fails, Takes, stay, eat-moves, chain-moves, less-moves, loop-moves, under-moves, put-moves}
-use Rattle.raw.proofs.Early.{EarlyOut, chain-early, under-early, eaten-else, any-early, no-value, loop-early}
+use Rattle.raw.proofs.readers.Trace.{here, none, Traced, eat-traced, chain-traced, lay-traced}
+use Rattle.raw.proofs.readers.Kept.{Stops, Advances, Kept, stop-kept, turn-kept, refuse-kept, put-kept, eaten-holds, when-kept, sees-kept}
+use Rattle.raw.proofs.readers.Then.{then-kept, over-kept, from-kept}
+use Rattle.raw.proofs.readers.Loop.{many-kept, loop-traced}
+use Rattle.raw.proofs.readers.Shifts.{Shifts, stop-shifts, turn-shifts, refuse-shifts, when-shifts, sees-shifts, then-shifts, over-shifts, many-shifts}
+use Rattle.raw.proofs.readers.Points.{Order, Point, at, ate, onward, AtLeast, same, past, MovesOut, done, goes, fails, Takes, stay, eat-moves, chain-moves, less-moves, loop-moves, under-moves, put-moves}
+use Rattle.raw.proofs.grammar.Early.{EarlyOut, chain-early, under-early, eaten-else, any-early, no-value, loop-early}
 
 -- ---- the words
 
@@ -168,15 +168,15 @@ module _ {O : Order Row} {σ α ω : Point O} where
 
 -- a turn that goes on eats
 module _ {O : Order Row} {σ ω : Point O} where
-  turn-sound : {p : ℕ} (n : ℕ) {o : Out} → MovesOut σ (onward σ) ω p o → Sound 0 0 p n o → Sound 1 0 p n o
-  turn-sound n (done x) y = y
-  turn-sound n (goes x) y = omega (arith, x .eats)
-  turn-sound n fails y = tt
+  turn-advances : {p : ℕ} (n : ℕ) {o : Out} → MovesOut σ (onward σ) ω p o → Advances 0 0 p n o → Advances 1 0 p n o
+  turn-advances n (done x) y = y
+  turn-advances n (goes x) y = omega (arith, x .eats)
+  turn-advances n fails y = tt
 
   pub going : {f : Reader} → Laws σ (onward σ) ω f → Kept 1 0 1 f
   going F =
       record {
-        sound = λ s p. turn-sound (length s) (F .core .moves s p) (F .core .kept .sound s p);
+        advances = λ s p. turn-advances (length s) (F .core .moves s p) (F .core .kept .advances s p);
         local = F .core .kept .local;
       }
 
@@ -225,7 +225,7 @@ module _ {O : Order Row} {α ω : Point O} where
       record {
         core = record {
           kept = record {
-            sound = λ s p. subst (Sound 0 0 p (length s)) (u s p) (F .core .kept .sound s p);
+            advances = λ s p. subst (Advances 0 0 p (length s)) (u s p) (F .core .kept .advances s p);
             local = λ s t p q h i e.
                 sym (u t p) ∙ F .core .kept .local s t p q (subst (λ (o : Out). Stops o q) (sym (u s p)) h) i e ∙ u s p;
           };

@@ -13,7 +13,7 @@ use Rattle.row.specs.Row.{Row, plain, kindOf}
 use Rattle.row.specs.Rules.{Await, part, type, value, chunk, chunks, next, isDetail, run}
 use Rattle.row.specs.Rules as awaits
 use Rattle.row.proofs.Joins.{run-append, Free, none, one}
-use Rattle.raw.proofs.Points.{Order, Point, at, Takes}
+use Rattle.raw.proofs.readers.Points.{Order, Point, at, Takes}
 
 pub run-none : (a : Await) → run a [] ≡ a
 unfolding run

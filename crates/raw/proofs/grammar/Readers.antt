@@ -15,13 +15,13 @@ use Rattle.row.specs.declared.fault.Reason.the-variants.{UnexpectedEof, Expecte
 use Rattle.row.specs.Row.{Row, plain, kindOf}
 use Rattle.raw.specs.Reader.{Reader}
 use Rattle.raw.specs.Grammar.{is, any, white, comma, atSign, opening, closing, quote, equals, escape, quotedTurn, quoted, string, stringLiteral, numberTurn, number, bracedTurn, inBraces, braced, ident, singleField, abbrElement, abbrTurn, abbrField, comment, field, fieldEnd, fieldsTurn, fields, key, strings, preamble, commented, body, lead}
-use Rattle.raw.proofs.Kept.{Kept}
-use Rattle.raw.proofs.Points.{Order, Point, ate, onward, AtLeast, same, back, past, far, less-of, Takes}
-use Rattle.raw.proofs.RowOrder.{rules, awaiting, start, Is, is-in, Chunk, more, Part, at-chunks, literal-takes, name-takes, value-takes, field-takes, definition-takes, preamble-takes, key-takes}
+use Rattle.raw.proofs.readers.Kept.{Kept}
+use Rattle.raw.proofs.readers.Points.{Order, Point, ate, onward, AtLeast, same, back, past, far, less-of, Takes}
+use Rattle.raw.proofs.grammar.RowOrder.{rules, awaiting, start, Is, is-in, Chunk, more, Part, at-chunks, literal-takes, name-takes, value-takes, field-takes, definition-takes, preamble-takes, key-takes}
 use Rattle.row.specs.Rules.{Await, value, chunks}
 use Rattle.row.specs.Rules as awaits
 use Rattle.row.proofs.Joins.{Free, one}
-use Rattle.raw.proofs.Laws.{Laws, going, stop-laws, turn-laws, refuse-laws, when-laws, sees-laws, when-any, sees-any, _then-laws_, over-laws, many-laws, less-laws, need-laws, scan-laws, value-laws}
+use Rattle.raw.proofs.grammar.Laws.{Laws, going, stop-laws, turn-laws, refuse-laws, when-laws, sees-laws, when-any, sees-any, _then-laws_, over-laws, many-laws, less-laws, need-laws, scan-laws, value-laws}
 
 -- the laws of a reader that do not speak of points
 pub from-start : {ω : Point rules} {f : Reader} → Laws start start ω f → Laws start start ω f

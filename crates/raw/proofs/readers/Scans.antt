@@ -12,8 +12,8 @@ use Rattle.text.specs.Scan.{code, rest, skip}
 use Rattle.text.proofs.Seen.{see-end, see-at}
 use Rattle.text.proofs.Skip.{skip-end, skip-on, skip-stop}
 use Rattle.raw.specs.Reader.{ok, scanTurn, scan, many}
-use Rattle.raw.proofs.Loop.{many-turn}
-use Rattle.raw.proofs.Kept.{Kept, stop-kept, turn-kept, when-kept}
+use Rattle.raw.proofs.readers.Loop.{many-turn}
+use Rattle.raw.proofs.readers.Kept.{Kept, stop-kept, turn-kept, when-kept}
 
 pub scan-turn-kept : {P : Type 0} (t : ℕ → Bool) (a : ℕ) → Kept {P = P} 1 0 1 (scanTurn t a)
 scan-turn-kept t a = when-kept t (turn-kept {w = 0} a) stop-kept (omega arith)

@@ -30,50 +30,52 @@ Stops (again q′ rs a) q = q′ ≡ q
 Stops (bad f) q = ⊥
 
 -- from p a reader went on by w at least, one that says `again` by v at least, and not past n
-abbrev pub Sound : {P : Type 0} → ℕ → ℕ → ℕ → ℕ → OutOf P → Type 0
-Sound v w p n (ok q rs) = (p + w ≤ q) × (q ≤ max p n)
-Sound v w p n (again q rs a) = (p + v ≤ q) × (q ≤ max p n)
-Sound v w p n (bad f) = Unit {0}
+abbrev pub Advances : {P : Type 0} → ℕ → ℕ → ℕ → ℕ → OutOf P → Type 0
+Advances v w p n (ok q rs) = (p + w ≤ q) × (q ≤ max p n)
+Advances v w p n (again q rs a) = (p + v ≤ q) × (q ≤ max p n)
+Advances v w p n (bad f) = Unit {0}
 
 -- A reader eats at least w octets (v, where it says `again`), looks at most at the l places after its end, and answers the
 -- same on a text that shows the same so far
 pub record Kept {P : Type 0} (v w l : ℕ) (f : ReaderOf P) : Type 0 where
-  pub sound : (s : List ℕ) (p : ℕ) → Sound v w p (length s) (f s p)
+  pub advances : (s : List ℕ) (p : ℕ) → Advances v w p (length s) (f s p)
   pub local : (s t : List ℕ) (p q : ℕ) → Stops (f s p) q → q ≤ length t → Same s t p (q + l) → f t p ≡ f s p
 
 -- ---- readers without parts
 
 module _ {P : Type 0} where
   pub stop-kept : {v l : ℕ} → Kept {P = P} v 0 l stop
-  stop-kept = record { sound = λ s p. omega arith; local = λ s t p q h i e. refl }
+  stop-kept = record { advances = λ s p. omega arith; local = λ s t p q h i e. refl }
 
   pub turn-kept : {w l : ℕ} (a : ℕ) → Kept {P = P} 0 w l (turn a)
-  turn-kept a = record { sound = λ s p. omega arith; local = λ s t p q h i e. refl }
+  turn-kept a = record { advances = λ s p. omega arith; local = λ s t p q h i e. refl }
 
   pub refuse-kept : {v w l : ℕ} (reason : Reason) → Kept {P = P} v w l (refuse reason)
-  refuse-kept reason = record { sound = λ s p. tt; local = λ s t p q h i e. refl }
+  refuse-kept reason = record { advances = λ s p. tt; local = λ s t p q h i e. refl }
 
 pub put-kept : {v l : ℕ} (m : Mark) (a e : ℕ) → Kept v 0 l (put m a e)
-put-kept m a e = record { sound = λ s p. omega arith; local = λ s t p q h i e. refl }
+put-kept m a e = record { advances = λ s p. omega arith; local = λ s t p q h i e. refl }
 
 -- ---- smaller numbers
 
-sound-less : {P : Type 0} (v w v′ w′ p n : ℕ) (o : OutOf P) → Sound v w p n o → v′ ≤ v → w′ ≤ w → Sound v′ w′ p n o
-sound-less v w v′ w′ p n (ok q rs) x a b = omega arith
-sound-less v w v′ w′ p n (again q rs z) x a b = omega arith
-sound-less v w v′ w′ p n (bad f) x a b = tt
+advances-less : {P : Type 0} (v w v′ w′ p n : ℕ) (o : OutOf P) → Advances v w p n o → v′ ≤ v → w′ ≤ w → Advances v′ w′ p n o
+advances-less v w v′ w′ p n (ok q rs) x a b = omega arith
+advances-less v w v′ w′ p n (again q rs z) x a b = omega arith
+advances-less v w v′ w′ p n (bad f) x a b = tt
 
 pub kept-weaker : {P : Type 0} {v w l v′ w′ l′ : ℕ} {f : ReaderOf P} → Kept v w l f → (v′ ≤ v) × (w′ ≤ w) × (l ≤ l′) → Kept v′ w′ l′ f
 kept-weaker {v = v} {w} {v′ = v′} {w′} {f = f} F m =
     record {
-      sound = λ s p. sound-less v w v′ w′ p (length s) (f s p) (F .sound s p) (m .0) (m .1);
+      advances = λ s p. advances-less v w v′ w′ p (length s) (f s p) (F .advances s p) (m .0) (m .1);
       local = λ s t p q h i e. F .local s t p q h i (λ j a b. e j a (omega arith));
     }
 
 -- ---- by what is seen
 
 -- what holds of both ways holds
-pub eaten-both : {P : Type 0} (R : OutOf P → OutOf P → Type 0) (c : ℕ → Bool) (x : Seen) (f f′ : ℕ → OutOf P) (o o′ : OutOf P) → ((k n : ℕ) → x ≡ Char k n → R (f n) (f′ n)) → R o o′ → R (eaten c x f o) (eaten c x f′ o′)
+pub eaten-both : {P : Type 0} (R : OutOf P → OutOf P → Type 0) (c : ℕ → Bool) (x : Seen) (f f′ : ℕ → OutOf P) (o o′ : OutOf P)
+    → ((k n : ℕ) → x ≡ Char k n → R (f n) (f′ n)) → R o o′
+    → R (eaten c x f o) (eaten c x f′ o′)
 eaten-both R c End f f′ o o′ h i = i
 eaten-both R c (Char k n) f f′ o o′ h i = by (c k)
   where
@@ -84,46 +86,46 @@ eaten-both R c (Char k n) f f′ o o′ h i = by (c k)
 pub eaten-holds : {P : Type 0} (R : OutOf P → Type 0) (c : ℕ → Bool) (x : Seen) (f : ℕ → OutOf P) (o : OutOf P) → ((k n : ℕ) → x ≡ Char k n → R (f n)) → R o → R (eaten c x f o)
 eaten-holds R c x f o h i = eaten-both (λ o o′. R o) c x f f o o h i
 
--- where a sound answer stands at least
-least : {P : Type 0} (v w p n q : ℕ) (o : OutOf P) → Sound v w p n o → Stops o q → (l : ℕ) → 1 ≤ v + l → 1 ≤ w + l → p < q + l
+-- where an answer that advances stands at least
+least : {P : Type 0} (v w p n q : ℕ) (o : OutOf P) → Advances v w p n o → Stops o q → (l : ℕ) → 1 ≤ v + l → 1 ≤ w + l → p < q + l
 least v w p n q (ok q′ rs) x e l a b = omega arith
 least v w p n q (again q′ rs a) x e l b c = omega arith
 least v w p n q (bad f) x e l a b = absurd e
 
-sound-later : {P : Type 0} (v w v′ w′ p m n : ℕ) (o : OutOf P) → p < m → m ≤ n → v′ ≤ suc v → w′ ≤ suc w → Sound v w m n o → Sound v′ w′ p n o
-sound-later v w v′ w′ p m n (ok q rs) a b c d x = omega arith
-sound-later v w v′ w′ p m n (again q rs z) a b c d x = omega arith
-sound-later v w v′ w′ p m n (bad f) a b c d x = tt
+advances-later : {P : Type 0} (v w v′ w′ p m n : ℕ) (o : OutOf P) → p < m → m ≤ n → v′ ≤ suc v → w′ ≤ suc w → Advances v w m n o → Advances v′ w′ p n o
+advances-later v w v′ w′ p m n (ok q rs) a b c d x = omega arith
+advances-later v w v′ w′ p m n (again q rs z) a b c d x = omega arith
+advances-later v w v′ w′ p m n (bad f) a b c d x = tt
 
 -- f follows a character that was eaten, g stands in its place: v, w and l are the whole's
 module _ {P : Type 0} {v w l v₁ w₁ : ℕ} (c : ℕ → Bool) {f g : ReaderOf P} (F : Kept v₁ w₁ l f) (G : Kept v w l g) (m : (v ≤ suc v₁) × (w ≤ suc w₁) × (1 ≤ v + l) × (1 ≤ w + l)) where
-  when-sound : (s : List ℕ) (p : ℕ) → Sound v w p (length s) (when c f g s p)
-  when-sound s p =
-      eaten-holds (Sound v w p (length s)) c (see s p) (f s) (g s p)
-      (λ k n x. let y = see-ahead s p k n x in sound-later v₁ w₁ v w p n (length s) (f s n) (y .0) (y .1) (m .0) (m .1) (F .sound s n))
-      (G .sound s p)
+  when-advances : (s : List ℕ) (p : ℕ) → Advances v w p (length s) (when c f g s p)
+  when-advances s p =
+      eaten-holds (Advances v w p (length s)) c (see s p) (f s) (g s p)
+      (λ k n x. let y = see-ahead s p k n x in advances-later v₁ w₁ v w p n (length s) (f s n) (y .0) (y .1) (m .0) (m .1) (F .advances s n))
+      (G .advances s p)
 
   when-local : (s t : List ℕ) (p q : ℕ) → Stops (when c f g s p) q → q ≤ length t → Same s t p (q + l) → when c f g t p ≡ when c f g s p
   when-local s t p q h i e =
-      let y = least v w p (length s) q (when c f g s p) (when-sound s p) h l (m .2) (m .3) in
+      let y = least v w p (length s) q (when c f g s p) (when-advances s p) h l (m .2) (m .3) in
       rw (← e p (omega arith) y)
       (eaten-both (λ o o′. Stops o q → o′ ≡ o) c (see s p) (f s) (f t) (g s p) (g t p)
       (λ k n x h. let y = see-ahead s p k n x in F .local s t n q h i (λ j a b. e j (omega arith) b)) (λ h. G .local s t p q h i e) h)
 
   pub when-kept : Kept v w l (when c f g)
-  when-kept = record { sound = when-sound; local = when-local }
+  when-kept = record { advances = when-advances; local = when-local }
 
 -- f and g stand where it is looked
 module _ {P : Type 0} {v w l : ℕ} (c : ℕ → Bool) {f g : ReaderOf P} (F : Kept v w l f) (G : Kept v w l g) (m : (1 ≤ v + l) × (1 ≤ w + l)) where
-  sees-sound : (s : List ℕ) (p : ℕ) → Sound v w p (length s) (sees c f g s p)
-  sees-sound s p = eaten-holds (Sound v w p (length s)) c (see s p) (λ n. f s p) (g s p) (λ k n x. F .sound s p) (G .sound s p)
+  sees-advances : (s : List ℕ) (p : ℕ) → Advances v w p (length s) (sees c f g s p)
+  sees-advances s p = eaten-holds (Advances v w p (length s)) c (see s p) (λ n. f s p) (g s p) (λ k n x. F .advances s p) (G .advances s p)
 
   sees-local : (s t : List ℕ) (p q : ℕ) → Stops (sees c f g s p) q → q ≤ length t → Same s t p (q + l) → sees c f g t p ≡ sees c f g s p
   sees-local s t p q h i e =
-      let y = least v w p (length s) q (sees c f g s p) (sees-sound s p) h l (m .0) (m .1) in
+      let y = least v w p (length s) q (sees c f g s p) (sees-advances s p) h l (m .0) (m .1) in
       rw (← e p (omega arith) y)
       (eaten-both (λ o o′. Stops o q → o′ ≡ o) c (see s p) (λ n. f s p) (λ n. f t p) (g s p) (g t p)
       (λ k n x h. F .local s t p q h i e) (λ h. G .local s t p q h i e) h)
 
   pub sees-kept : Kept v w l (sees c f g)
-  sees-kept = record { sound = sees-sound; local = sees-local }
+  sees-kept = record { advances = sees-advances; local = sees-local }
