@@ -17,7 +17,6 @@ use Rattle.text.proofs.AsciiTurns.{letters-id}
 use Rattle.row.specs.declared.fault.Reason.the-variants.{ExpectedIdentifier}
 use Rattle.row.specs.Fault.{faultAt}
 use Rattle.row.specs.Row.{Row}
-use Rattle.raw.specs.declared.answer.Step.{Step}
 use Rattle.raw.specs.declared.answer.Step.the-variants as step
 use Rattle.raw.specs.Reader.{ok, bad, scan}
 use Rattle.raw.specs.Grammar.{white, comment, key, ident}
@@ -55,24 +54,29 @@ module _ (s : List ℕ) (i : ℕ) where
     unfolding comment
     comment-off h = (sym (ap stepOf (eaten-off (holdsOf test.Percent) s i (scan (fails test.Newline) s) (ok i []) e h)), omega arith, omega arith)
 
-    pub comment-line : {q : ℕ} → (r ≡ i → ⊥) → Ahead s i r → q ≡ skip (fails test.Newline) s r → Ahead s r q → (step.At q ≡ stepOf (comment s i)) × (i ≤ q) × (q ≤ max i (length s))
+    pub comment-line : {q : ℕ} → (r ≡ i → ⊥) → Ahead s i r → q ≡ skip (fails test.Newline) s r → Ahead s r q
+        → (step.At q ≡ stepOf (comment s i)) × (i ≤ q) × (q ≤ max i (length s))
     unfolding comment
     comment-line h a d b =
-        (sym (ap stepOf (eaten-on (holdsOf test.Percent) s i (scan (fails test.Newline) s) (ok i []) e h ∙ scan-on (fails test.Newline) s r d)), omega arith, omega arith)
+        let line = scan-on (fails test.Newline) s r d in
+        (sym (ap stepOf (eaten-on (holdsOf test.Percent) s i (scan (fails test.Newline) s) (ok i []) e h ∙ line)), omega arith, omega arith)
 
   module _ {r : ℕ} (e : r ≡ pastOne isIdStart i (see s i)) where
     pub ident-off : r ≡ i → (step.Refused (faultAt ExpectedIdentifier i) ≡ stepOf (ident s i)) × Unit {0}
     unfolding ident
     ident-off h = (sym (ap stepOf (eaten-off isIdStart s i (scan isIdContinue s) (bad (faultAt ExpectedIdentifier i)) e h)), tt)
 
-    pub ident-line : {q : ℕ} → (r ≡ i → ⊥) → Ahead s i r → q ≡ skip isIdContinue s r → Ahead s r q → (step.At q ≡ stepOf (ident s i)) × Onward (length s) 1 i (step.At q)
+    pub ident-line : {q : ℕ} → (r ≡ i → ⊥) → Ahead s i r → q ≡ skip isIdContinue s r → Ahead s r q
+        → (step.At q ≡ stepOf (ident s i)) × Onward (length s) 1 i (step.At q)
     unfolding ident
     ident-line h a d b =
         let l : i + 1 ≤ r = not-at (a .from) h in
-        (sym (ap stepOf (eaten-on isIdStart s i (scan isIdContinue s) (bad (faultAt ExpectedIdentifier i)) e h ∙ scan-on isIdContinue s r d)), (omega arith, omega arith))
+        let name = eaten-on isIdStart s i (scan isIdContinue s) (bad (faultAt ExpectedIdentifier i)) e h in
+        (sym (ap stepOf (name ∙ scan-on isIdContinue s r d)), (omega arith, omega arith))
 
   -- by letters alone
-  pub ident-letters : {r : ℕ} → Letters s i r → i < r → r < length s → (eqb (getD s r 0) 0x20 || eqb (getD s r 0) 0x3D) ≡ true → (step.At r ≡ stepOf (ident s i)) × Onward (length s) 1 i (step.At r)
+  pub ident-letters : {r : ℕ} → Letters s i r → i < r → r < length s → (eqb (getD s r 0) 0x20 || eqb (getD s r 0) 0x3D) ≡ true
+      → (step.At r ≡ stepOf (ident s i)) × Onward (length s) 1 i (step.At r)
   ident-letters {r} a p q t =
       let x = letters-id a p q t in
       ident-line (x .0) (λ z. omega arith) (record { from = omega arith; to = omega arith }) (x .1) (record { from = omega arith; to = omega arith })

@@ -6,6 +6,8 @@ pub mod RowOrder
 pub mod Early
 -- all laws of a reader in one record, closed under the ways to make readers
 pub mod Laws
+-- readers that refuse by `UnexpectedEof`
+pub mod UnexpectedEof
 -- the laws of each reader, in the grammar's order
 pub mod Readers
 -- readers without rows, by the step that the code tells of them

@@ -1,12 +1,11 @@
 -- The grammar, in the order of src/raw.rs [raw.rs].
 -- Assumes nothing.
 use Prim.Native.Nat.{ℕ, zero, suc, _+_}
-use mathlib.Core.Bool.{Bool, true, false, cond, not, _&&_, _||_}
+use mathlib.Core.Bool.{Bool, true, false, cond, _&&_, _||_}
 use mathlib.Core.List.{List, [], _∷_}
 use lib.Dec.{eqb, ltb, leb}
 use Rattle.text.specs.Class.{isWhitespace, isKey, isIdStart, isIdContinue, holdsOf}
 use Rattle.text.specs.Scan.{see, fails}
-use Rattle.text.specs.declared.scanner.Seen.{Seen}
 use Rattle.text.specs.declared.scanner.Seen.the-variants.{End, Char}
 use Rattle.text.specs.declared.class.Test.the-variants as test
 use Rattle.row.specs.declared.form.Kind.{Kind}
@@ -14,9 +13,10 @@ use Rattle.row.specs.declared.form.Kind.the-variants as kind
 use Rattle.raw.specs.declared.entry.Form.{Form}
 use Rattle.raw.specs.declared.entry.Form.the-variants.{Strings, Preambles, Comments, Other}
 use Rattle.row.specs.Row.{plain}
-use Rattle.row.specs.declared.fault.Reason.the-variants.{UnexpectedEof, ExpectedIdentifier, ExpectedOpeningBrace, ExpectedClosingBrace, ExpectedComma, ExpectedQuotationMark, ExpectedEquals, UnexpectedDecimalPoint}
+use Rattle.row.specs.declared.fault.Reason.the-variants.{UnexpectedEof, ExpectedIdentifier, ExpectedOpeningBrace, ExpectedClosingBrace, ExpectedComma}
+use Rattle.row.specs.declared.fault.Reason.the-variants.{ExpectedQuotationMark, ExpectedEquals, UnexpectedDecimalPoint}
 use Rattle.row.specs.declared.fault.Reason.{Reason}
-use Rattle.raw.specs.Reader.{Out, ok, Reader, andThen, stop, turn, refuse, _then_, over, overFrom, put, when, sees, many, scan}
+use Rattle.raw.specs.Reader.{Reader, andThen, stop, turn, refuse, _then_, over, overFrom, put, when, sees, many, scan}
 
 -- the character c
 abbrev pub is : ℕ → ℕ → Bool
@@ -175,7 +175,8 @@ spells [] s a e = eqb a e
 spells (w ∷ word) s a e =
     cond (ltb a e) (elim (see s a) [ End ↦ false | Char c n ↦ eqb (lower c) w && spells word s n e ]) false
 
--- what an entry of the type from a to e is. "Its name and those of `string` and `preamble` ignore ASCII case" [01:Strict reading]: string, preamble, comment
+-- what an entry of the type from a to e is: string, preamble, comment, or another. "Its name and those of `string` and `preamble`
+-- ignore ASCII case" [01:Strict reading]
 unfoldable pub formOf : List ℕ → ℕ → ℕ → Form
 formOf s a e =
     cond (spells (0x73 ∷ 0x74 ∷ 0x72 ∷ 0x69 ∷ 0x6E ∷ 0x67 ∷ []) s a e) Strings

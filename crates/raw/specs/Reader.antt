@@ -1,8 +1,8 @@
 -- Readers of text, and the few ways to make one of others. All that a reader knows of the text it knows by `see`.
 -- A reading is a list of parts or a refusal, for parts of any type; places are relative to the text.
 -- Assumes nothing.
-use Prim.Native.Nat.{ℕ, zero, suc, _+_}
-use mathlib.Core.Bool.{Bool, true, false, cond}
+use Prim.Native.Nat.{ℕ, zero, suc}
+use mathlib.Core.Bool.{Bool, cond}
 use mathlib.Core.List.{List, [], _∷_, _++_}
 use lib.ListN.{length}
 use Rattle.text.specs.Scan.{see}

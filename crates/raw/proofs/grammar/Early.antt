@@ -56,7 +56,8 @@ hits t End = false
 hits t (Char c n) = t c
 
 -- of two ways, o only where none is seen
-pub eaten-else : (P : Out → Type 0) (t : ℕ → Bool) (x : Seen) (f : ℕ → Out) (o : Out) → ((n : ℕ) → P (f n)) → (hits t x ≡ false → P o) → P (eaten t x f o)
+pub eaten-else : (P : Out → Type 0) (t : ℕ → Bool) (x : Seen) (f : ℕ → Out) (o : Out) → ((n : ℕ) → P (f n)) → (hits t x ≡ false → P o)
+    → P (eaten t x f o)
 eaten-else P t End f o F G = G refl
 eaten-else P t (Char c n) f o F G = by (t c) refl
   where
@@ -68,7 +69,8 @@ none-begins : (x : Seen) → hits any x ≡ false → beginsValue x ≡ false
 none-begins End e = refl
 none-begins (Char c n) e = let z : _≡_ {A = ℕ} 0 1 = cc in absurd (omega arith)
 
-pub no-value : (x : Seen) → hits (holdsOf test.Digit) x ≡ false → hits isIdStart x ≡ false → hits (is 0x7B) x ≡ false → hits (is 0x22) x ≡ false → beginsValue x ≡ false
+pub no-value : (x : Seen) → hits (holdsOf test.Digit) x ≡ false → hits isIdStart x ≡ false → hits (is 0x7B) x ≡ false
+    → hits (is 0x22) x ≡ false → beginsValue x ≡ false
 no-value End d i b q = refl
 no-value (Char c n) d i b q = rw (d, i, b, q)
 
@@ -77,7 +79,8 @@ any-early s p f F = eaten-else (EarlyOut s) any (see s p) f (bad (faultAt Unexpe
 
 -- turns that go on: the fuel n lasts to the end of the text
 module _ {w l : ℕ} {f : ℕ → Reader} (K : (a : ℕ) → Kept 1 w l (f a)) (F : (a : ℕ) (s : List ℕ) (p : ℕ) → EarlyOut s (f a s p)) where
-  after-early : (s : List ℕ) (p n : ℕ) (o : Out) (g : ℕ → ℕ → Out) → Advances 1 w p (length s) o → EarlyOut s o → length s ≤ p + suc n → ((b q : ℕ) → length s ≤ q + n → EarlyOut s (g b q)) → EarlyOut s (after o g)
+  after-early : (s : List ℕ) (p n : ℕ) (o : Out) (g : ℕ → ℕ → Out) → Advances 1 w p (length s) o → EarlyOut s o → length s ≤ p + suc n
+      → ((b q : ℕ) → length s ≤ q + n → EarlyOut s (g b q)) → EarlyOut s (after o g)
   after-early s p n (ok q rs) g y x h H = tt
   after-early s p n (again q rs a) g y x h H = more-early s rs (g a q) (H a q (omega arith))
   after-early s p n (bad j) g y x h H = x

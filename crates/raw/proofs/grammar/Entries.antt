@@ -8,7 +8,7 @@ use Prim.Native.Nat.{ℕ, suc, _+_, _≤_}
 use native.Mathlib.Omega.{arith}
 use mathlib.Core.Path.{_≡_, refl, sym, subst}
 use mathlib.Core.Bool.{Bool, true, false, cond}
-use mathlib.Core.List.{List, [], _++_}
+use mathlib.Core.List.{List, _++_}
 use lib.ListN.{length}
 use Rattle.text.specs.Class.{holdsOf}
 use Rattle.text.specs.Scan.{see, fails}
@@ -25,36 +25,40 @@ use Rattle.row.proofs.Joins.{Free, none, free-whole}
 use Rattle.raw.specs.declared.entry.Form.{Form}
 use Rattle.raw.specs.declared.entry.Form.the-variants.{Strings, Preambles, Comments, Other}
 use Rattle.row.specs.declared.fault.Reason.the-variants.{ExpectedClosingBrace}
-use Rattle.raw.specs.Reader.{Out, ok, again, bad, Reader, andThen, eaten, _then_, put, when, sees, turn, scan}
-use Rattle.raw.specs.Grammar.{is, any, white, closing, ident, comment, formOf, strings, preamble, commented, body, lead, rest, atSign, entry, fileTurn, file}
+use Rattle.raw.specs.Reader.{Out, ok, bad, Reader, andThen, eaten, _then_, put, when, sees, turn, scan}
+use Rattle.raw.specs.Grammar.{is, any, white, closing, ident, comment, formOf, strings, preamble, commented, body, lead, rest, atSign, entry}
+use Rattle.raw.specs.Grammar.{fileTurn, file}
 use Rattle.raw.specs.Strict.{shifted, beginsValue}
-use Rattle.raw.proofs.readers.Trace.{Reach, here, lays, joins, Traced, reach-on, trace-reach, reach-trace, joined, back-traced, chain-traced, lay-traced}
+use Rattle.raw.proofs.readers.Trace.{Reach, here, lays, joins, Traced, reach-on, trace-reach, reach-trace, joined, back-traced, chain-traced}
+use Rattle.raw.proofs.readers.Trace.{lay-traced}
 use Rattle.raw.proofs.readers.Kept.{Advances, Kept, stop-kept, refuse-kept, kept-weaker, when-kept}
 use Rattle.raw.proofs.readers.Then.{more-none, chain-advances, chain-local, then-kept}
 use Rattle.raw.proofs.readers.Shifts.{Shifts, put-shifts, chain-up, then-shifts, from-shifts}
-use Rattle.raw.proofs.readers.Points.{Point, Moves, MovesOut, done, same, past, less-of, chain-moves, less-moves}
+use Rattle.raw.proofs.readers.Points.{Point, Moves, MovesOut, done, same, past, fewer, wider, chain-moves, less-moves}
 use Rattle.raw.proofs.grammar.Early.{EarlyOut, chain-early}
-use Rattle.raw.proofs.grammar.RowOrder.{rules, awaiting, start, Is, Part, part-free, entry-takes, type-takes}
-use Rattle.raw.proofs.grammar.Laws.{Core, Laws, then-core, put-core, from-core, going, stop-laws, turn-laws, when-laws, sees-laws, _then-laws_, many-laws, less-laws, scan-laws, same-laws}
+use Rattle.raw.proofs.grammar.RowOrder.{rules, awaiting, start, Is, part-free, entry-takes, type-takes}
+use Rattle.raw.proofs.grammar.Laws.{Core, Laws, then-core, put-core, from-core, going, stop-laws, turn-laws, when-laws, sees-laws, _then-laws_}
+use Rattle.raw.proofs.grammar.Laws.{many-laws, less-laws, scan-laws, same-laws}
 use Rattle.raw.proofs.grammar.Spells.{form-same, form-up}
 use Rattle.raw.proofs.grammar.Rowless.{Rowless, rowless-ok, rowless-bad, rowless}
-use Rattle.raw.proofs.grammar.Readers.{from-start, white-laws, closing-laws, at-sign-laws, ident-laws, comment-laws, lead-laws, strings-laws, preamble-laws, commented-laws, body-laws}
+use Rattle.raw.proofs.grammar.Readers.{from-start, white-laws, closing-laws, at-sign-laws, ident-laws, lead-laws, strings-laws}
+use Rattle.raw.proofs.grammar.Readers.{preamble-laws, commented-laws, body-laws}
 
 -- ---- after an entry's type
 
 -- two bytes before it pay the rows of an entry and of its type
 module _ {e n : ℕ} {α : Point rules} where
   strings-rest : Laws (awaiting e (suc (suc n)) Free) α (awaiting e n Free) (lead then strings)
-  strings-rest = less-laws (lead-laws then-laws strings-laws) (less-of (omega arith) (λ a x. x))
+  strings-rest = less-laws (lead-laws then-laws strings-laws) (fewer (omega arith))
 
   preamble-rest : Laws (awaiting e (suc (suc n)) Free) α (awaiting e n Free) (lead then preamble)
-  preamble-rest = less-laws (lead-laws then-laws preamble-laws) (less-of (omega arith) (λ a x. x))
+  preamble-rest = less-laws (lead-laws then-laws preamble-laws) (fewer (omega arith))
 
   commented-rest : Laws (awaiting e (suc (suc n)) Free) α (awaiting e n Free) (lead then commented)
-  commented-rest = less-laws (lead-laws then-laws commented-laws) (less-of (omega arith) (λ a x. x))
+  commented-rest = less-laws (lead-laws then-laws commented-laws) (fewer (omega arith))
 
   body-rest : Laws (awaiting e n (Is awaits.key)) α (awaiting e n Free) (lead then body)
-  body-rest = less-laws (lead-laws then-laws body-laws) (less-of (omega arith) part-free)
+  body-rest = less-laws (lead-laws then-laws body-laws) (wider (omega arith) part-free)
 
   rest-core : (form : Form) (p a b : ℕ) → Core (awaiting e (suc (suc n)) Free) α (awaiting e n Free) (rest form p a b)
   unfolding rest
@@ -134,7 +138,8 @@ typed-shifts x p =
 
 -- ---- the rows of an entry stand over it
 
-rowless-chain : (s : List ℕ) (p a : ℕ) {o : Out} (g : ℕ → Out) → Rowless o → Traced s a o → Reach s p a → ((e : ℕ) → Reach s a e → Traced s p (g e)) → Traced s p (andThen o g)
+rowless-chain : (s : List ℕ) (p a : ℕ) {o : Out} (g : ℕ → Out) → Rowless o → Traced s a o → Reach s p a
+    → ((e : ℕ) → Reach s a e → Traced s p (g e)) → Traced s p (andThen o g)
 rowless-chain s p a g (rowless-ok {q = e}) t x G = subst (Traced s p) (sym (more-none (g e))) (G e (trace-reach t))
 rowless-chain s p a g (rowless-bad {f = f}) t x G = back-traced s p a (bad f) x t
 
@@ -153,7 +158,8 @@ module _ (s : List ℕ) (p a e : ℕ) (x : Reach s p a) (y : Reach s a e) where
 
   named-traced : Traced s p (named p a s e)
   named-traced =
-      chain-traced s p (rest (formOf s a e) p a e s e) ((white then closing) s) (rest-traced (formOf s a e)) (from-start (white-laws then-laws closing-laws) .traced s)
+      chain-traced s p (rest (formOf s a e) p a e s e) ((white then closing) s) (rest-traced (formOf s a e))
+      (from-start (white-laws then-laws closing-laws) .traced s)
 
 typed-traced : (s : List ℕ) (p a : ℕ) → Reach s p a → Traced s p (typed p s a)
 typed-traced s p a x =
@@ -169,8 +175,9 @@ entry-laws {e} {n} {α} =
       core = record {
         kept = kept-weaker entry-kept (omega arith);
         moves = λ s p.
-            less-moves (less-of (omega arith) (λ a x. x))
-            (chain-moves (typed p s) (at-sign-laws .core .moves s p) (λ a. chain-moves (named p a s) (ident-laws .core .moves s a) (λ b. close p a b s .moves s b)));
+            less-moves (fewer (omega arith))
+            (chain-moves (typed p s) (at-sign-laws .core .moves s p)
+            (λ a. chain-moves (named p a s) (ident-laws .core .moves s a) (λ b. close p a b s .moves s b)));
         early = λ s p.
             chain-early s (atSign s p) (typed p s) (from-start at-sign-laws .core .early s p)
             (λ a. chain-early s (ident s a) (named p a s) (from-start ident-laws .core .early s a) (λ b. close p a b s .early s b));
@@ -184,7 +191,9 @@ entry-laws {e} {n} {α} =
       };
     }
   where
-    close : (p a b : ℕ) (s : List ℕ) → Core (awaiting (suc (suc e)) (suc (suc n)) Free) α (awaiting (suc (suc (suc e))) (suc n) Free) (rest (formOf s a b) p a b then white then closing)
+    close : (p a b : ℕ) (s : List ℕ)
+        → Core (awaiting (suc (suc e)) (suc (suc n)) Free) α (awaiting (suc (suc (suc e))) (suc n) Free)
+        (rest (formOf s a b) p a b then white then closing)
     close p a b s = then-core (rest-core (formOf s a b) p a b) ((white-laws then-laws closing-laws) .core)
 
 -- ---- the file
@@ -203,7 +212,8 @@ seen-eaten c f g h k s p = by (see s p)
 
 module _ {e n : ℕ} where
   -- a comment at its "%" eats it
-  comment-turn-laws : {ω : Point rules} {k : Reader} → Laws (awaiting e n Free) (awaiting (suc e) n Free) ω k → Laws (awaiting e n Free) (awaiting (suc e) n Free) ω (sees (holdsOf test.Percent) (comment then turn 0) k)
+  comment-turn-laws : {ω : Point rules} {k : Reader} → Laws (awaiting e n Free) (awaiting (suc e) n Free) ω k
+      → Laws (awaiting e n Free) (awaiting (suc e) n Free) ω (sees (holdsOf test.Percent) (comment then turn 0) k)
   unfolding comment
   comment-turn-laws {k = k} K =
       same-laws _ (when-laws (holdsOf test.Percent) (scan-laws (fails test.Newline) then-laws turn-laws 0 past) K)

@@ -1,36 +1,37 @@
--- All laws of a reader in one record, closed under the ways to make readers: a reader's laws are proved by saying its definition
--- once more, with these in the place of the combinators.
---     Core        what also a reader has that is told places of the text: `put`, `overFrom`
---     Laws        and what one has that is told none: its rows stand over what it ate, and it moves with its text
+-- All laws of a reader in one record, closed under the ways to make readers. A reader's laws are proved by saying its definition
+-- once more, with these laws in the place of the combinators.
+--     Core        the laws that also hold of a reader that is told places of the text, as `put` and `overFrom` are
+--     Laws        with those of a reader that is told none: its rows stand over what it ate, and it moves with its text
+--     put-core, from-core, then-core, less-core
 --     stop-laws, turn-laws, refuse-laws, when-laws, sees-laws, _then-laws_, over-laws, many-laws, need-laws, scan-laws
---     when-any, sees-any      with `UnexpectedEof` where no character is seen
---     less-laws, same-laws    to a point that asks less; of a reader that answers the same
+--     less-laws, same-laws        to a point that asks less; of a reader that answers the same
+--     going                       a turn that goes on eats
+-- Readers that refuse by `UnexpectedEof` are in UnexpectedEof.antt.
 -- Assumes nothing.
-use Prim.Native.Nat.{ℕ, zero, suc, _+_, _≤_}
+use Prim.Native.Nat.{ℕ, suc, _+_, _≤_}
 use native.Mathlib.Omega.{arith}
 use mathlib.Core.Path.{_≡_, refl, sym, ap, _∙_, subst}
 use mathlib.Core.Bool.{Bool, false}
 use mathlib.Core.List.{List, _++_}
 use lib.ListN.{length}
 use lib.Dec.{eqb}
-use Rattle.text.specs.Class.{isIdStart, holdsOf}
 use Rattle.text.specs.Scan.{see}
-use Rattle.text.specs.declared.class.Test.the-variants as test
 use Rattle.text.proofs.Moved.{see-ahead}
 use Rattle.row.specs.declared.fault.Reason.{Reason}
-use Rattle.row.specs.declared.fault.Reason.the-variants.{UnexpectedEof}
-use Rattle.row.specs.Fault.{numberOf, faultAt}
+use Rattle.row.specs.Fault.{numberOf}
 use Rattle.row.specs.Row.{Row, Mark, marked, kindOf}
-use Rattle.raw.specs.Reader.{Out, ok, again, bad, Reader, stop, turn, refuse, _then_, over, overFrom, put, when, sees, many, scan}
-use Rattle.raw.specs.Grammar.{is, any, need}
-use Rattle.raw.specs.Strict.{shifted, beginsValue}
+use Rattle.raw.specs.Reader.{Out, Reader, stop, turn, refuse, _then_, over, overFrom, put, when, sees, many, scan}
+use Rattle.raw.specs.Grammar.{need}
+use Rattle.raw.specs.Strict.{shifted}
 use Rattle.raw.proofs.readers.Trace.{here, none, Traced, eat-traced, chain-traced, lay-traced}
 use Rattle.raw.proofs.readers.Kept.{Stops, Advances, Kept, stop-kept, turn-kept, refuse-kept, put-kept, eaten-holds, when-kept, sees-kept}
 use Rattle.raw.proofs.readers.Then.{then-kept, over-kept, from-kept}
 use Rattle.raw.proofs.readers.Loop.{many-kept, loop-traced}
-use Rattle.raw.proofs.readers.Shifts.{Shifts, stop-shifts, turn-shifts, refuse-shifts, when-shifts, sees-shifts, then-shifts, over-shifts, many-shifts}
-use Rattle.raw.proofs.readers.Points.{Order, Point, at, ate, onward, AtLeast, same, past, MovesOut, done, goes, fails, Takes, stay, eat-moves, chain-moves, less-moves, loop-moves, under-moves, put-moves}
-use Rattle.raw.proofs.grammar.Early.{EarlyOut, chain-early, under-early, eaten-else, any-early, no-value, loop-early}
+use Rattle.raw.proofs.readers.Shifts.{Shifts, stop-shifts, turn-shifts, refuse-shifts, when-shifts, sees-shifts, then-shifts, over-shifts}
+use Rattle.raw.proofs.readers.Shifts.{many-shifts}
+use Rattle.raw.proofs.readers.Points.{Order, Point, at, ate, onward, AtLeast, same, past, MovesOut, done, goes, fails, Takes, stay, eat-moves}
+use Rattle.raw.proofs.readers.Points.{chain-moves, less-moves, loop-moves, under-moves, put-moves}
+use Rattle.raw.proofs.grammar.Early.{EarlyOut, chain-early, under-early, loop-early}
 
 -- ---- the words
 
@@ -85,9 +86,6 @@ stop-laws =
       shift = λ x. stop-shifts;
     }
 
-eof-traced : (s : List ℕ) (p : ℕ) → Traced s p (refuse UnexpectedEof s p)
-eof-traced s p = record { place = here; empty = refl; least = omega arith; most = omega arith }
-
 module _ {O : Order Row} {σ α ω : Point O} where
   pub turn-laws : (a : ℕ) → AtLeast σ α → Laws σ α ω (turn a)
   turn-laws a h =
@@ -133,37 +131,6 @@ module _ {O : Order Row} {σ α ω : Point O} where
         shift = λ x. sees-shifts x t (F .shift x) (G .shift x);
       }
 
-  -- `UnexpectedEof` where no character is seen
-  pub when-any : {f : Reader} → Laws (ate σ) α ω f → Laws σ α ω (when any f (refuse UnexpectedEof))
-  when-any {f} F =
-      record {
-        core = record {
-          kept = when-kept any (F .core .kept) (refuse-kept UnexpectedEof) (omega arith);
-          moves = λ s p.
-              eaten-holds (MovesOut σ α ω p) any (see s p) (f s) (bad (faultAt UnexpectedEof p))
-              (λ k n x. eat-moves (see-ahead s p k n x .0) (F .core .moves s n)) fails;
-          early = λ s p. any-early s p (f s) (F .core .early s);
-        };
-        traced = λ s p.
-            eaten-holds (Traced s p) any (see s p) (f s) (bad (faultAt UnexpectedEof p))
-            (λ k n x. eat-traced s p k n (f s n) x (F .traced s n)) (eof-traced s p);
-        shift = λ x. when-shifts x any (F .shift x) (refuse-shifts UnexpectedEof);
-      }
-
-  pub sees-any : {f : Reader} → Laws σ α ω f → Laws σ α ω (sees any f (refuse UnexpectedEof))
-  sees-any {f} F =
-      record {
-        core = record {
-          kept = sees-kept any (F .core .kept) (refuse-kept UnexpectedEof) (omega arith);
-          moves = λ s p.
-              eaten-holds (MovesOut σ α ω p) any (see s p) (λ n. f s p) (bad (faultAt UnexpectedEof p)) (λ k n x. F .core .moves s p) fails;
-          early = λ s p. any-early s p (λ n. f s p) (λ n. F .core .early s p);
-        };
-        traced = λ s p.
-            eaten-holds (Traced s p) any (see s p) (λ n. f s p) (bad (faultAt UnexpectedEof p)) (λ k n x. F .traced s p) (eof-traced s p);
-        shift = λ x. sees-shifts x any (F .shift x) (refuse-shifts UnexpectedEof);
-      }
-
 -- ---- readers of several
 
 -- a turn that goes on eats
@@ -191,7 +158,8 @@ module _ {O : Order Row} {α ω : Point O} where
       }
 
   -- a row that is no damage row
-  pub over-laws : {P P′ : O .State → Type 0} {e n : ℕ} {m : Mark} {f : Reader} → eqb (kindOf (m .kind)) 9 ≡ false → Takes O m P P′ → Laws (at e n P′) α ω f → Laws (at e (suc n) P) α ω (over m f)
+  pub over-laws : {P P′ : O .State → Type 0} {e n : ℕ} {m : Mark} {f : Reader} → eqb (kindOf (m .kind)) 9 ≡ false → Takes O m P P′
+      → Laws (at e n P′) α ω f → Laws (at e (suc n) P) α ω (over m f)
   over-laws {m = m} {f = f} d t F =
       record {
         core = record {
@@ -242,31 +210,3 @@ module _ {O : Order Row} {σ α : Point O} where
 
   pub scan-laws : (t : ℕ → Bool) → Laws σ α σ (scan t)
   scan-laws t = many-laws (λ a. when-laws t (turn-laws a past) stop-laws) 0
-
--- what a value may begin with; the refusal stands behind all of it
-module _ {O : Order Row} {σ α ω : Point O} {f g h k : Reader} (F : Laws σ α ω f) (G : Laws σ α ω g) (H : Laws σ α ω h) (K : Laws σ α ω k) where
-  abbrev begins : Reader
-  begins = sees (holdsOf test.Digit) f (sees isIdStart g (sees (is 0x7B) h (sees (is 0x22) k (refuse UnexpectedEof))))
-
-  -- by what is seen, of four; else R of the refusal
-  value-by : (R : Out → Type 0) (s : List ℕ) (p : ℕ) → R (f s p) → R (g s p) → R (h s p) → R (k s p) → (beginsValue (see s p) ≡ false → R (bad (faultAt UnexpectedEof p))) → R (begins s p)
-  value-by R s p x y z u w =
-      let c = see s p in
-      eaten-else R (holdsOf test.Digit) c _ _ (λ n. x) (λ d. eaten-else R isIdStart c _ _ (λ n. y) (λ i.
-      eaten-else R (is 0x7B) c _ _ (λ n. z) (λ b. eaten-else R (is 0x22) c _ _ (λ n. u) (λ q. w (no-value c d i b q)))))
-
-  pub value-laws : Laws σ α ω begins
-  value-laws =
-      record {
-        core = record {
-          kept =
-              sees-kept (holdsOf test.Digit) (F .core .kept) (sees-kept isIdStart (G .core .kept) (sees-kept (is 0x7B) (H .core .kept)
-              (sees-kept (is 0x22) (K .core .kept) (refuse-kept UnexpectedEof) (omega arith)) (omega arith)) (omega arith)) (omega arith);
-          moves = λ s p. value-by (MovesOut σ α ω p) s p (F .core .moves s p) (G .core .moves s p) (H .core .moves s p) (K .core .moves s p) (λ e. fails);
-          early = λ s p. value-by (EarlyOut s) s p (F .core .early s p) (G .core .early s p) (H .core .early s p) (K .core .early s p) (λ e x. e);
-        };
-        traced = λ s p. value-by (Traced s p) s p (F .traced s p) (G .traced s p) (H .traced s p) (K .traced s p) (λ e. eof-traced s p);
-        shift = λ x.
-            sees-shifts x (holdsOf test.Digit) (F .shift x) (sees-shifts x isIdStart (G .shift x) (sees-shifts x (is 0x7B) (H .shift x)
-            (sees-shifts x (is 0x22) (K .shift x) (refuse-shifts UnexpectedEof))));
-      }

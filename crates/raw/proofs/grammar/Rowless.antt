@@ -17,7 +17,8 @@ use Rattle.row.specs.Row.{Row}
 use Rattle.raw.proofs.readers.Points.{Order, Point, at, MovesOut, done, goes, fails}
 use Rattle.raw.specs.Grammar.{comma, atSign, opening, closing, quote, equals, comment, key, ident, quoted, number, inBraces, string, lead}
 use Rattle.raw.proofs.grammar.Laws.{Laws}
-use Rattle.raw.proofs.grammar.Readers.{comment-laws, key-laws, ident-laws, comma-laws, at-sign-laws, opening-laws, closing-laws, quote-laws, equals-laws, quoted-laws, number-laws, in-braces-laws, string-laws, lead-laws}
+use Rattle.raw.proofs.grammar.Readers.{comment-laws, key-laws, ident-laws, comma-laws, at-sign-laws, opening-laws, closing-laws, quote-laws}
+use Rattle.raw.proofs.grammar.Readers.{equals-laws, quoted-laws, number-laws, in-braces-laws, string-laws, lead-laws}
 
 pub data Rowless : Out → Type 0 where
   rowless-ok : {q : ℕ} → Rowless (ok q [])

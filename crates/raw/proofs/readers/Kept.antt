@@ -83,7 +83,8 @@ eaten-both R c (Char k n) f f′ o o′ h i = by (c k)
     by true = h k n refl
     by false = i
 
-pub eaten-holds : {P : Type 0} (R : OutOf P → Type 0) (c : ℕ → Bool) (x : Seen) (f : ℕ → OutOf P) (o : OutOf P) → ((k n : ℕ) → x ≡ Char k n → R (f n)) → R o → R (eaten c x f o)
+pub eaten-holds : {P : Type 0} (R : OutOf P → Type 0) (c : ℕ → Bool) (x : Seen) (f : ℕ → OutOf P) (o : OutOf P)
+    → ((k n : ℕ) → x ≡ Char k n → R (f n)) → R o → R (eaten c x f o)
 eaten-holds R c x f o h i = eaten-both (λ o o′. R o) c x f f o o h i
 
 -- where an answer that advances stands at least
@@ -92,13 +93,15 @@ least v w p n q (ok q′ rs) x e l a b = omega arith
 least v w p n q (again q′ rs a) x e l b c = omega arith
 least v w p n q (bad f) x e l a b = absurd e
 
-advances-later : {P : Type 0} (v w v′ w′ p m n : ℕ) (o : OutOf P) → p < m → m ≤ n → v′ ≤ suc v → w′ ≤ suc w → Advances v w m n o → Advances v′ w′ p n o
+advances-later : {P : Type 0} (v w v′ w′ p m n : ℕ) (o : OutOf P) → p < m → m ≤ n → v′ ≤ suc v → w′ ≤ suc w → Advances v w m n o
+    → Advances v′ w′ p n o
 advances-later v w v′ w′ p m n (ok q rs) a b c d x = omega arith
 advances-later v w v′ w′ p m n (again q rs z) a b c d x = omega arith
 advances-later v w v′ w′ p m n (bad f) a b c d x = tt
 
 -- f follows a character that was eaten, g stands in its place: v, w and l are the whole's
-module _ {P : Type 0} {v w l v₁ w₁ : ℕ} (c : ℕ → Bool) {f g : ReaderOf P} (F : Kept v₁ w₁ l f) (G : Kept v w l g) (m : (v ≤ suc v₁) × (w ≤ suc w₁) × (1 ≤ v + l) × (1 ≤ w + l)) where
+module _ {P : Type 0} {v w l v₁ w₁ : ℕ} (c : ℕ → Bool) {f g : ReaderOf P} (F : Kept v₁ w₁ l f) (G : Kept v w l g)
+    (m : (v ≤ suc v₁) × (w ≤ suc w₁) × (1 ≤ v + l) × (1 ≤ w + l)) where
   when-advances : (s : List ℕ) (p : ℕ) → Advances v w p (length s) (when c f g s p)
   when-advances s p =
       eaten-holds (Advances v w p (length s)) c (see s p) (f s) (g s p)

@@ -54,7 +54,8 @@ module _ {P : Type 0} {w l : ℕ} {f : ℕ → ReaderOf P} (F : (a : ℕ) → Ke
   pub many-turn : (a : ℕ) (s : List ℕ) (p : ℕ) → many f a s p ≡ after (f a s p) (λ b q. many f b s q)
   many-turn = advancing-turn w f (λ a. F a .advances)
 
-  advances-after : (v : ℕ) (s : List ℕ) (p n : ℕ) (o : OutOf P) → Advances 1 w p (length s) o → ((b q : ℕ) → Advances v w q (length s) (loop f n b s q)) → Advances v w p (length s) (after o (on f n s))
+  advances-after : (v : ℕ) (s : List ℕ) (p n : ℕ) (o : OutOf P) → Advances 1 w p (length s) o
+      → ((b q : ℕ) → Advances v w q (length s) (loop f n b s q)) → Advances v w p (length s) (after o (on f n s))
   advances-after v s p n (ok q rs) x ih = x
   advances-after v s p n (again q rs a) x ih =
       more-advances v w p (length s) rs (loop f n a s q)
@@ -66,7 +67,8 @@ module _ {P : Type 0} {w l : ℕ} {f : ℕ → ReaderOf P} (F : (a : ℕ) → Ke
   loop-advances v zero a s p = tt
   loop-advances v (suc n) a s p = advances-after v s p n (f a s p) (F a .advances s p) (λ b q. loop-advances v n b s q)
 
-  more-after : (s : List ℕ) (p n m r : ℕ) (o : OutOf P) → Advances 1 w p (length s) o → Stops (after o (on f n s)) r → r < p + suc m → ((b q : ℕ) → Stops (loop f n b s q) r → r < q + m → loop f m b s q ≡ loop f n b s q) → after o (on f m s) ≡ after o (on f n s)
+  more-after : (s : List ℕ) (p n m r : ℕ) (o : OutOf P) → Advances 1 w p (length s) o → Stops (after o (on f n s)) r → r < p + suc m
+      → ((b q : ℕ) → Stops (loop f n b s q) r → r < q + m → loop f m b s q ≡ loop f n b s q) → after o (on f m s) ≡ after o (on f n s)
   more-after s p n m r (ok q rs) x h k ih = refl
   more-after s p n m r (again q rs a) x h k ih = ap (more rs) (ih a q (more-stops rs (loop f n a s q) r h) (omega arith))
   more-after s p n m r (bad j) x h k ih = refl
@@ -84,7 +86,9 @@ module _ {P : Type 0} {w l : ℕ} {f : ℕ → ReaderOf P} (F : (a : ℕ) → Ke
     turn-local : (p q a : ℕ) (o : OutOf P) → f a s p ≡ o → Stops o q → q ≤ r → Same s t p (r + l) → f a t p ≡ o
     turn-local p q a o d x y e = F a .local s t p q (subst (λ (o : OutOf P). Stops o q) (sym d) x) (omega arith) (λ j u z. e j u (omega arith)) ∙ d
 
-    local-after : (p n a : ℕ) (o : OutOf P) → f a s p ≡ o → Advances 1 w p (length s) o → Stops (after o (on f n s)) r → Same s t p (r + l) → ((b q : ℕ) → Stops (loop f n b s q) r → Same s t q (r + l) → loop f n b t q ≡ loop f n b s q) → after (f a t p) (on f n t) ≡ after o (on f n s)
+    local-after : (p n a : ℕ) (o : OutOf P) → f a s p ≡ o → Advances 1 w p (length s) o → Stops (after o (on f n s)) r → Same s t p (r + l)
+        → ((b q : ℕ) → Stops (loop f n b s q) r → Same s t q (r + l) → loop f n b t q ≡ loop f n b s q)
+        → after (f a t p) (on f n t) ≡ after o (on f n s)
     local-after p n a (ok q rs) d x h e ih = rw (turn-local p q a (ok q rs) d refl (omega arith) e) refl
     local-after p n a (again q rs b) d x h e ih =
         let h′ = more-stops rs (loop f n b s q) r h in

@@ -1,9 +1,10 @@
--- Points of a reading: how much was eaten, how much of it no row has taken yet, and which rows may come. A reader goes from one
--- point to another, as in a triple of Hoare's logic; so the points of readers that follow each other are composed, not added up.
+-- Points of a reading. A point says how many bytes were eaten, how many of these no row has taken yet, and which rows may come next.
+-- A reader leads from one point to another, as a program does from what it requires to what it ensures; so the laws of readers that
+-- follow each other compose, and nothing is added up. Every row takes a byte: a text has no more rows than bytes. For parts of any type.
 --     Order, Point, at, ate, onward       the words
---     AtLeast                             one point offers what another asks: `same`, `back`, `past`, `far`, `less-of`
---     Moves, MovesOut                     the way from a point to another, of places and parts; of an answer
---     Takes                               the rows of a mark lead from P to P′
+--     AtLeast                             one point offers what another asks: `same`, `back`, `past`, `far`, `fewer`, `wider`
+--     Moves, MovesOut                     the way from a point to another, by places and parts; of an answer
+--     Takes                               a row leads from what is awaited to what is awaited then
 -- Assumes nothing.
 use Prim.Native.Nat.{ℕ, zero, suc, _+_, _≤_, _<_}
 use native.Mathlib.Omega.{arith}
@@ -33,7 +34,7 @@ module _ {T : Type 0} {O : Order T} where
   abbrev pub at : ℕ → ℕ → (O .State → Type 0) → Point O
   at e n P = record { eaten = e; spare = n; awaits = P }
 
-  -- a byte further; and a byte further that is taken
+  -- a byte further; and a byte further that a row has taken
   abbrev pub ate : Point O → Point O
   ate σ = at (suc (σ .eaten)) (suc (σ .spare)) (σ .awaits)
 
@@ -60,20 +61,24 @@ module _ {T : Type 0} {O : Order T} where
 
   -- ---- at least
 
+  pub wider : {e e′ n n′ : ℕ} {P P′ : O .State → Type 0} → (e′ ≤ e) × (n′ ≤ n) → ((a : O .State) → P a → P′ a)
+      → AtLeast (at e n P) (at e′ n′ P′)
+  wider k h = record { eaten = k .0; spare = k .1; awaits = h }
+
+  pub fewer : {e e′ n n′ : ℕ} {P : O .State → Type 0} → (e′ ≤ e) × (n′ ≤ n) → AtLeast (at e n P) (at e′ n′ P)
+  fewer k = wider k (λ a x. x)
+
   pub same : {σ : Point O} → AtLeast σ σ
-  same = record { eaten = omega arith; spare = omega arith; awaits = λ a x. x }
+  same = fewer (omega arith)
 
   pub back : {σ : Point O} → AtLeast (ate σ) σ
-  back = record { eaten = omega arith; spare = omega arith; awaits = λ a x. x }
+  back = fewer (omega arith)
 
   pub past : {σ : Point O} → AtLeast (ate σ) (onward σ)
-  past = record { eaten = omega arith; spare = omega arith; awaits = λ a x. x }
+  past = fewer (omega arith)
 
   pub far : {σ : Point O} → AtLeast (ate (ate σ)) (onward σ)
-  far = record { eaten = omega arith; spare = omega arith; awaits = λ a x. x }
-
-  pub less-of : {e e′ n n′ : ℕ} {P P′ : O .State → Type 0} → (e′ ≤ e) × (n′ ≤ n) → ((a : O .State) → P a → P′ a) → AtLeast (at e n P) (at e′ n′ P′)
-  less-of k h = record { eaten = k .0; spare = k .1; awaits = h }
+  far = fewer (omega arith)
 
   -- ---- the ways
 
@@ -118,7 +123,8 @@ module _ {T : Type 0} {O : Order T} where
     more-moves x (goes y) = goes (join x y)
     more-moves x fails = fails
 
-    pub chain-moves : {σ τ : Point O} {p : ℕ} {o : OutOf T} (g : ℕ → OutOf T) → MovesOut σ τ τ p o → ((q : ℕ) → MovesOut τ α ω q (g q)) → MovesOut σ α ω p (andThen o g)
+    pub chain-moves : {σ τ : Point O} {p : ℕ} {o : OutOf T} (g : ℕ → OutOf T) → MovesOut σ τ τ p o → ((q : ℕ) → MovesOut τ α ω q (g q))
+        → MovesOut σ α ω p (andThen o g)
     chain-moves g (done {q} x) G = more-moves x (G q)
     chain-moves g (goes {q} x) G = more-moves x (G q)
     chain-moves g fails G = fails
@@ -129,12 +135,14 @@ module _ {T : Type 0} {O : Order T} where
     less-moves h fails = fails
 
     -- a turn that goes on leads from σ to σ again
-    after-moves : {σ : Point O} {p : ℕ} {o : OutOf T} (g : ℕ → ℕ → OutOf T) → MovesOut σ (onward σ) ω p o → ((b q : ℕ) → MovesOut σ α ω q (g b q)) → MovesOut σ α ω p (after o g)
+    after-moves : {σ : Point O} {p : ℕ} {o : OutOf T} (g : ℕ → ℕ → OutOf T) → MovesOut σ (onward σ) ω p o
+        → ((b q : ℕ) → MovesOut σ α ω q (g b q)) → MovesOut σ α ω p (after o g)
     after-moves g (done x) G = done x
-    after-moves g (goes {q} {a} x) G = more-moves (less (record { eaten = omega arith; spare = omega arith; awaits = λ a x. x }) x) (G a q)
+    after-moves g (goes {q} {a} x) G = more-moves (less (fewer (omega arith)) x) (G a q)
     after-moves g fails G = fails
 
-    pub loop-moves : {σ : Point O} (f : ℕ → ReaderOf T) → ((a : ℕ) (s : List ℕ) (p : ℕ) → MovesOut σ (onward σ) ω p (f a s p)) → (s : List ℕ) (n a p : ℕ) → MovesOut σ α ω p (loop f n a s p)
+    pub loop-moves : {σ : Point O} (f : ℕ → ReaderOf T) → ((a : ℕ) (s : List ℕ) (p : ℕ) → MovesOut σ (onward σ) ω p (f a s p))
+        → (s : List ℕ) (n a p : ℕ) → MovesOut σ α ω p (loop f n a s p)
     unfolding loop
     loop-moves f F s zero a p = fails
     loop-moves f F s (suc n) a p = after-moves (λ b q. loop f n b s q) (F a s p) (loop-moves f F s n)

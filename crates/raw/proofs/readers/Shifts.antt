@@ -3,9 +3,9 @@
 --     stop-shifts, turn-shifts, refuse-shifts, put-shifts
 --     when-shifts, sees-shifts, then-shifts, over-shifts, from-shifts, many-shifts
 -- Assumes nothing.
-use Prim.Native.Nat.{ℕ, zero, suc, _+_, _≤_}
+use Prim.Native.Nat.{ℕ, zero, suc, _+_}
 use native.Mathlib.Omega.{arith}
-use mathlib.Core.Path.{_≡_, refl, sym, ap, _∙_}
+use mathlib.Core.Path.{_≡_, refl, _∙_}
 use mathlib.Core.Bool.{Bool, true, false, cond}
 use mathlib.Core.List.{List, _++_}
 use lib.ListN.{length, length-append}
@@ -16,7 +16,8 @@ use Rattle.text.proofs.Moved.{seenUp, see-up}
 use Rattle.row.specs.Row.{Row, Mark, marked, moved}
 use Rattle.row.specs.declared.fault.Reason.{Reason}
 use Rattle.row.proofs.Rows.{moved-append}
-use Rattle.raw.specs.Reader.{Out, ok, again, bad, Reader, more, andThen, after, eaten, under, stop, turn, refuse, put, _then_, over, overFrom, when, sees, loop, many}
+use Rattle.raw.specs.Reader.{Out, ok, again, bad, Reader, more, andThen, after, eaten, under, stop, turn, refuse, put, _then_, over, overFrom}
+use Rattle.raw.specs.Reader.{when, sees, loop, many}
 use Rattle.raw.specs.Strict.{shifted}
 use Rattle.raw.proofs.readers.Kept.{Kept}
 use Rattle.raw.proofs.readers.Loop.{loop-fuel}
@@ -45,7 +46,8 @@ module _ {x : List ℕ} where
 
 -- ---- by what is seen
 
-pub eaten-up : (d : ℕ) (c : ℕ → Bool) (x : Seen) (f f′ : ℕ → Out) (o o′ : Out) → ((n : ℕ) → f′ (n + d) ≡ shifted d (f n)) → o′ ≡ shifted d o → eaten c (seenUp d x) f′ o′ ≡ shifted d (eaten c x f o)
+pub eaten-up : (d : ℕ) (c : ℕ → Bool) (x : Seen) (f f′ : ℕ → Out) (o o′ : Out) → ((n : ℕ) → f′ (n + d) ≡ shifted d (f n)) → o′ ≡ shifted d o
+    → eaten c (seenUp d x) f′ o′ ≡ shifted d (eaten c x f o)
 eaten-up d c End f f′ o o′ h i = i
 eaten-up d c (Char k n) f f′ o o′ h i = by (c k)
   where
@@ -104,7 +106,8 @@ over-shifts m F = record { moves = λ s p. from-shifts m p F .moves s p }
 -- ---- loops
 
 module _ {w l : ℕ} {f : ℕ → Reader} (K : (a : ℕ) → Kept 1 w l (f a)) (c : List ℕ) (F : (a : ℕ) → Shifts c (f a) (f a)) where
-  up-after : (s : List ℕ) (n : ℕ) (o : Out) → ((b q : ℕ) → loop f n b (c ++ s) (q + length c) ≡ shifted (length c) (loop f n b s q)) → after (shifted (length c) o) (λ b q. loop f n b (c ++ s) q) ≡ shifted (length c) (after o (λ b q. loop f n b s q))
+  up-after : (s : List ℕ) (n : ℕ) (o : Out) → ((b q : ℕ) → loop f n b (c ++ s) (q + length c) ≡ shifted (length c) (loop f n b s q))
+      → after (shifted (length c) o) (λ b q. loop f n b (c ++ s) q) ≡ shifted (length c) (after o (λ b q. loop f n b s q))
   up-after s n (ok q rs) ih = refl
   up-after s n (again q rs a) ih = rw (ih a q) (more-up (length c) rs (loop f n a s q))
   up-after s n (bad k) ih = refl

@@ -1,6 +1,7 @@
 -- One reader after another, and rows over what is read: what they keep.
 --     chain-advances, chain-local        of what follows, given as a function of the place
 --     then-kept, over-kept, from-kept
+--     more-none, then-on, then-off, bad-is        of answers
 -- Assumes nothing.
 use Prim.Native.Nat.{ℕ, _+_, _≤_, max}
 use native.Mathlib.Omega.{arith}
@@ -19,6 +20,10 @@ pub more-none : {P : Type 0} (o : OutOf P) → more [] o ≡ o
 more-none (ok q ss) = refl
 more-none (again q ss a) = refl
 more-none (bad f) = refl
+
+-- two refusals that are the same answer are the same
+pub bad-is : {P : Type 0} {f g : Fault} → _≡_ {A = OutOf P} (bad f) (bad g) → f ≡ g
+bad-is e = cc
 
 -- after a reader of which the answer is known
 module _ {P : Type 0} {o : OutOf P} (g : ℕ → OutOf P) where
@@ -41,7 +46,8 @@ more-advances v w p n rs (bad f) x = tt
 -- ---- from a place further on
 
 -- an answer that advances from q on advances from p on
-pub advances-from : {P : Type 0} (v w v′ w′ w₁ p q n : ℕ) (o : OutOf P) → p + w₁ ≤ q → q ≤ max p n → v′ ≤ w₁ + v → w′ ≤ w₁ + w → Advances v w q n o → Advances v′ w′ p n o
+pub advances-from : {P : Type 0} (v w v′ w′ w₁ p q n : ℕ) (o : OutOf P) → p + w₁ ≤ q → q ≤ max p n → v′ ≤ w₁ + v → w′ ≤ w₁ + w
+    → Advances v w q n o → Advances v′ w′ p n o
 advances-from v w v′ w′ w₁ p q n (ok q′ ss) a b c d x = omega arith
 advances-from v w v′ w′ w₁ p q n (again q′ ss z) a b c d x = omega arith
 advances-from v w v′ w′ w₁ p q n (bad f) a b c d x = tt
@@ -73,12 +79,15 @@ module _ {P : Type 0} {w₁ m : ℕ} {f : ReaderOf P} (F : Kept w₁ w₁ m f) (
       (G : (r : ℕ) → Advances v w r (length s) (g r))
       (H : (r : ℕ) → p ≤ r → r ≤ q → Stops (g r) q → h r ≡ g r)
       (i : q ≤ length t) (e : Same s t p (q + l)) (k : (m ≤ v + l) × (m ≤ w + l)) where
-    out-local : (o : OutOf P) (rs : List P) (r : ℕ) → f s p ≡ o → Stops o r → p ≤ r → Stops (more rs (g r)) q → (f t p ≡ o) × (more rs (h r) ≡ more rs (g r))
+    out-local : (o : OutOf P) (rs : List P) (r : ℕ) → f s p ≡ o → Stops o r → p ≤ r → Stops (more rs (g r)) q
+        → (f t p ≡ o) × (more rs (h r) ≡ more rs (g r))
     out-local o rs r d a b c =
         let u : Stops (g r) q = more-stops rs (g r) q c in
         let y : r + m ≤ q + l = least-from v w r (length s) q (g r) (G r) u l m (k .0) (k .1) in
-        let z : r + 0 ≤ q + 0 = least-from v w r (length s) q (g r) (G r) u 0 0 (omega arith) (omega arith) in
-        (F .local s t p r (subst (λ (o : OutOf P). Stops o r) (sym d) a) (omega arith) (λ j n o. e j n (omega arith)) ∙ d, ap (more rs) (H r b (omega arith) u))
+        let z : r + 0 ≤ q + 0 = least-from v w r (length s) q (g r) (G r) u 0 0 (omega arith) (omega arith) in (
+          F .local s t p r (subst (λ (o : OutOf P). Stops o r) (sym d) a) (omega arith) (λ j n o. e j n (omega arith)) ∙ d,
+          ap (more rs) (H r b (omega arith) u),
+        )
 
     by-out : (o : OutOf P) → f s p ≡ o → Advances w₁ w₁ p (length s) o → Stops (andThen o g) q → andThen (f t p) h ≡ andThen o g
     by-out (ok r rs) d x c = let y = out-local (ok r rs) rs r d refl (omega arith) c in rw (y .0) (y .1)
@@ -90,7 +99,8 @@ module _ {P : Type 0} {w₁ m : ℕ} {f : ReaderOf P} (F : Kept w₁ w₁ m f) (
 
 -- ---- one after the other
 
-pub then-kept : {P : Type 0} {w₁ m v w l v′ w′ : ℕ} {f g : ReaderOf P} → Kept w₁ w₁ m f → Kept v w l g → (m ≤ v + l) × (m ≤ w + l) × (v′ ≤ w₁ + v) × (w′ ≤ w₁ + w) → Kept v′ w′ l (f then g)
+pub then-kept : {P : Type 0} {w₁ m v w l v′ w′ : ℕ} {f g : ReaderOf P} → Kept w₁ w₁ m f → Kept v w l g
+    → (m ≤ v + l) × (m ≤ w + l) × (v′ ≤ w₁ + v) × (w′ ≤ w₁ + w) → Kept v′ w′ l (f then g)
 then-kept {v = v} {w = w} {l = l} {v′ = v′} {w′ = w′} {g = g} F G k =
     record {
       advances = λ s p. chain-advances F s p (g s) v w v′ w′ (G .advances s) (k .2, k .3);

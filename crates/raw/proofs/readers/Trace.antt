@@ -3,7 +3,7 @@
 --     reach-on, trace-reach, reach-trace, joined      one after the other
 --     eat-traced, back-traced, lay-traced             after a character, or some; a row over it
 -- Assumes nothing.
-use Prim.Native.Nat.{ℕ, _+_, _≤_}
+use Prim.Native.Nat.{ℕ, _≤_}
 use mathlib.Core.Path.{_≡_}
 use mathlib.Core.Bool.{false}
 use mathlib.Core.List.{List, [], _∷_, _++_}
