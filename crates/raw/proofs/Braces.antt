@@ -20,9 +20,9 @@ use Rattle.row.specs.Fault.{faultAt}
 use Rattle.raw.specs.Reader.{Out, ok, again, bad, after, many}
 use Rattle.raw.specs.Grammar.{bracedTurn, inBraces}
 use Rattle.raw.specs.Braces.{Braces, none, pair, opens, closes, other, Outnumbers, First, BracedValue}
-use Rattle.raw.proofs.Bare.{more-none}
-use Rattle.raw.proofs.Loop.{many-turn}
-use Rattle.raw.proofs.Readers.{braced-turn-good}
+use Rattle.raw.proofs.readers.Then.{more-none}
+use Rattle.raw.proofs.readers.Loop.{many-turn}
+use Rattle.raw.proofs.grammar.Readers.{braced-turn-kept}
 use Rattle.raw.proofs.ByteTurns.{slash-on, open-on, close-on, close-stop, braces-cut-off, braces-other}
 
 -- a closing brace outnumbers those that opened since p, and d more
@@ -147,7 +147,7 @@ module _ (s : List ℕ) where
   rest d p = many bracedTurn d s p
 
   by-turn : (d p : ℕ) {o : Out} → bracedTurn d s p ≡ o → rest d p ≡ after o rest
-  by-turn d p h = many-turn (λ a. braced-turn-good a .kept) d s p ∙ ap (λ (o : Out). after o rest) h
+  by-turn d p h = many-turn braced-turn-kept d s p ∙ ap (λ (o : Out). after o rest) h
 
   on-turn : (d e p k : ℕ) → bracedTurn d s p ≡ again k [] e → rest d p ≡ rest e k
   on-turn d e p k h = by-turn d p h ∙ more-none (rest e k)

@@ -21,9 +21,9 @@ use Rattle.row.specs.Fault.{faultAt}
 use Rattle.raw.specs.Reader.{Out, ok, again, bad, Reader, after, loop, many, scanTurn, scan}
 use Rattle.raw.specs.Grammar.{white, ident, field, fieldEnd, fieldsTurn, fields, commented}
 use Rattle.raw.specs.Comments.{Unclosed, none, other, Closed, brace, end, Begins, Comments}
-use Rattle.raw.proofs.Bare.{more-none, then-on}
-use Rattle.raw.proofs.Loop.{many-turn}
-use Rattle.raw.proofs.Readers.{scan-turn-good}
+use Rattle.raw.proofs.readers.Then.{more-none, then-on}
+use Rattle.raw.proofs.readers.Loop.{many-turn}
+use Rattle.raw.proofs.readers.Scans.{scan-turn-kept}
 
 -- ---- a scan, place by place
 
@@ -32,7 +32,7 @@ module _ (t : ℕ → Bool) (s : List ℕ) where
   scanned p = scan t s p
 
   by-turn : (p : ℕ) {o : Out} → scanTurn t 0 s p ≡ o → scanned p ≡ after o (λ a q. many (scanTurn t) a s q)
-  by-turn p h = many-turn (λ a. scan-turn-good t a .kept) 0 s p ∙ ap (λ (o : Out). after o (λ a q. many (scanTurn t) a s q)) h
+  by-turn p h = many-turn (scan-turn-kept t) 0 s p ∙ ap (λ (o : Out). after o (λ a q. many (scanTurn t) a s q)) h
 
   scan-end : (p : ℕ) → see s p ≡ End → scanned p ≡ ok p []
   scan-end p z = by-turn p {o = ok p []} (rw z)

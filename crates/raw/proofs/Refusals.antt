@@ -19,8 +19,9 @@ use Rattle.raw.specs.Reader.{Out, ok, again, bad}
 use Rattle.raw.specs.Grammar.{file}
 use Rattle.raw.specs.Read.{strict, readingOut, leftOut, Read}
 use Rattle.raw.specs.Refusals.{ReadFault, long, met, full, Full, Refusals}
-use Rattle.raw.proofs.Trace.{Refused, Traced}
-use Rattle.raw.proofs.Entries.{file-good}
+use Rattle.raw.proofs.readers.Trace.{Refused, Traced}
+use Rattle.raw.proofs.grammar.Readers.{from-start}
+use Rattle.raw.proofs.grammar.Entries.{file-laws}
 use Rattle.raw.proofs.Strict.{strict-by, file-refuses}
 
 module _ (s : List ℕ) (f : Fault) where
@@ -30,7 +31,7 @@ module _ (s : List ℕ) (f : Fault) where
 
   file-fault : file s 0 ≡ bad f → ReadFault s f
   file-fault e =
-      let r : Refused s 0 f = subst (Traced s 0) e (file-good .traced s 0) in
+      let r : Refused s 0 f = subst (Traced s 0) e (from-start file-laws .traced s 0) in
       let x = met (f .reason) (f .start) (omega (arith, r .least)) (r .most) (file-refuses s f e .place) in
       subst (ReadFault s) (ap (λ (n : ℕ). record { reason = f .reason; start = f .start; end = n }) (sym (r .empty))) x
 
@@ -106,7 +107,7 @@ strict-not-full : (s : List ℕ) → strict s ≡ bad (nowhere NoRoom) → ⊥
 strict-not-full s =
     strict-by s (λ o. o ≡ bad (nowhere NoRoom) → ⊥) (λ e. let z : _≡_ {A = ℕ} 0 1 = cc in absurd (omega arith))
     (λ n h e. let z : _≡_ {A = ℕ} 0 1 = cc in absurd (omega arith))
-    (λ o e. let r : Refused s 0 (nowhere NoRoom) = subst (Traced s 0) e (file-good .traced s 0) in absurd (omega (arith, r .most)))
+    (λ o e. let r : Refused s 0 (nowhere NoRoom) = subst (Traced s 0) e (from-start file-laws .traced s 0) in absurd (omega (arith, r .most)))
 
 pub refusals : Refusals
 refusals =

@@ -18,7 +18,7 @@ use Rattle.row.specs.Limits.{mostBytes}
 use Rattle.raw.specs.Read.{strict}
 use Rattle.row.specs.Rules.{isRows, run, next}
 use Rattle.raw.specs.Strict.{Rising}
-use Rattle.raw.proofs.Spans.{rising-less}
+use Rattle.raw.proofs.readers.Spans.{rising-less}
 use Rattle.raw.proofs.Strict.{strict-reading}
 use Rattle.raw.proofs.StrictSteps.{strict-bad, strict-spans}
 use Rattle.row.proofs.numbers.Spans.{spans-more, spans-append, spans-moved}

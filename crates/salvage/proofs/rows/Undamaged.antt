@@ -21,7 +21,8 @@ use Rattle.row.specs.Limits.{mostBytes}
 use Rattle.raw.specs.Read.{strict}
 use Rattle.row.specs.Rules.{clean}
 use Rattle.raw.specs.Strict.{shifted}
-use Rattle.raw.proofs.Entries.{file-good}
+use Rattle.raw.proofs.grammar.Readers.{from-start}
+use Rattle.raw.proofs.grammar.Entries.{file-laws}
 use Rattle.raw.proofs.Strict.{strict-reading}
 use Rattle.raw.proofs.StrictSteps.{strict-ok, strict-is}
 use Rattle.row.proofs.numbers.Overlay.{moved-none}
@@ -52,7 +53,7 @@ salvage-none r d e = ap (λ (l : List ℕ). moved d (salvageOf l)) e
 
 -- reading two texts from the second on is reading the second, moved
 rest : (a s : List ℕ) (k : ℕ) → length a ≡ suc k → file (a ++ s) (suc k) ≡ shifted (length a) (file s 0)
-rest a s k e = let x : suc k ≡ 0 + length a = omega arith in ap (file (a ++ s)) x ∙ file-good .shift a .moves s 0
+rest a s k e = let x : suc k ≡ 0 + length a = omega arith in ap (file (a ++ s)) x ∙ from-start file-laws .shift a .moves s 0
 
 empty : strict [] ≡ ok 0 (salvageOf [])
 unfolding strict validityOf walkFrom file loop many fileTurn white seeFrom salvageOf pieces cut

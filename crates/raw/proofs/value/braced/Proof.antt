@@ -3,7 +3,7 @@ use native.Mathlib.Omega.{arith}
 use lib.ListN.{length}
 use borrow.Author.Needs.{needs}
 use Rattle.raw.specs.Grammar.{opening, inBraces, closing, braced}
-use Rattle.raw.proofs.Steps.{opening-bare, in-braces-bare, closing-bare}
+use Rattle.raw.proofs.grammar.Rowless.{opening-rowless, in-braces-rowless, closing-rowless}
 use Rattle.raw.proofs.Bounds.{step-place, off-step}
 use Rattle.raw.proofs.Saying.{says-of}
 use Rattle.raw.proofs.Enclosed.{opens-off, inside-off, closes, literal-within}
@@ -30,7 +30,7 @@ returns c =
     let a = opened .before .before .before .args in
     let s = a .s .now in
     off-step (length s) 2 (a .at)
-    (opens-off opening inBraces closing s (a .at) (opening-bare s (a .at)) (in-braces-bare s) (closing-bare s) (opened .opening .ensures .0) told) told (c .refused .ensures)
+    (opens-off opening inBraces closing s (a .at) (opening-rowless s (a .at)) (in-braces-rowless s) (closing-rowless s) (opened .opening .ensures .0) told) told (c .refused .ensures)
 
 in-braces-requires : tie.Need-in-braces-requires
 in-braces-requires c κs = search needs
@@ -54,7 +54,7 @@ returns-2 c =
     let a = opened .before .before .before .args in
     let s = a .s .now in
     off-step (length s) 2 (a .at)
-    (inside-off opening inBraces closing s (a .at) (opening-bare s (a .at)) (in-braces-bare s) (closing-bare s) (opened .opening .ensures .0) (first .r1 .given .1)
+    (inside-off opening inBraces closing s (a .at) (opening-rowless s (a .at)) (in-braces-rowless s) (closing-rowless s) (opened .opening .ensures .0) (first .r1 .given .1)
     (read .in-braces .ensures .0) told) told (c .refused2 .ensures)
 
 closing-requires : tie.Need-closing-requires
@@ -92,7 +92,7 @@ returns-3 c =
     let len = length s in
     let k = step-place len 1 (a .at) (first .r1 .given .1) (opened .opening .ensures .1) (asked .pre .place) in
     let l = step-place len 0 _ (second .r2 .given .1) (read .in-braces .ensures .1) (k .1) in
-    let e = closes opening inBraces closing s (a .at) (opening-bare s (a .at)) (in-braces-bare s) (closing-bare s) (opened .opening .ensures .0) (first .r1 .given .1)
+    let e = closes opening inBraces closing s (a .at) (opening-rowless s (a .at)) (in-braces-rowless s) (closing-rowless s) (opened .opening .ensures .0) (first .r1 .given .1)
     (read .in-braces .ensures .0) (second .r2 .given .1) (closed .closing .ensures .0) in (
       says-of e (put .ensures),
       literal-within len (a .at) (first .r1 .given .0 .0) _ (a .base) (a .n) (closed .closing .result) (omega arith) (l .1)

@@ -3,7 +3,7 @@ use native.Mathlib.Omega.{arith}
 use lib.ListN.{length}
 use borrow.Author.Needs.{needs}
 use Rattle.raw.specs.Grammar.{quote, quoted, stringLiteral}
-use Rattle.raw.proofs.Steps.{quote-bare, quoted-bare}
+use Rattle.raw.proofs.grammar.Rowless.{quote-rowless, quoted-rowless}
 use Rattle.raw.proofs.Bounds.{step-place, off-step}
 use Rattle.raw.proofs.Saying.{says-of}
 use Rattle.raw.proofs.Enclosed.{opens-off, inside-off, closes, literal-within}
@@ -30,7 +30,7 @@ returns c =
     let a = opened .before .before .before .args in
     let s = a .s .now in
     off-step (length s) 2 (a .at)
-    (opens-off quote quoted quote s (a .at) (quote-bare s (a .at)) (quoted-bare s) (quote-bare s) (opened .quote .ensures .0) told) told (c .refused .ensures)
+    (opens-off quote quoted quote s (a .at) (quote-rowless s (a .at)) (quoted-rowless s) (quote-rowless s) (opened .quote .ensures .0) told) told (c .refused .ensures)
 
 quoted-requires : tie.Need-quoted-requires
 quoted-requires c κs = search needs
@@ -54,7 +54,7 @@ returns-2 c =
     let a = opened .before .before .before .args in
     let s = a .s .now in
     off-step (length s) 2 (a .at)
-    (inside-off quote quoted quote s (a .at) (quote-bare s (a .at)) (quoted-bare s) (quote-bare s) (opened .quote .ensures .0) (first .r1 .given .1)
+    (inside-off quote quoted quote s (a .at) (quote-rowless s (a .at)) (quoted-rowless s) (quote-rowless s) (opened .quote .ensures .0) (first .r1 .given .1)
     (read .quoted .ensures .0) told) told (c .refused2 .ensures)
 
 quote-requires-2 : tie.Need-quote-requires-2
@@ -92,7 +92,7 @@ returns-3 c =
     let len = length s in
     let k = step-place len 1 (a .at) (first .r1 .given .1) (opened .quote .ensures .1) (asked .pre .place) in
     let l = step-place len 0 _ (second .r2 .given .1) (read .quoted .ensures .1) (k .1) in
-    let e = closes quote quoted quote s (a .at) (quote-bare s (a .at)) (quoted-bare s) (quote-bare s) (opened .quote .ensures .0) (first .r1 .given .1)
+    let e = closes quote quoted quote s (a .at) (quote-rowless s (a .at)) (quoted-rowless s) (quote-rowless s) (opened .quote .ensures .0) (first .r1 .given .1)
     (read .quoted .ensures .0) (second .r2 .given .1) (closed .quote2 .ensures .0) in (
       says-of e (put .ensures),
       literal-within len (a .at) (first .r1 .given .0 .0) _ (a .base) (a .n) (closed .quote2 .result) (omega arith) (l .1)
