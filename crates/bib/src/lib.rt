@@ -56,7 +56,8 @@ pub extern "C" fn bib_read(
     start: &mut u64,
     end: &mut u64,
 ) -> u32
-    ensures { λ r. ⌜ ExportedReading (strict (now (file .entry))) (now (rows .entry)) r (now (count .exit)) (now (start .exit)) (now (end .exit)) (now (rows .exit)) ⌝ }
+    ensures { λ r. ⌜ ExportedReading (strict (now (file .entry))) (now (rows .entry)) r
+        (now (count .exit)) (now (start .exit)) (now (end .exit)) (now (rows .exit)) ⌝ }
 {
     let reading = file::read(file, rows);
     tell(of_reading(reading), count, start, end)
@@ -71,7 +72,8 @@ pub extern "C" fn bib_salvage(
     start: &mut u64,
     end: &mut u64,
 ) -> u32
-    ensures { λ r. ⌜ ExportedReading (salvaged (now (file .entry))) (now (rows .entry)) r (now (count .exit)) (now (start .exit)) (now (end .exit)) (now (rows .exit)) ⌝ }
+    ensures { λ r. ⌜ ExportedReading (salvaged (now (file .entry))) (now (rows .entry)) r
+        (now (count .exit)) (now (start .exit)) (now (end .exit)) (now (rows .exit)) ⌝ }
 {
     let salvaged = salvage::file::salvage(file, rows);
     tell(of_reading(salvaged), count, start, end)
@@ -86,7 +88,8 @@ pub extern "C" fn bib_pack(
     start: &mut u64,
     end: &mut u64,
 ) -> u32
-    ensures { λ r. ⌜ ExportedPack (now (rows .entry)) (now (bytes .entry)) r (now (count .exit)) (now (start .exit)) (now (end .exit)) (now (bytes .exit)) ⌝ }
+    ensures { λ r. ⌜ ExportedPack (now (rows .entry)) (now (bytes .entry)) r
+        (now (count .exit)) (now (start .exit)) (now (end .exit)) (now (bytes .exit)) ⌝ }
 {
     let packed = packing::pack(rows, bytes);
     tell(packed, count, start, end)
@@ -101,7 +104,8 @@ pub extern "C" fn bib_unpack(
     start: &mut u64,
     end: &mut u64,
 ) -> u32
-    ensures { λ r. ⌜ ExportedUnpack (now (bytes .entry)) (now (rows .entry)) r (now (count .exit)) (now (start .exit)) (now (end .exit)) (now (rows .exit)) ⌝ }
+    ensures { λ r. ⌜ ExportedUnpack (now (bytes .entry)) (now (rows .entry)) r
+        (now (count .exit)) (now (start .exit)) (now (end .exit)) (now (rows .exit)) ⌝ }
 {
     let unpacked = unpacking::unpack(bytes, rows);
     tell(unpacked, count, start, end)

@@ -15,7 +15,8 @@ returns c =
     let read = c .before .before in
     let known = read .before .before in
     let b = known .before .before .before in
-    (alone-known (b .args .w .now) (b .args .base) (b .args .rows .now) (b .pre) (known .if1 .taken) (read .parse .ensures .0), read .parse .ensures .1)
+    let p = read .parse .ensures in
+    (alone-known (b .args .w .now) (b .args .base) (b .args .rows .now) (b .pre) (known .if1 .taken) (p .0), p .1)
 
 parse-bytes-requires : tie.Need-parse-bytes-requires
 parse-bytes-requires c κs = search needs
