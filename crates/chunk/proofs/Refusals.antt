@@ -14,7 +14,7 @@ use Rattle.text.specs.declared.utf8.Validity.{Validity}
 use Rattle.text.specs.declared.utf8.Validity.the-variants as validity
 use Rattle.row.specs.declared.fault.Reason.the-variants.{NotUtf8, NoRoom, BadRows}
 use Rattle.row.specs.declared.fault.Fault.{Fault}
-use Rattle.row.specs.Fault.{faultAt, nowhere}
+use Rattle.row.specs.Fault.{numberOf, faultAt, nowhere}
 use Rattle.chunk.specs.declared.answer.Checked.{Checked}
 use Rattle.chunk.specs.declared.answer.Checked.the-variants as checked
 use Rattle.chunk.specs.declared.answer.Writing.{Writing}
@@ -50,8 +50,9 @@ check-not-full t l validity.Valid e = by (areChunks t l) e
   where
     by : (x : Bool) → cond x checked.Sound (checked.Refused (nowhere BadRows)) ≡ checked.Refused (nowhere NoRoom) → ⊥
     by true e = let z : _≡_ {A = ℕ} 0 1 = cc in absurd (omega arith)
-    by false e = let z : _≡_ {A = ℕ} 0 1 = cc in absurd (omega arith)
-check-not-full t l (validity.IllFormed m) e = let z : _≡_ {A = ℕ} 0 1 = cc in absurd (omega arith)
+    by false e = let q : nowhere BadRows ≡ nowhere NoRoom = cc in let n : 17 ≡ 16 = ap (λ (f : Fault). numberOf (f .reason)) q in absurd (omega arith)
+check-not-full t l (validity.IllFormed m) e =
+    let q : faultAt NotUtf8 m ≡ nowhere NoRoom = cc in let n : 2 ≡ 16 = ap (λ (f : Fault). numberOf (f .reason)) q in absurd (omega arith)
 
 -- a writer of w whose check comes to c
 module _ (w : List ℕ) where

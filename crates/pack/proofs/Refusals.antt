@@ -2,7 +2,7 @@
 -- Assumes nothing.
 use Prim.Native.Nat.{ℕ, _*_, _/_, _≤_, _<_}
 use native.Mathlib.Omega.{arith}
-use mathlib.Core.Path.{_≡_, refl, sym, _∙_, subst}
+use mathlib.Core.Path.{_≡_, refl, sym, ap, _∙_, subst}
 use mathlib.Core.Logic.{_↔_}
 use mathlib.Core.Bool.{Bool, true, false}
 use mathlib.Core.List.{List}
@@ -13,7 +13,7 @@ use Rattle.row.specs.declared.fault.Reason.the-variants.{NoRoom, BadRows}
 use Rattle.row.specs.declared.fault.Fault.{Fault}
 use Rattle.row.specs.declared.fault.Outcome.{Outcome}
 use Rattle.row.specs.declared.fault.Outcome.the-variants.{Count, Refused}
-use Rattle.row.specs.Fault.{nowhere}
+use Rattle.row.specs.Fault.{numberOf, nowhere}
 use Rattle.pack.specs.Answer.{answerOf}
 use Rattle.pack.specs.Pack.{isPackable, bytesFor, packedOf, packedInto, Pack}
 use Rattle.pack.specs.Unpack.{isUnpackable, unpackedOf, unpackedInto, Unpack}
@@ -34,7 +34,9 @@ module _ (accepted : Bool) (n : ℕ) where
       by : (a b : Bool) → leb n x ≡ b → answerOf a b n ≡ Refused (nowhere NoRoom) → (a ≡ true) × (x < n)
       by true true d e = let z : _≡_ {A = ℕ} 0 1 = cc in absurd (omega arith)
       by true false d e = (refl, leb-false n x d)
-      by false b d e = let z : _≡_ {A = ℕ} 0 1 = cc in absurd (omega arith)
+      by false b d e =
+          let q : nowhere BadRows ≡ nowhere NoRoom = cc in
+          let n : 17 ≡ 16 = ap (λ (f : Fault). numberOf (f .reason)) q in absurd (omega arith)
 
   -- where it is accepted and n is lent, n is the answer
   enough : (x : ℕ) → accepted ≡ true → n ≤ x → Count n ≡ answerOf accepted (leb n x) n

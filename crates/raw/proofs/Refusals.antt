@@ -12,7 +12,7 @@ use borrow.Author.Tests.{leb-false, le-leb, lt-leb}
 use Rattle.row.specs.declared.fault.Reason.the-variants.{TooLong, NotUtf8, NoRoom}
 use Rattle.row.specs.declared.fault.Fault.{Fault}
 use Rattle.row.specs.Row.{Row}
-use Rattle.row.specs.Fault.{faultAt, nowhere}
+use Rattle.row.specs.Fault.{numberOf, faultAt, nowhere}
 use Rattle.raw.specs.declared.answer.Reading.{Reading}
 use Rattle.raw.specs.declared.answer.Reading.the-variants as reading
 use Rattle.raw.specs.Reader.{Out, ok, again, bad}
@@ -56,6 +56,10 @@ module _ (s : List ℕ) (f : Fault) where
 
 -- ---- 16, of a reading that finds o
 
+-- numbers enough for n rows
+abbrev room : ℕ → List ℕ
+room n = replicate (n * 4) 0
+
 -- where rows were found: too few numbers are lent; and where n rows are answered, less is too little
 module _ (rs : List Row) where
   abbrev rowsOr : ℕ → Reading
@@ -69,8 +73,10 @@ module _ (rs : List Row) where
       by true d e = let z : _≡_ {A = ℕ} 0 1 = cc in absurd (omega arith)
       by false d e = leb-false (length rs) (x / 4) d
 
-  rows-enough : reading.Rows (length rs) ≡ rowsOr (length (replicate (length rs * 4) 0))
-  rows-enough = rw (le-leb (length rs) (length (replicate (length rs * 4) 0) / 4) (omega (arith, length-replicate (length rs * 4) 0)))
+  rows-enough : reading.Rows (length rs) ≡ rowsOr (length (room (length rs)))
+  rows-enough =
+      let l : length (room (length rs)) ≡ length rs * 4 = length-replicate (length rs * 4) 0 in
+      rw (le-leb (length rs) (length (room (length rs)) / 4) (omega arith))
 
   rows-too-little : (x y m : ℕ) → reading.Rows m ≡ rowsOr y → x / 4 < m → rowsOr x ≡ reading.Refused (nowhere NoRoom)
   rows-too-little x y m = by (leb (length rs) (y / 4))
@@ -87,8 +93,8 @@ too-little (bad f) x y m e h = let z : _≡_ {A = ℕ} 0 1 = cc in absurd (omega
 
 enough : (o : Out) → (o ≡ bad (nowhere NoRoom) → ⊥) → (x : ℕ) → readingOut o x ≡ reading.Refused (nowhere NoRoom) →
     (n : ℕ) × (c : List ℕ) × (reading.Rows n ≡ readingOut o (length c)) × (x / 4 < n)
-enough (ok q rs) other x e = (length rs, replicate (length rs * 4) 0, rows-enough rs, rows-full rs x e)
-enough (again q rs a) other x e = (length rs, replicate (length rs * 4) 0, rows-enough rs, rows-full rs x e)
+enough (ok q rs) other x e = (length rs, room (length rs), rows-enough rs, rows-full rs x e)
+enough (again q rs a) other x e = (length rs, room (length rs), rows-enough rs, rows-full rs x e)
 enough (bad f) other x e = let z : f ≡ nowhere NoRoom = cc in absurd (other (ap bad z))
 
 -- of a call whose answer and rows are those of o
@@ -102,12 +108,17 @@ full-of o other call told make b b′ r p = (
   λ h. told b b′ r p ∙ too-little o (length b) (length (h .1 .0)) (h .0) (told (h .1 .0) (h .1 .1) (reading.Rows (h .0)) (h .1 .2)) (h .2),
 )
 
+-- a refusal of another number
+pub not-sixteen : {f : Fault} → f ≡ nowhere NoRoom → numberOf (f .reason) < 16 → ⊥
+not-sixteen e h = let n = ap (λ (f : Fault). numberOf (f .reason)) e in omega arith
+
 -- strict reading refuses with no 16 of its own
 strict-not-full : (s : List ℕ) → strict s ≡ bad (nowhere NoRoom) → ⊥
 strict-not-full s =
-    strict-by s (λ o. o ≡ bad (nowhere NoRoom) → ⊥) (λ e. let z : _≡_ {A = ℕ} 0 1 = cc in absurd (omega arith))
-    (λ n h e. let z : _≡_ {A = ℕ} 0 1 = cc in absurd (omega arith))
-    (λ o e. let r : Refused s 0 (nowhere NoRoom) = subst (Traced s 0) e (from-start file-laws .traced s 0) in absurd (omega (arith, r .most)))
+    strict-by s (λ o. o ≡ bad (nowhere NoRoom) → ⊥) (λ e. let q : nowhere TooLong ≡ nowhere NoRoom = cc in not-sixteen q (omega arith))
+    (λ n h e. let q : faultAt NotUtf8 n ≡ nowhere NoRoom = cc in not-sixteen q (omega arith))
+    (λ o e. let r : Refused s 0 (nowhere NoRoom) = subst (Traced s 0) e (from-start file-laws .traced s 0) in
+    let m : 16 ≤ 10 = r .most in absurd (omega arith))
 
 pub refusals : Refusals
 refusals =

@@ -14,7 +14,7 @@ use Rattle.raw.specs.declared.answer.Reading.the-variants.{Rows, Refused}
 use Rattle.raw.specs.Reader.{ok, bad}
 use Rattle.row.specs.Limits.{mostBytes}
 use Rattle.raw.specs.Read.{readingOut}
-use Rattle.raw.proofs.Refusals.{full-of}
+use Rattle.raw.proofs.Refusals.{not-sixteen, full-of}
 use Rattle.salvage.specs.Salvage.{salvageOf, salvaged, Salvage}
 use Rattle.salvage.specs.Refusals.{SalvageFault, long, full, Refusals}
 
@@ -39,7 +39,7 @@ salvaged-not-full s = by (leb (length s) mostBytes)
   where
     by : (x : Bool) → cond x (ok (length s) (salvageOf s)) (bad (nowhere TooLong)) ≡ bad (nowhere NoRoom) → ⊥
     by true e = let z : _≡_ {A = ℕ} 0 1 = cc in absurd (omega arith)
-    by false e = let z : _≡_ {A = ℕ} 0 1 = cc in absurd (omega arith)
+    by false e = let q : nowhere TooLong ≡ nowhere NoRoom = cc in not-sixteen q (omega arith)
 
 pub refusals : Refusals
 refusals =
