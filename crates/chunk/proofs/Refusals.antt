@@ -50,15 +50,15 @@ check-not-full t l validity.Valid e = by (areChunks t l) e
   where
     by : (x : Bool) → cond x checked.Sound (checked.Refused (nowhere BadRows)) ≡ checked.Refused (nowhere NoRoom) → ⊥
     by true e = let z : _≡_ {A = ℕ} 0 1 = cc in absurd (omega arith)
-    by false e = let q : nowhere BadRows ≡ nowhere NoRoom = cc in let n : 17 ≡ 16 = ap (λ (f : Fault). numberOf (f .reason)) q in absurd (omega arith)
+    by false e = let q : nowhere BadRows ≡ nowhere NoRoom = cc in let n : _≡_ {A = ℕ} 17 16 = ap (λ (f : Fault). numberOf (f .reason)) q in absurd (omega arith)
 check-not-full t l (validity.IllFormed m) e =
-    let q : faultAt NotUtf8 m ≡ nowhere NoRoom = cc in let n : 2 ≡ 16 = ap (λ (f : Fault). numberOf (f .reason)) q in absurd (omega arith)
+    let q : faultAt NotUtf8 m ≡ nowhere NoRoom = cc in let n : _≡_ {A = ℕ} 2 16 = ap (λ (f : Fault). numberOf (f .reason)) q in absurd (omega arith)
 
 -- a writer of w whose check comes to c
 module _ (w : List ℕ) where
   full-told : (c : Checked) → (c ≡ checked.Refused (nowhere NoRoom) → ⊥) → (x : ℕ) → writingOf c w x ≡ writing.Refused (nowhere NoRoom) →
       (c ≡ checked.Sound) × (x < length w)
-  full-told checked.Sound other x = by (leb (length w) x) refl
+  full-told checked.Sound other x e = by (leb (length w) x) refl e
     where
       by : (y : Bool) → leb (length w) x ≡ y → cond y (writing.Written (length w)) (writing.Refused (nowhere NoRoom)) ≡ writing.Refused (nowhere NoRoom) →
           (checked.Sound ≡ checked.Sound) × (x < length w)
@@ -67,7 +67,7 @@ module _ (w : List ℕ) where
   full-told (checked.Refused f) other x e = let z : f ≡ nowhere NoRoom = cc in absurd (other (ap checked.Refused z))
 
   too-little : (c : Checked) (x y m : ℕ) → writing.Written m ≡ writingOf c w y → x < m → writingOf c w x ≡ writing.Refused (nowhere NoRoom)
-  too-little checked.Sound x y m = by (leb (length w) y)
+  too-little checked.Sound x y m e h = by (leb (length w) y) e h
     where
       by : (z : Bool) → writing.Written m ≡ cond z (writing.Written (length w)) (writing.Refused (nowhere NoRoom)) → x < m →
           writingOf checked.Sound w x ≡ writing.Refused (nowhere NoRoom)

@@ -36,7 +36,7 @@ module _ (accepted : Bool) (n : ℕ) where
       by true false d e = (refl, leb-false n x d)
       by false b d e =
           let q : nowhere BadRows ≡ nowhere NoRoom = cc in
-          let n : 17 ≡ 16 = ap (λ (f : Fault). numberOf (f .reason)) q in absurd (omega arith)
+          let n : _≡_ {A = ℕ} 17 16 = ap (λ (f : Fault). numberOf (f .reason)) q in absurd (omega arith)
 
   -- where it is accepted and n is lent, n is the answer
   enough : (x : ℕ) → accepted ≡ true → n ≤ x → Count n ≡ answerOf accepted (leb n x) n
