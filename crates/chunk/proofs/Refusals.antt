@@ -80,9 +80,10 @@ module _ (w : List ℕ) where
   write-full c other b b′ r p = (
     λ e.
         let t = full-told c other (length b) (sym (p .answer) ∙ e) in
-        let d = replicate (length w) 0 in
+        let d : List ℕ = replicate (length w) 0 in
+        let l : length d ≡ length w = length-replicate (length w) 0 in
         let k : writing.Written (length w) ≡ writingOf c w (length d) =
-        rw (t .0, le-leb (length w) (length d) (omega (arith, length-replicate (length w) 0))) in
+        rw (t .0, le-leb (length w) (length d) (omega arith)) in
         (length w, (d, writtenInto c w d, record { answer = k; bytes = refl }), t .1),
     λ h. p .answer ∙ too-little c (length b) (length (h .1 .0)) (h .0) (h .1 .2 .answer) (h .2),
   )

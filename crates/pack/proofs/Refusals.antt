@@ -57,8 +57,9 @@ packs-full l b b′ r p = (
   λ e.
       let n = bytesFor (length l) in
       let t = full-told (isPackable l) n (length b) (sym (p .answer) ∙ e) in
-      let c = replicate n 0 in
-      let k = enough (isPackable l) n (length c) (t .0) (omega (arith, length-replicate n 0)) in
+      let c : List ℕ = replicate n 0 in
+      let z : length c ≡ n = length-replicate n 0 in
+      let k = enough (isPackable l) n (length c) (t .0) (omega arith) in
       (n, (c, packedInto l c, record { answer = k; bytes = refl }), t .1),
   λ h. p .answer ∙ too-little (isPackable l) (bytesFor (length l)) (length b) (length (h .1 .0)) (h .0) (h .1 .2 .answer) (h .2),
 )
@@ -69,8 +70,9 @@ unpacks-full s b b′ r p = (
   λ e.
       let n = length s / 7 in
       let t = full-told (isUnpackable s) n (length b / 4) (sym (p .answer) ∙ e) in
-      let c = replicate (n * 4) 0 in
-      let k = enough (isUnpackable s) n (length c / 4) (t .0) (omega (arith, length-replicate (n * 4) 0)) in
+      let c : List ℕ = replicate (n * 4) 0 in
+      let z : length c ≡ n * 4 = length-replicate (n * 4) 0 in
+      let k = enough (isUnpackable s) n (length c / 4) (t .0) (omega arith) in
       (n, (c, unpackedInto s c, record { answer = k; rows = refl }), t .1),
   λ h. p .answer ∙ too-little (isUnpackable s) (length s / 7) (length b / 4) (length (h .1 .0) / 4) (h .0) (h .1 .2 .answer) (h .2),
 )
