@@ -28,7 +28,7 @@ use Rattle.raw.specs.Read.{checked, strict}
 use Rattle.raw.specs.Strict.{Fresh}
 use Rattle.raw.proofs.readers.Trace.{Refused, Traced}
 use Rattle.raw.proofs.grammar.Readers.{from-start}
-use Rattle.raw.proofs.grammar.Entries.{file-laws}
+use Rattle.raw.proofs.grammar.Files.{file-laws}
 
 module _ (s : List ℕ) (h : length s ≤ mostBytes) where
   strict-checked : strict s ≡ checked s (validityOf s)

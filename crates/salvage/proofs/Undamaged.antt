@@ -23,7 +23,7 @@ use Rattle.raw.specs.Read.{strict}
 use Rattle.row.specs.Rules.{clean}
 use Rattle.raw.specs.Strict.{shifted}
 use Rattle.raw.proofs.grammar.Readers.{from-start}
-use Rattle.raw.proofs.grammar.Entries.{file-laws}
+use Rattle.raw.proofs.grammar.Files.{file-laws}
 use Rattle.raw.proofs.Strict.{strict-reading}
 use Rattle.row.proofs.Rows.{moved-none}
 use Rattle.salvage.specs.Salvage.{head, cut, told, pieces, salvageOf}
