@@ -21,7 +21,7 @@ use Rattle.raw.specs.Read.{strict, readingOut, leftOut, Read}
 use Rattle.raw.specs.Refusals.{ReadFault, long, met, full, Full, Refusals}
 use Rattle.raw.proofs.readers.Trace.{Refused, Traced}
 use Rattle.raw.proofs.grammar.Readers.{from-start}
-use Rattle.raw.proofs.grammar.Entries.{file-laws}
+use Rattle.raw.proofs.grammar.Files.{file-laws}
 use Rattle.raw.proofs.Strict.{strict-by, file-refuses}
 
 module _ (s : List ℕ) (f : Fault) where

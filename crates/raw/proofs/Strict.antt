@@ -37,7 +37,8 @@ use Rattle.raw.proofs.readers.Then.{bad-is}
 use Rattle.raw.proofs.readers.Loop.{many-turn}
 use Rattle.raw.proofs.grammar.Early.{hits, eaten-else}
 use Rattle.raw.proofs.grammar.Readers.{from-start}
-use Rattle.raw.proofs.grammar.Entries.{entry-kept, entry-laws, file-turn-kept, file-laws, file-rules, file-few, file-early}
+use Rattle.raw.proofs.grammar.Entries.{entry-kept, entry-laws}
+use Rattle.raw.proofs.grammar.Files.{file-turn-kept, file-laws, file-rules, file-few, file-early}
 
 -- ---- no fuel
 

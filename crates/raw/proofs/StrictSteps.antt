@@ -33,7 +33,7 @@ use Rattle.raw.specs.Read.{checked, strict, readingOut, leftOut}
 use Rattle.raw.specs.Strict.{Spans}
 use Rattle.raw.proofs.readers.Trace.{Refused, Traced}
 use Rattle.raw.proofs.grammar.Readers.{from-start}
-use Rattle.raw.proofs.grammar.Entries.{file-laws}
+use Rattle.raw.proofs.grammar.Files.{file-laws}
 use Rattle.raw.proofs.Strict.{strict-by, strict-reading}
 
 -- ---- a text inside the limit

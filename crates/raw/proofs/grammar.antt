@@ -14,5 +14,7 @@ pub mod Readers
 pub mod Rowless
 -- the word that an entry's type spells
 pub mod Spells
--- the laws of an entry and of the file
+-- the laws of an entry
 pub mod Entries
+-- the laws of the file, and what they say of its rows and of a refusal
+pub mod Files

@@ -1,44 +1,31 @@
--- The laws of an entry and of the file. What follows an entry's type is told places of the text, and moves with them.
---     named, typed                        an entry from behind its type on, and from its type on
---     entry-kept, entry-laws              an entry is told by what it ate
---     file-turn-laws, file-laws
---     file-rules, file-few, file-early    of an accepted file's rows, and of a refusal
+-- The laws of an entry. What follows its type is told places of the text, and moves with them.
+--     named, typed                an entry from behind its type on, and from its type on
+--     entry-kept, entry-laws      an entry is told by what it ate, because its last character closes it
 -- Assumes nothing.
-use Prim.Native.Nat.{ℕ, suc, _+_, _≤_}
+use Prim.Native.Nat.{ℕ, suc, _+_}
 use native.Mathlib.Omega.{arith}
 use mathlib.Core.Path.{_≡_, refl, sym, subst}
-use mathlib.Core.Bool.{Bool, true, false, cond}
 use mathlib.Core.List.{List, _++_}
 use lib.ListN.{length}
-use Rattle.text.specs.Class.{holdsOf}
-use Rattle.text.specs.Scan.{see, fails}
-use Rattle.text.specs.declared.scanner.Seen.{Seen}
-use Rattle.text.specs.declared.scanner.Seen.the-variants.{End, Char}
-use Rattle.text.specs.declared.class.Test.the-variants as test
 use Rattle.row.specs.declared.form.Kind.the-variants as kind
-use Rattle.row.specs.declared.fault.Fault.{Fault}
-use Rattle.row.specs.Fault.{numberOf}
-use Rattle.row.specs.Row.{Row, plain}
+use Rattle.row.specs.Row.{plain}
 use Rattle.row.specs.Rules as awaits
-use Rattle.row.specs.Rules.{part, isRows}
-use Rattle.row.proofs.rules.Append.{Free, none, free-whole}
+use Rattle.row.proofs.rules.Append.{Free}
 use Rattle.raw.specs.declared.entry.Form.{Form}
 use Rattle.raw.specs.declared.entry.Form.the-variants.{Strings, Preambles, Comments, Other}
 use Rattle.row.specs.declared.fault.Reason.the-variants.{ExpectedClosingBrace}
-use Rattle.raw.specs.Reader.{Out, ok, bad, Reader, andThen, eaten, _then_, put, when, sees, turn, scan}
-use Rattle.raw.specs.Grammar.{is, any, white, closing, ident, comment, formOf, strings, preamble, commented, body, lead, rest, atSign, entry}
-use Rattle.raw.specs.Grammar.{fileTurn, file}
-use Rattle.raw.specs.Strict.{shifted, beginsValue}
+use Rattle.raw.specs.Reader.{Out, bad, Reader, andThen, _then_, put}
+use Rattle.raw.specs.Grammar.{white, closing, ident, formOf, strings, preamble, commented, body, lead, rest, atSign, entry}
+use Rattle.raw.specs.Strict.{shifted}
 use Rattle.raw.proofs.readers.Trace.{Reach, here, lays, joins, Traced, reach-on, trace-reach, reach-trace, joined, back-traced, chain-traced}
 use Rattle.raw.proofs.readers.Trace.{lay-traced}
 use Rattle.raw.proofs.readers.Kept.{Advances, Kept, stop-kept, refuse-kept, kept-weaker, when-kept}
 use Rattle.raw.proofs.readers.Then.{more-none, chain-advances, chain-local, then-kept}
 use Rattle.raw.proofs.readers.Shifts.{Shifts, put-shifts, chain-up, then-shifts, from-shifts}
-use Rattle.raw.proofs.readers.Points.{Point, Moves, MovesOut, done, same, past, fewer, wider, chain-moves, less-moves}
-use Rattle.raw.proofs.grammar.Early.{EarlyOut, chain-early}
+use Rattle.raw.proofs.readers.Points.{Point, fewer, wider, chain-route, less-route}
+use Rattle.raw.proofs.grammar.Early.{chain-early}
 use Rattle.raw.proofs.grammar.RowOrder.{rules, awaiting, start, Is, part-free, entry-takes, type-takes}
-use Rattle.raw.proofs.grammar.Laws.{Core, Laws, then-core, put-core, from-core, going, stop-laws, turn-laws, when-laws, sees-laws, _then-laws_}
-use Rattle.raw.proofs.grammar.Laws.{many-laws, less-laws, scan-laws, same-laws}
+use Rattle.raw.proofs.grammar.Laws.{Core, Laws, then-core, put-core, from-core, _then-laws_, less-laws}
 use Rattle.raw.proofs.grammar.Spells.{form-same, form-up}
 use Rattle.raw.proofs.grammar.Rowless.{Rowless, rowless-ok, rowless-bad, rowless}
 use Rattle.raw.proofs.grammar.Readers.{from-start, white-laws, closing-laws, at-sign-laws, ident-laws, lead-laws, strings-laws}
@@ -174,10 +161,10 @@ entry-laws {e} {n} {α} =
     record {
       core = record {
         kept = kept-weaker entry-kept (omega arith);
-        moves = λ s p.
-            less-moves (fewer (omega arith))
-            (chain-moves (typed p s) (at-sign-laws .core .moves s p)
-            (λ a. chain-moves (named p a s) (ident-laws .core .moves s a) (λ b. close p a b s .moves s b)));
+        route = λ s p.
+            less-route (fewer (omega arith))
+            (chain-route (typed p s) (at-sign-laws .core .route s p)
+            (λ a. chain-route (named p a s) (ident-laws .core .route s a) (λ b. close p a b s .route s b)));
         early = λ s p.
             chain-early s (atSign s p) (typed p s) (from-start at-sign-laws .core .early s p)
             (λ a. chain-early s (ident s a) (named p a s) (from-start ident-laws .core .early s a) (λ b. close p a b s .early s b));
@@ -195,61 +182,3 @@ entry-laws {e} {n} {α} =
         → Core (awaiting (suc (suc e)) (suc (suc n)) Free) α (awaiting (suc (suc (suc e))) (suc n) Free)
         (rest (formOf s a b) p a b then white then closing)
     close p a b s = then-core (rest-core (formOf s a b) p a b) ((white-laws then-laws closing-laws) .core)
-
--- ---- the file
-
--- a reader that is seen to begin with a character of class c eats it
-seen-eaten : (c : ℕ → Bool) (f g h k : Reader) (s : List ℕ) (p : ℕ) → when c (f then h) k s p ≡ sees c (when c f g then h) k s p
-seen-eaten c f g h k s p = by (see s p)
-  where
-    by : (x : Seen) → eaten c x (λ n. andThen (f s n) (h s)) (k s p) ≡ eaten c x (λ n. andThen (eaten c x (f s) (g s p)) (h s)) (k s p)
-    by End = refl
-    by (Char d n) = on (c d)
-      where
-        on : (b : Bool) → cond b (andThen (f s n) (h s)) (k s p) ≡ cond b (andThen (cond b (f s n) (g s p)) (h s)) (k s p)
-        on true = refl
-        on false = refl
-
-module _ {e n : ℕ} where
-  -- a comment at its "%" eats it
-  comment-turn-laws : {ω : Point rules} {k : Reader} → Laws (awaiting e n Free) (awaiting (suc e) n Free) ω k
-      → Laws (awaiting e n Free) (awaiting (suc e) n Free) ω (sees (holdsOf test.Percent) (comment then turn 0) k)
-  unfolding comment
-  comment-turn-laws {k = k} K =
-      same-laws _ (when-laws (holdsOf test.Percent) (scan-laws (fails test.Newline) then-laws turn-laws 0 past) K)
-      (seen-eaten (holdsOf test.Percent) (scan (fails test.Newline)) _ (turn 0) k)
-
-  pub file-turn-laws : (a : ℕ) → Laws (awaiting e n Free) (awaiting (suc e) n Free) (awaiting e n Free) (fileTurn a)
-  unfolding fileTurn
-  file-turn-laws a =
-      white-laws then-laws
-      sees-laws (is 0x40) (entry-laws then-laws turn-laws 0 same)
-      (comment-turn-laws (when-laws any (turn-laws 0 past) stop-laws))
-
-  pub file-laws : {α : Point rules} → Laws (awaiting e n Free) α (awaiting e n Free) file
-  unfolding file
-  file-laws = many-laws file-turn-laws 0
-
-pub file-turn-kept : (a : ℕ) → Kept 1 0 1 (fileTurn a)
-file-turn-kept a = going (file-turn-laws {e = 0} {n = 0} a)
-
--- ---- what an accepted file's rows are, and where one is refused
-
-module _ (s : List ℕ) (p q : ℕ) (rs : List Row) (e : file s p ≡ ok q rs) where
-  file-moves : Moves (awaiting 0 0 Free) (awaiting 0 0 Free) p q rs
-  file-moves = by (subst (MovesOut _ start _ p) e (file-laws .core .moves s p))
-    where
-      by : MovesOut (awaiting 0 0 Free) start (awaiting 0 0 Free) p (ok q rs) → Moves (awaiting 0 0 Free) (awaiting 0 0 Free) p q rs
-      by (done x) = x
-
-  -- they pass the row rules
-  pub file-rules : isRows rs ≡ true
-  unfolding isRows
-  file-rules = free-whole _ (file-moves .follows (part false) (none false))
-
-  -- and are at most as many as the bytes
-  pub file-few : length rs + p ≤ q
-  file-few = omega (arith, file-moves .pays)
-
-pub file-early : (s : List ℕ) (p : ℕ) (f : Fault) → file s p ≡ bad f → numberOf (f .reason) ≡ 3 → beginsValue (see s (f .start)) ≡ false
-file-early s p f e = subst (EarlyOut s) e (from-start file-laws .core .early s p)

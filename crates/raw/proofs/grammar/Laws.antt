@@ -29,8 +29,9 @@ use Rattle.raw.proofs.readers.Then.{then-kept, over-kept, from-kept}
 use Rattle.raw.proofs.readers.Loop.{many-kept, loop-traced}
 use Rattle.raw.proofs.readers.Shifts.{Shifts, stop-shifts, turn-shifts, refuse-shifts, when-shifts, sees-shifts, then-shifts, over-shifts}
 use Rattle.raw.proofs.readers.Shifts.{many-shifts}
-use Rattle.raw.proofs.readers.Points.{Order, Point, at, ate, onward, AtLeast, same, past, MovesOut, done, goes, fails, Takes, stay, eat-moves}
-use Rattle.raw.proofs.readers.Points.{chain-moves, less-moves, loop-moves, under-moves, put-moves}
+use Rattle.raw.proofs.readers.Points.{Order, Point, at, ate, onward, AtLeast, same, past, RouteOut, done, goes, refuses, Takes, stay}
+use Rattle.raw.proofs.readers.Points.{eat-route}
+use Rattle.raw.proofs.readers.Points.{chain-route, less-route, loop-route, under-route, put-route}
 use Rattle.raw.proofs.grammar.Early.{EarlyOut, chain-early, under-early, loop-early}
 
 -- ---- the words
@@ -38,7 +39,7 @@ use Rattle.raw.proofs.grammar.Early.{EarlyOut, chain-early, under-early
 -- from the point σ, by `again` to α, else to ω
 pub record Core {O : Order Row} (σ α ω : Point O) (f : Reader) : Type 0 where
   pub kept : Kept 0 0 1 f
-  pub moves : (s : List ℕ) (p : ℕ) → MovesOut σ α ω p (f s p)
+  pub route : (s : List ℕ) (p : ℕ) → RouteOut σ α ω p (f s p)
   pub early : (s : List ℕ) (p : ℕ) → EarlyOut s (f s p)
 
 pub record Laws {O : Order Row} (σ α ω : Point O) (f : Reader) : Type 0 where
@@ -53,24 +54,24 @@ module _ {O : Order Row} where
   then-core {f = f} {g = g} F G =
       record {
         kept = then-kept (F .kept) (G .kept) (omega arith);
-        moves = λ s p. chain-moves (g s) (F .moves s p) (G .moves s);
+        route = λ s p. chain-route (g s) (F .route s p) (G .route s);
         early = λ s p. chain-early s (f s p) (g s) (F .early s p) (G .early s);
       }
 
   module _ {P P′ : O .State → Type 0} {e n : ℕ} {α : Point O} {m : Mark} (t : Takes O m P P′) where
     pub put-core : (x y : ℕ) → Core (at e (suc n) P) α (at e n P′) (put m x y)
-    put-core x y = record { kept = put-kept m x y; moves = λ s p. put-moves t; early = λ s p. tt }
+    put-core x y = record { kept = put-kept m x y; route = λ s p. put-route t; early = λ s p. tt }
 
     pub from-core : {ω : Point O} (x : ℕ) {f : Reader} → Core (at e n P′) α ω f → Core (at e (suc n) P) α ω (overFrom m x f)
     from-core x {f} F =
         record {
           kept = from-kept m x (F .kept);
-          moves = λ s p. under-moves t x (F .moves s p);
+          route = λ s p. under-route t x (F .route s p);
           early = λ s p. under-early s (marked m x) (f s p) (F .early s p);
         }
 
   pub less-core : {σ α ω ω′ : Point O} {f : Reader} → Core σ α ω f → AtLeast ω ω′ → Core σ α ω′ f
-  less-core F h = record { kept = F .kept; moves = λ s p. less-moves h (F .moves s p); early = F .early }
+  less-core F h = record { kept = F .kept; route = λ s p. less-route h (F .route s p); early = F .early }
 
 -- ---- readers without parts
 
@@ -81,7 +82,7 @@ Met reason = (4 ≤ numberOf reason) × (numberOf reason ≤ 10)
 pub stop-laws : {O : Order Row} {σ α : Point O} → Laws σ α σ stop
 stop-laws =
     record {
-      core = record { kept = stop-kept; moves = λ s p. done (stay p same); early = λ s p. tt };
+      core = record { kept = stop-kept; route = λ s p. done (stay p same); early = λ s p. tt };
       traced = λ s p. none;
       shift = λ x. stop-shifts;
     }
@@ -90,7 +91,7 @@ module _ {O : Order Row} {σ α ω : Point O} where
   pub turn-laws : (a : ℕ) → AtLeast σ α → Laws σ α ω (turn a)
   turn-laws a h =
       record {
-        core = record { kept = turn-kept a; moves = λ s p. goes (stay p h); early = λ s p. tt };
+        core = record { kept = turn-kept a; route = λ s p. goes (stay p h); early = λ s p. tt };
         traced = λ s p. none;
         shift = λ x. turn-shifts a;
       }
@@ -98,7 +99,7 @@ module _ {O : Order Row} {σ α ω : Point O} where
   pub refuse-laws : (reason : Reason) → Met reason → Laws σ α ω (refuse reason)
   refuse-laws reason m =
       record {
-        core = record { kept = refuse-kept reason; moves = λ s p. fails; early = λ s p e. absurd (omega (arith, m .0)) };
+        core = record { kept = refuse-kept reason; route = λ s p. refuses; early = λ s p e. absurd (omega (arith, m .0)) };
         traced = λ s p. record { place = here; empty = refl; least = omega (arith, m .0); most = m .1 };
         shift = λ x. refuse-shifts reason;
       }
@@ -110,9 +111,9 @@ module _ {O : Order Row} {σ α ω : Point O} where
       record {
         core = record {
           kept = when-kept t (F .core .kept) (G .core .kept) (omega arith);
-          moves = λ s p.
-              eaten-holds (MovesOut σ α ω p) t (see s p) (f s) (g s p)
-              (λ k n x. eat-moves (see-ahead s p k n x .0) (F .core .moves s n)) (G .core .moves s p);
+          route = λ s p.
+              eaten-holds (RouteOut σ α ω p) t (see s p) (f s) (g s p)
+              (λ k n x. eat-route (see-ahead s p k n x .0) (F .core .route s n)) (G .core .route s p);
           early = λ s p. eaten-holds (EarlyOut s) t (see s p) (f s) (g s p) (λ k n x. F .core .early s n) (G .core .early s p);
         };
         traced = λ s p. eaten-holds (Traced s p) t (see s p) (f s) (g s p) (λ k n x. eat-traced s p k n (f s n) x (F .traced s n)) (G .traced s p);
@@ -124,7 +125,7 @@ module _ {O : Order Row} {σ α ω : Point O} where
       record {
         core = record {
           kept = sees-kept t (F .core .kept) (G .core .kept) (omega arith);
-          moves = λ s p. eaten-holds (MovesOut σ α ω p) t (see s p) (λ n. f s p) (g s p) (λ k n x. F .core .moves s p) (G .core .moves s p);
+          route = λ s p. eaten-holds (RouteOut σ α ω p) t (see s p) (λ n. f s p) (g s p) (λ k n x. F .core .route s p) (G .core .route s p);
           early = λ s p. eaten-holds (EarlyOut s) t (see s p) (λ n. f s p) (g s p) (λ k n x. F .core .early s p) (G .core .early s p);
         };
         traced = λ s p. eaten-holds (Traced s p) t (see s p) (λ n. f s p) (g s p) (λ k n x. F .traced s p) (G .traced s p);
@@ -135,15 +136,15 @@ module _ {O : Order Row} {σ α ω : Point O} where
 
 -- a turn that goes on eats
 module _ {O : Order Row} {σ ω : Point O} where
-  turn-advances : {p : ℕ} (n : ℕ) {o : Out} → MovesOut σ (onward σ) ω p o → Advances 0 0 p n o → Advances 1 0 p n o
+  turn-advances : {p : ℕ} (n : ℕ) {o : Out} → RouteOut σ (onward σ) ω p o → Advances 0 0 p n o → Advances 1 0 p n o
   turn-advances n (done x) y = y
   turn-advances n (goes x) y = omega (arith, x .eats)
-  turn-advances n fails y = tt
+  turn-advances n refuses y = tt
 
   pub going : {f : Reader} → Laws σ (onward σ) ω f → Kept 1 0 1 f
   going F =
       record {
-        advances = λ s p. turn-advances (length s) (F .core .moves s p) (F .core .kept .advances s p);
+        advances = λ s p. turn-advances (length s) (F .core .route s p) (F .core .kept .advances s p);
         local = F .core .kept .local;
       }
 
@@ -164,7 +165,7 @@ module _ {O : Order Row} {α ω : Point O} where
       record {
         core = record {
           kept = over-kept m (F .core .kept);
-          moves = λ s p. under-moves t p (F .core .moves s p);
+          route = λ s p. under-route t p (F .core .route s p);
           early = λ s p. under-early s (marked m p) (f s p) (F .core .early s p);
         };
         traced = λ s p. lay-traced s p m (f s p) d (F .traced s p);
@@ -177,7 +178,7 @@ module _ {O : Order Row} {α ω : Point O} where
       record {
         core = record {
           kept = many-kept (λ a. going (F a)) a;
-          moves = λ s p. loop-moves f (λ a. F a .core .moves) s (suc (length s)) a p;
+          route = λ s p. loop-route f (λ a. F a .core .route) s (suc (length s)) a p;
           early = λ s p. loop-early (λ a. going (F a)) (λ a. F a .core .early) s (suc (length s)) a p (omega arith);
         };
         traced = λ s p. loop-traced f (λ a. F a .traced) s (suc (length s)) a p;
@@ -197,7 +198,7 @@ module _ {O : Order Row} {α ω : Point O} where
             local = λ s t p q h i e.
                 sym (u t p) ∙ F .core .kept .local s t p q (subst (λ (o : Out). Stops o q) (sym (u s p)) h) i e ∙ u s p;
           };
-          moves = λ s p. subst (MovesOut σ α ω p) (u s p) (F .core .moves s p);
+          route = λ s p. subst (RouteOut σ α ω p) (u s p) (F .core .route s p);
           early = λ s p. subst (EarlyOut s) (u s p) (F .core .early s p);
         };
         traced = λ s p. subst (Traced s p) (u s p) (F .traced s p);

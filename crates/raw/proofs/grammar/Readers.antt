@@ -1,6 +1,6 @@
 -- The laws of every reader of the grammar, in the order of specs/Grammar.antt: x-laws is of the reader x. A new reader is entered
 -- here once. Its points say which bytes pay for its rows, and which rows may come before and after it. A reader without rows leads
--- from any point σ to the same point, or to `ate σ` if it must eat a character. Entries and the file are in Entries.antt.
+-- from any point σ to the same point, or to `ate σ` if it must eat a character. Entries.antt and Files.antt go on.
 --     from-start                                      the laws of a reader, where it does not matter from which point
 --     quoted-turn-kept, number-turn-kept, braced-turn-kept        what the turns of the loops over bytes keep
 -- Assumes nothing.
@@ -23,7 +23,7 @@ use Rattle.raw.specs.Grammar.{numberTurn, number, bracedTurn, inBraces, 
 use Rattle.raw.specs.Grammar.{field, fieldEnd, fieldsTurn, fields, key, strings, preamble, commented, body, lead}
 use Rattle.raw.proofs.readers.Kept.{Kept}
 use Rattle.raw.proofs.readers.Points.{Order, Point, ate, onward, same, back, past, far, fewer, wider, Takes}
-use Rattle.raw.proofs.grammar.RowOrder.{rules, awaiting, start, Is, is-in, Chunk, more, Part, at-chunks, literal-takes, name-takes}
+use Rattle.raw.proofs.grammar.RowOrder.{rules, awaiting, start, Is, is-in, Chunk, next-chunk, Part, at-chunks, literal-takes, name-takes}
 use Rattle.raw.proofs.grammar.RowOrder.{value-takes, field-takes, definition-takes, preamble-takes, key-takes}
 use Rattle.row.specs.Rules.{Await, value, chunks}
 use Rattle.row.specs.Rules as awaits
@@ -149,7 +149,7 @@ abbr-turn-laws : (f : Bool) {e n : ℕ} (a : ℕ)
 unfolding abbrTurn
 abbr-turn-laws f a =
     abbr-element-laws f then-laws white-laws then-laws
-    when-laws (holdsOf test.Hash) (white-laws then-laws turn-laws 0 (wider (omega arith) (is-in (Chunk f) more))) stop-laws
+    when-laws (holdsOf test.Hash) (white-laws then-laws turn-laws 0 (wider (omega arith) (is-in (Chunk f) next-chunk))) stop-laws
 
 abbr-field-laws : (f : Bool) {e n : ℕ} {α : Point rules}
     → Laws (awaiting e (suc (suc n)) (Is (value f))) α (awaiting e n (Is (chunks f))) abbrField
@@ -173,13 +173,13 @@ field-end-laws =
 -- their names, of kind k, may come where P is awaited. A field has three rows: its name's first character pays for one, its "="
 -- for another, and the comma before it for the third
 module _ {P : Await → Type 0} (k : Kind) (f : Bool) (d : eqb (kindOf k) 9 ≡ false) (t : Takes rules (plain k) P (Is (value f)))
-    (back : P (chunks f)) {e n : ℕ} where
+    (again : P (chunks f)) {e n : ℕ} where
   field-laws : {α : Point rules} → Laws (awaiting e (suc n) P) α (awaiting e n P) (field k)
   unfolding field
   field-laws =
       less-laws
       (over-laws d t ident-laws then-laws white-laws then-laws equals-laws then-laws white-laws then-laws
-      abbr-field-laws f then-laws white-laws then-laws comment-laws) (wider (omega arith) (is-in P back))
+      abbr-field-laws f then-laws white-laws then-laws comment-laws) (wider (omega arith) (is-in P again))
 
   fields-turn-laws : (a : ℕ) → Laws (awaiting e (suc n) P) (awaiting (suc e) (suc n) P) (awaiting e n P) (fieldsTurn k a)
   unfolding fieldsTurn

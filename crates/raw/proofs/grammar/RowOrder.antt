@@ -1,7 +1,7 @@
--- The order of rows that 01's rules ask, as an order of points: what is awaited, and which row leads from what to what.
---     rules                       the order
+-- The order of rows that 01's rules ask: what may be awaited, and what a row of each kind leads to.
+--     rules, awaiting, start      the order, and its points
 --     Is, Chunk, Part             what is awaited
---     x-takes                     by a row of the kind x
+--     x-takes                     a row of the kind x, from what is awaited before it to what is awaited after it
 -- Assumes nothing.
 use Prim.Native.Nat.{ℕ}
 use mathlib.Core.Path.{_≡_, refl}
@@ -26,21 +26,22 @@ rules = record { State = Await; run = run; run-none = run-none; run-append = run
 abbrev pub awaiting : ℕ → ℕ → (Await → Type 0) → Point rules
 awaiting e n P = at e n P
 
--- the point of laws that speak of none
+-- some point, for the laws of a reader that do not speak of points
 abbrev pub start : Point rules
 start = awaiting 0 2 Free
 
 -- ---- what is awaited
 
+-- exactly b
 pub data Is (b : Await) : Await → Type 0 where
   is-it : Is b b
 
--- a literal or a name, of a value
+-- a value's first literal or name, or another one
 pub data Chunk (f : Bool) : Await → Type 0 where
-  first : Chunk f (chunk f)
-  more : Chunk f (chunks f)
+  first-chunk : Chunk f (chunk f)
+  next-chunk : Chunk f (chunks f)
 
--- a part of the sequence; and where f is true, a field
+-- a part of the sequence, or another literal or name; and a field, where f is true
 pub data Part : Bool → Await → Type 0 where
   at-part : {f : Bool} → Part f (part f)
   at-chunks : {f : Bool} → Part f (chunks f)
@@ -49,6 +50,7 @@ pub part-free : {f : Bool} (a : Await) → Part f a → Free a
 part-free a (at-part {f}) = none f
 part-free a (at-chunks {f}) = one f
 
+-- what holds of b holds of whatever is b
 pub is-in : (P : Await → Type 0) {b : Await} → P b → (a : Await) → Is b a → P a
 is-in P x a is-it = x
 
@@ -60,23 +62,23 @@ take k d h = record { takes = λ a x y z. rw d (h a z) }
 
 literal-next : (f : Bool) (a : Await) → Chunk f a → Is (chunks f) (next a 6)
 unfolding next
-literal-next f a first = is-it
-literal-next f a more = is-it
+literal-next f a first-chunk = is-it
+literal-next f a next-chunk = is-it
 
 pub literal-takes : (f : Bool) → Takes rules (plain kind.Literal) (Chunk f) (Is (chunks f))
 literal-takes f = take kind.Literal refl (literal-next f)
 
 name-next : (f : Bool) (a : Await) → Chunk f a → Is (chunks f) (next a 7)
 unfolding next
-name-next f a first = is-it
-name-next f a more = is-it
+name-next f a first-chunk = is-it
+name-next f a next-chunk = is-it
 
 pub name-takes : (f : Bool) → Takes rules (plain kind.Name) (Chunk f) (Is (chunks f))
 name-takes f = take kind.Name refl (name-next f)
 
 value-next : (f : Bool) (a : Await) → Is (value f) a → Chunk f (next a 5)
 unfolding next
-value-next f a is-it = first
+value-next f a is-it = first-chunk
 
 pub value-takes : (f : Bool) → Takes rules (plain kind.Value) (Is (value f)) (Chunk f)
 value-takes f = take kind.Value refl (value-next f)

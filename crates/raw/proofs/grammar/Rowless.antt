@@ -14,7 +14,7 @@ use Rattle.raw.specs.declared.answer.Step.the-variants as step
 use Rattle.raw.specs.Reader.{Out, ok, again, bad, Reader}
 use Rattle.raw.specs.Says.{stepOf}
 use Rattle.row.specs.Row.{Row}
-use Rattle.raw.proofs.readers.Points.{Order, Point, at, MovesOut, done, goes, fails}
+use Rattle.raw.proofs.readers.Points.{Order, Point, at, RouteOut, done, goes, refuses}
 use Rattle.raw.specs.Grammar.{comma, atSign, opening, closing, quote, equals, comment, key, ident, quoted, number, inBraces, string, lead}
 use Rattle.raw.proofs.grammar.Laws.{Laws}
 use Rattle.raw.proofs.grammar.Readers.{comment-laws, key-laws, ident-laws, comma-laws, at-sign-laws, opening-laws, closing-laws, quote-laws}
@@ -43,25 +43,25 @@ rowless-off o e p = off-was o (sym p ∙ e)
 
 -- ---- a reader without rows
 
--- the order of lists: each part comes behind those before it
+-- an order that remembers all rows: a reader that leads from no row to no row has put none
 abbrev pub listed : Order Row
 listed = record { State = List Row; run = λ rs ss. rs ++ ss; run-none = append-nil; run-append = λ rs ss us. sym (append-assoc rs ss us) }
 
--- no row; and no point at all
+-- a point before which no row was put; and one that is never reached
 abbrev pub unrowed : ℕ → ℕ → Point listed
 unrowed e n = at e n (λ rs. rs ≡ [])
 
-abbrev pub nowhere : Point listed
-nowhere = at 0 0 (λ rs. ⊥)
+abbrev pub never : Point listed
+never = at 0 0 (λ rs. ⊥)
 
-rowless-moves : {e n p : ℕ} {o : Out} → MovesOut (unrowed 0 0) nowhere (unrowed e n) p o → Rowless o
-rowless-moves (done {q} x) = subst (λ (rs : List Row). Rowless (ok q rs)) (sym (x .follows [] refl)) rowless-ok
-rowless-moves (goes x) = absurd (x .follows [] refl)
-rowless-moves fails = rowless-bad
+rowless-route : {e n p : ℕ} {o : Out} → RouteOut (unrowed 0 0) never (unrowed e n) p o → Rowless o
+rowless-route (done {q} x) = subst (λ (rs : List Row). Rowless (ok q rs)) (sym (x .follows [] refl)) rowless-ok
+rowless-route (goes x) = absurd (x .follows [] refl)
+rowless-route refuses = rowless-bad
 
 -- a reader that has the laws from any point puts no row, and is no turn
-pub rowless : {e n : ℕ} {f : Reader} → Laws (unrowed 0 0) nowhere (unrowed e n) f → (s : List ℕ) (p : ℕ) → Rowless (f s p)
-rowless F s p = rowless-moves (F .core .moves s p)
+pub rowless : {e n : ℕ} {f : Reader} → Laws (unrowed 0 0) never (unrowed e n) f → (s : List ℕ) (p : ℕ) → Rowless (f s p)
+rowless F s p = rowless-route (F .core .route s p)
 
 module _ (s : List ℕ) (i : ℕ) where
   pub comment-rowless : Rowless (comment s i)

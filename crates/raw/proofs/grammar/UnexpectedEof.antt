@@ -20,7 +20,7 @@ use Rattle.raw.specs.Strict.{beginsValue}
 use Rattle.raw.proofs.readers.Trace.{here, Traced, eat-traced}
 use Rattle.raw.proofs.readers.Kept.{refuse-kept, eaten-holds, when-kept, sees-kept}
 use Rattle.raw.proofs.readers.Shifts.{refuse-shifts, when-shifts, sees-shifts}
-use Rattle.raw.proofs.readers.Points.{Order, Point, ate, MovesOut, fails, eat-moves}
+use Rattle.raw.proofs.readers.Points.{Order, Point, ate, RouteOut, refuses, eat-route}
 use Rattle.raw.proofs.grammar.Early.{EarlyOut, eaten-else, any-early, no-value}
 use Rattle.raw.proofs.grammar.Laws.{Laws}
 
@@ -33,9 +33,9 @@ module _ {O : Order Row} {σ α ω : Point O} where
       record {
         core = record {
           kept = when-kept any (F .core .kept) (refuse-kept UnexpectedEof) (omega arith);
-          moves = λ s p.
-              eaten-holds (MovesOut σ α ω p) any (see s p) (f s) (bad (faultAt UnexpectedEof p))
-              (λ k n x. eat-moves (see-ahead s p k n x .0) (F .core .moves s n)) fails;
+          route = λ s p.
+              eaten-holds (RouteOut σ α ω p) any (see s p) (f s) (bad (faultAt UnexpectedEof p))
+              (λ k n x. eat-route (see-ahead s p k n x .0) (F .core .route s n)) refuses;
           early = λ s p. any-early s p (f s) (F .core .early s);
         };
         traced = λ s p.
@@ -49,8 +49,8 @@ module _ {O : Order Row} {σ α ω : Point O} where
       record {
         core = record {
           kept = sees-kept any (F .core .kept) (refuse-kept UnexpectedEof) (omega arith);
-          moves = λ s p.
-              eaten-holds (MovesOut σ α ω p) any (see s p) (λ n. f s p) (bad (faultAt UnexpectedEof p)) (λ k n x. F .core .moves s p) fails;
+          route = λ s p.
+              eaten-holds (RouteOut σ α ω p) any (see s p) (λ n. f s p) (bad (faultAt UnexpectedEof p)) (λ k n x. F .core .route s p) refuses;
           early = λ s p. any-early s p (λ n. f s p) (λ n. F .core .early s p);
         };
         traced = λ s p.
@@ -79,8 +79,8 @@ module _ {O : Order Row} {σ α ω : Point O} {f g h k : Reader}
           kept =
               sees-kept (holdsOf test.Digit) (F .core .kept) (sees-kept isIdStart (G .core .kept) (sees-kept (is 0x7B) (H .core .kept)
               (sees-kept (is 0x22) (K .core .kept) (refuse-kept UnexpectedEof) (omega arith)) (omega arith)) (omega arith)) (omega arith);
-          moves = λ s p.
-              value-by (MovesOut σ α ω p) s p (F .core .moves s p) (G .core .moves s p) (H .core .moves s p) (K .core .moves s p) (λ e. fails);
+          route = λ s p.
+              value-by (RouteOut σ α ω p) s p (F .core .route s p) (G .core .route s p) (H .core .route s p) (K .core .route s p) (λ e. refuses);
           early = λ s p. value-by (EarlyOut s) s p (F .core .early s p) (G .core .early s p) (H .core .early s p) (K .core .early s p) (λ e x. e);
         };
         traced = λ s p. value-by (Traced s p) s p (F .traced s p) (G .traced s p) (H .traced s p) (K .traced s p) (λ e. eof-traced s p);

@@ -3,7 +3,7 @@
 -- follow each other compose, and nothing is added up. Every row takes a byte: a text has no more rows than bytes. For parts of any type.
 --     Order, Point, at, ate, onward       the words
 --     AtLeast                             one point offers what another asks: `same`, `back`, `past`, `far`, `fewer`, `wider`
---     Moves, MovesOut                     the way from a point to another, by places and parts; of an answer
+--     Route, RouteOut                     from a point at a place to another point at another, with these parts; of an answer
 --     Takes                               a row leads from what is awaited to what is awaited then
 -- Assumes nothing.
 use Prim.Native.Nat.{ℕ, zero, suc, _+_, _≤_, _<_}
@@ -48,16 +48,16 @@ module _ {T : Type 0} {O : Order T} where
     pub awaits : (a : O .State) → σ .awaits a → τ .awaits a
 
   -- from the point σ at the place p to the point ω at the place q, with these parts
-  pub record Moves (σ ω : Point O) (p q : ℕ) (rs : List T) : Type 0 where
+  pub record Route (σ ω : Point O) (p q : ℕ) (rs : List T) : Type 0 where
     pub eats : p + ω .eaten ≤ q + σ .eaten
     pub pays : length rs + p + ω .spare ≤ q + σ .spare
     pub follows : (a : O .State) → σ .awaits a → ω .awaits (O .run a rs)
 
   -- of an answer: one that says `again` stands at α, one that is done at ω
-  pub data MovesOut (σ α ω : Point O) (p : ℕ) : OutOf T → Type 0 where
-    done : {q : ℕ} {rs : List T} → Moves σ ω p q rs → MovesOut σ α ω p (ok q rs)
-    goes : {q a : ℕ} {rs : List T} → Moves σ α p q rs → MovesOut σ α ω p (again q rs a)
-    fails : {f : Fault} → MovesOut σ α ω p (bad f)
+  pub data RouteOut (σ α ω : Point O) (p : ℕ) : OutOf T → Type 0 where
+    done : {q : ℕ} {rs : List T} → Route σ ω p q rs → RouteOut σ α ω p (ok q rs)
+    goes : {q a : ℕ} {rs : List T} → Route σ α p q rs → RouteOut σ α ω p (again q rs a)
+    refuses : {f : Fault} → RouteOut σ α ω p (bad f)
 
   -- ---- at least
 
@@ -82,7 +82,7 @@ module _ {T : Type 0} {O : Order T} where
 
   -- ---- the ways
 
-  pub stay : {σ τ : Point O} (p : ℕ) → AtLeast σ τ → Moves σ τ p p []
+  pub stay : {σ τ : Point O} (p : ℕ) → AtLeast σ τ → Route σ τ p p []
   stay {σ} {τ} p h =
       record {
         eats = omega (arith, h .eaten);
@@ -90,7 +90,7 @@ module _ {T : Type 0} {O : Order T} where
         follows = λ a x. subst (τ .awaits) (sym (O .run-none a)) (h .awaits a x);
       }
 
-  pub join : {σ τ ω : Point O} {p q r : ℕ} {rs ss : List T} → Moves σ τ p q rs → Moves τ ω q r ss → Moves σ ω p r (rs ++ ss)
+  pub join : {σ τ ω : Point O} {p q r : ℕ} {rs ss : List T} → Route σ τ p q rs → Route τ ω q r ss → Route σ ω p r (rs ++ ss)
   join {ω = ω} {rs = rs} {ss = ss} x y =
       record {
         eats = omega (arith, x .eats, y .eats);
@@ -98,7 +98,7 @@ module _ {T : Type 0} {O : Order T} where
         follows = λ a h. subst (ω .awaits) (sym (O .run-append a rs ss)) (y .follows _ (x .follows a h));
       }
 
-  pub less : {σ τ ω : Point O} {p q : ℕ} {rs : List T} → AtLeast τ ω → Moves σ τ p q rs → Moves σ ω p q rs
+  pub less : {σ τ ω : Point O} {p q : ℕ} {rs : List T} → AtLeast τ ω → Route σ τ p q rs → Route σ ω p q rs
   less h x =
       record {
         eats = omega (arith, h .eaten, x .eats);
@@ -107,45 +107,45 @@ module _ {T : Type 0} {O : Order T} where
       }
 
   -- behind a byte
-  byte : {σ ω : Point O} {p n q : ℕ} {rs : List T} → p < n → Moves (ate σ) ω n q rs → Moves σ ω p q rs
+  byte : {σ ω : Point O} {p n q : ℕ} {rs : List T} → p < n → Route (ate σ) ω n q rs → Route σ ω p q rs
   byte h x = record { eats = omega (arith, x .eats); pays = omega (arith, x .pays); follows = x .follows }
 
   -- ---- of answers
 
   module _ {α ω : Point O} where
-    pub eat-moves : {σ : Point O} {p n : ℕ} {o : OutOf T} → p < n → MovesOut (ate σ) α ω n o → MovesOut σ α ω p o
-    eat-moves h (done x) = done (byte h x)
-    eat-moves h (goes x) = goes (byte h x)
-    eat-moves h fails = fails
+    pub eat-route : {σ : Point O} {p n : ℕ} {o : OutOf T} → p < n → RouteOut (ate σ) α ω n o → RouteOut σ α ω p o
+    eat-route h (done x) = done (byte h x)
+    eat-route h (goes x) = goes (byte h x)
+    eat-route h refuses = refuses
 
-    more-moves : {σ τ : Point O} {p q : ℕ} {rs : List T} {o : OutOf T} → Moves σ τ p q rs → MovesOut τ α ω q o → MovesOut σ α ω p (more rs o)
-    more-moves x (done y) = done (join x y)
-    more-moves x (goes y) = goes (join x y)
-    more-moves x fails = fails
+    more-route : {σ τ : Point O} {p q : ℕ} {rs : List T} {o : OutOf T} → Route σ τ p q rs → RouteOut τ α ω q o → RouteOut σ α ω p (more rs o)
+    more-route x (done y) = done (join x y)
+    more-route x (goes y) = goes (join x y)
+    more-route x refuses = refuses
 
-    pub chain-moves : {σ τ : Point O} {p : ℕ} {o : OutOf T} (g : ℕ → OutOf T) → MovesOut σ τ τ p o → ((q : ℕ) → MovesOut τ α ω q (g q))
-        → MovesOut σ α ω p (andThen o g)
-    chain-moves g (done {q} x) G = more-moves x (G q)
-    chain-moves g (goes {q} x) G = more-moves x (G q)
-    chain-moves g fails G = fails
+    pub chain-route : {σ τ : Point O} {p : ℕ} {o : OutOf T} (g : ℕ → OutOf T) → RouteOut σ τ τ p o → ((q : ℕ) → RouteOut τ α ω q (g q))
+        → RouteOut σ α ω p (andThen o g)
+    chain-route g (done {q} x) G = more-route x (G q)
+    chain-route g (goes {q} x) G = more-route x (G q)
+    chain-route g refuses G = refuses
 
-    pub less-moves : {σ ω′ : Point O} {p : ℕ} {o : OutOf T} → AtLeast ω ω′ → MovesOut σ α ω p o → MovesOut σ α ω′ p o
-    less-moves h (done x) = done (less h x)
-    less-moves h (goes x) = goes x
-    less-moves h fails = fails
+    pub less-route : {σ ω′ : Point O} {p : ℕ} {o : OutOf T} → AtLeast ω ω′ → RouteOut σ α ω p o → RouteOut σ α ω′ p o
+    less-route h (done x) = done (less h x)
+    less-route h (goes x) = goes x
+    less-route h refuses = refuses
 
     -- a turn that goes on leads from σ to σ again
-    after-moves : {σ : Point O} {p : ℕ} {o : OutOf T} (g : ℕ → ℕ → OutOf T) → MovesOut σ (onward σ) ω p o
-        → ((b q : ℕ) → MovesOut σ α ω q (g b q)) → MovesOut σ α ω p (after o g)
-    after-moves g (done x) G = done x
-    after-moves g (goes {q} {a} x) G = more-moves (less (fewer (omega arith)) x) (G a q)
-    after-moves g fails G = fails
+    after-route : {σ : Point O} {p : ℕ} {o : OutOf T} (g : ℕ → ℕ → OutOf T) → RouteOut σ (onward σ) ω p o
+        → ((b q : ℕ) → RouteOut σ α ω q (g b q)) → RouteOut σ α ω p (after o g)
+    after-route g (done x) G = done x
+    after-route g (goes {q} {a} x) G = more-route (less (fewer (omega arith)) x) (G a q)
+    after-route g refuses G = refuses
 
-    pub loop-moves : {σ : Point O} (f : ℕ → ReaderOf T) → ((a : ℕ) (s : List ℕ) (p : ℕ) → MovesOut σ (onward σ) ω p (f a s p))
-        → (s : List ℕ) (n a p : ℕ) → MovesOut σ α ω p (loop f n a s p)
+    pub loop-route : {σ : Point O} (f : ℕ → ReaderOf T) → ((a : ℕ) (s : List ℕ) (p : ℕ) → RouteOut σ (onward σ) ω p (f a s p))
+        → (s : List ℕ) (n a p : ℕ) → RouteOut σ α ω p (loop f n a s p)
     unfolding loop
-    loop-moves f F s zero a p = fails
-    loop-moves f F s (suc n) a p = after-moves (λ b q. loop f n b s q) (F a s p) (loop-moves f F s n)
+    loop-route f F s zero a p = refuses
+    loop-route f F s (suc n) a p = after-route (λ b q. loop f n b s q) (F a s p) (loop-route f F s n)
 
 -- ---- rows
 
@@ -155,7 +155,7 @@ pub record Takes (O : Order Row) (m : Mark) (P P′ : O .State → Type 0) : Typ
 
 module _ {O : Order Row} {P P′ : O .State → Type 0} {e n : ℕ} {m : Mark} (t : Takes O m P P′) where
   -- a row takes a byte
-  lay : {ω : Point O} {p q x y : ℕ} {rs : List Row} → Moves (at e n P′) ω p q rs → Moves (at e (suc n) P) ω p q (marked m x y ∷ rs)
+  lay : {ω : Point O} {p q x y : ℕ} {rs : List Row} → Route (at e n P′) ω p q rs → Route (at e (suc n) P) ω p q (marked m x y ∷ rs)
   lay {ω} {x = x} {y = y} {rs = rs} h =
       record {
         eats = omega (arith, h .eats);
@@ -163,10 +163,10 @@ module _ {O : Order Row} {P P′ : O .State → Type 0} {e n : ℕ} {m : Mark} (
         follows = λ a z. subst (ω .awaits) (sym (O .run-append a (marked m x y ∷ []) rs)) (h .follows _ (t .takes a x y z));
       }
 
-  pub under-moves : {α ω : Point O} {p : ℕ} {o : Out} (x : ℕ) → MovesOut (at e n P′) α ω p o → MovesOut (at e (suc n) P) α ω p (under (marked m x) o)
-  under-moves x (done h) = done (lay h)
-  under-moves x (goes h) = goes (lay h)
-  under-moves x fails = fails
+  pub under-route : {α ω : Point O} {p : ℕ} {o : Out} (x : ℕ) → RouteOut (at e n P′) α ω p o → RouteOut (at e (suc n) P) α ω p (under (marked m x) o)
+  under-route x (done h) = done (lay h)
+  under-route x (goes h) = goes (lay h)
+  under-route x refuses = refuses
 
-  pub put-moves : {α : Point O} {p x y : ℕ} → MovesOut (at e (suc n) P) α (at e n P′) p (ok p (marked m x y ∷ []))
-  put-moves {p = p} = done (lay (stay p same))
+  pub put-route : {α : Point O} {p x y : ℕ} → RouteOut (at e (suc n) P) α (at e n P′) p (ok p (marked m x y ∷ []))
+  put-route {p = p} = done (lay (stay p same))

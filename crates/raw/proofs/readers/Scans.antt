@@ -26,9 +26,9 @@ module _ {P : Type 0} (t : ℕ → Bool) (s : List ℕ) where
   scan-stop : (a p : ℕ) → p < length s → t (code (drop p s)) ≡ false → many {P = P} (scanTurn t) a s p ≡ ok (skip t s p) []
   scan-stop a p h q = many-turn (scan-turn-kept t) a s p ∙ rw (see-at s p h, q, skip-stop t s p h q)
 
-  scan-on : (a p n : ℕ) → p < length s → t (code (drop p s)) ≡ true → p + 1 + rest (drop p s) ≡ n
+  scan-eats : (a p n : ℕ) → p < length s → t (code (drop p s)) ≡ true → p + 1 + rest (drop p s) ≡ n
       → many {P = P} (scanTurn t) a s n ≡ ok (skip t s n) [] → many {P = P} (scanTurn t) a s p ≡ ok (skip t s p) []
-  scan-on a p n h q d e = many-turn (scan-turn-kept t) a s p ∙ rw (see-at s p h, q, d, e, skip-on t s p h q, d)
+  scan-eats a p n h q d e = many-turn (scan-turn-kept t) a s p ∙ rw (see-at s p h, q, d, e, skip-on t s p h q, d)
 
   -- with k octets at most to go
   scan-by : (k a p : ℕ) → length s ≤ p + k → many {P = P} (scanTurn t) a s p ≡ ok (skip t s p) []
@@ -40,7 +40,7 @@ module _ {P : Type 0} (t : ℕ → Bool) (s : List ℕ) where
           → many {P = P} (scanTurn t) a s p ≡ ok (skip t s p) []
       by false c x y ih = scan-end a p (ltb-false p (length s) x)
       by true false x y ih = scan-stop a p (ltb-true p (length s) x) y
-      by true true x y ih = scan-on a p (p + 1 + rest (drop p s)) (ltb-true p (length s) x) y refl (ih _ (omega arith))
+      by true true x y ih = scan-eats a p (p + 1 + rest (drop p s)) (ltb-true p (length s) x) y refl (ih _ (omega arith))
 
   pub scan-skip : (p : ℕ) → scan {P = P} t s p ≡ ok (skip t s p) []
   scan-skip p = scan-by (length s) 0 p (omega arith)

@@ -27,7 +27,7 @@ use Rattle.raw.specs.Reader.{Out, ok, again, bad}
 use Rattle.raw.specs.Grammar.{white, fileTurn, file}
 use Rattle.raw.specs.Strict.{Fresh, shifted}
 use Rattle.raw.proofs.grammar.Readers.{from-start, white-laws}
-use Rattle.raw.proofs.grammar.Entries.{file-turn-laws, file-laws}
+use Rattle.raw.proofs.grammar.Files.{file-turn-laws, file-laws}
 use Rattle.salvage.specs.Salvage.{head, newline, Texts, push, cut}
 use Rattle.salvage.specs.Demand3.{lined, fresh, Boundary, line, Opens, here, later}
 use Rattle.salvage.proofs.cutting.ScanEnd.{true-not-false, scan-found, ok-place, white-found, white-scanned, white-stays}

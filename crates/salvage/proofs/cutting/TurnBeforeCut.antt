@@ -26,7 +26,8 @@ use Rattle.raw.specs.Strict.{Same}
 use Rattle.raw.proofs.readers.Kept.{Stops, Advances}
 use Rattle.raw.proofs.readers.Then.{more-none}
 use Rattle.raw.proofs.grammar.Readers.{from-start, white-laws, comment-laws}
-use Rattle.raw.proofs.grammar.Entries.{entry-kept, file-turn-kept}
+use Rattle.raw.proofs.grammar.Entries.{entry-kept}
+use Rattle.raw.proofs.grammar.Files.{file-turn-kept}
 use Rattle.salvage.proofs.cutting.ScanEnd.{Halts, Clear, Scanned, true-not-false, ok-place, scan-found, white-found, white-stays}
 
 -- ---- after the white space

@@ -22,7 +22,7 @@ use Rattle.raw.specs.Read.{strict}
 use Rattle.row.specs.Rules.{clean}
 use Rattle.raw.specs.Strict.{shifted}
 use Rattle.raw.proofs.grammar.Readers.{from-start}
-use Rattle.raw.proofs.grammar.Entries.{file-laws}
+use Rattle.raw.proofs.grammar.Files.{file-laws}
 use Rattle.raw.proofs.Strict.{strict-reading}
 use Rattle.raw.proofs.StrictSteps.{strict-ok, strict-is}
 use Rattle.row.proofs.numbers.Overlay.{moved-none}
