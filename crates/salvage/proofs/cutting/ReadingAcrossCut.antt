@@ -24,7 +24,7 @@ use Rattle.raw.proofs.readers.Then.{more-none}
 use Rattle.raw.proofs.Strict.{file-turn}
 use Rattle.salvage.specs.Demand3.{Opens, here, later}
 use Rattle.salvage.proofs.cutting.ScanEnd.{Halts, Clear, Scanned, ok-place, scan-found, white-found, white-scanned, white-stays}
-use Rattle.salvage.proofs.cutting.TurnBeforeCut.{item, turn-white, turn-sound, item-ok, Alike, white-cut, turn-cut}
+use Rattle.salvage.proofs.cutting.TurnBeforeCut.{item, turn-white, turn-ahead, item-ok, Alike, white-cut, turn-cut}
 
 -- ---- answers
 
@@ -59,7 +59,7 @@ file-later s p q a rs e = file-turn s p ∙ ap (λ (o : Out). after o (λ c q. f
 
 pub opens-from : {s : List ℕ} {p e : ℕ} → Opens s p e → p ≤ e
 opens-from {s} {p} {e} (here w x) = white-scanned s p e w .from
-opens-from {s} {p} {e} (later {q = q} {a = a} {rs = rs} t o) = omega (arith, opens-from o, turn-sound s p q a rs t)
+opens-from {s} {p} {e} (later {q = q} {a = a} {rs = rs} t o) = omega (arith, opens-from o, turn-ahead s p q a rs t)
 
 -- ---- the two texts
 
@@ -145,7 +145,7 @@ module _ (a s : List ℕ) (k : ℕ) (m : Meet a s k) where
       go : (o : Out) → fileTurn 0 a p ≡ o → after o (λ b i. file a i) ≡ ok q us → Through p us
       go (ok i rs) d f = subst (Through p) (ok-rows f) (last-through p i rs h d)
       go (again i rs b) d f =
-          let j = turn-sound a p i b rs d in
+          let j = turn-ahead a p i b rs d in
           let l : i ≤ suc k = omega (arith, m .size) in
           let t = turn-cut there p i b rs d l in
           let x = more-ok rs (file a i) q us f in
