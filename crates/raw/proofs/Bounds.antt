@@ -41,10 +41,12 @@ module _ (len w p : ℕ) where
     off-within e = subst (Within len w p n) (sym e) tt
 
     module _ (v : ℕ) where
-      pub again-place : {r : Turn} {q m : ℕ} → r ≡ turn.Again q m → WithinTurn len v w p n r → p ≤ len → (p + v ≤ q) × (q ≤ len) × (m + 8 * p ≤ n + 8 * q)
+      pub again-place : {r : Turn} {q m : ℕ} → r ≡ turn.Again q m → WithinTurn len v w p n r → p ≤ len →
+          (p + v ≤ q) × (q ≤ len) × (m + 8 * p ≤ n + 8 * q)
       again-place e h l = let k = subst (WithinTurn len v w p n) e h in (k .0, omega arith, k .2)
 
-      pub done-place : {r : Turn} {q m : ℕ} → r ≡ turn.Done q m → WithinTurn len v w p n r → p ≤ len → (p + w ≤ q) × (q ≤ len) × (m + 8 * p ≤ n + 8 * q)
+      pub done-place : {r : Turn} {q m : ℕ} → r ≡ turn.Done q m → WithinTurn len v w p n r → p ≤ len →
+          (p + w ≤ q) × (q ≤ len) × (m + 8 * p ≤ n + 8 * q)
       done-place e h l = let k = subst (WithinTurn len v w p n) e h in (k .0, omega arith, k .2)
 
 -- a refusal of the whole, from that of a part without rows or with rows
@@ -56,7 +58,8 @@ module _ (len w p : ℕ) {base n : ℕ} {b b′ : List ℕ} {o : Out} {f : Fault
   off-step d h = off-answer (h ∙ ap refusedOf d)
 
 -- what `WithinTurn` says of a turn that follows, from a place before it
-pub turn-later : (len v w p n v′ w′ p′ n′ : ℕ) (r : Turn) → p′ + v′ ≤ p + v → p′ + w′ ≤ p + w → p ≤ max p′ len → n + 8 * p′ ≤ n′ + 8 * p → WithinTurn len v w p n r → WithinTurn len v′ w′ p′ n′ r
+pub turn-later : (len v w p n v′ w′ p′ n′ : ℕ) (r : Turn) → p′ + v′ ≤ p + v → p′ + w′ ≤ p + w → p ≤ max p′ len → n + 8 * p′ ≤ n′ + 8 * p →
+    WithinTurn len v w p n r → WithinTurn len v′ w′ p′ n′ r
 turn-later len v w p n v′ w′ p′ n′ (turn.Again q m) a b c d h = (omega arith, omega arith, omega arith)
 turn-later len v w p n v′ w′ p′ n′ (turn.Done q m) a b c d h = (omega arith, omega arith, omega arith)
 turn-later len v w p n v′ w′ p′ n′ (turn.Refused f) a b c d h = tt

@@ -86,7 +86,8 @@ unfolding numberTurn
 digit-on true s i c n e t = rw (e, t)
 digit-on false s i c n e t = rw (e, t)
 
-number-none : (d : Bool) (s : List ℕ) (i c n : ℕ) → see s i ≡ Char c n → holdsOf test.Digit c ≡ false → is 0x2E c ≡ false → numberTurn (dotted d) s i ≡ ok i []
+number-none : (d : Bool) (s : List ℕ) (i c n : ℕ) → see s i ≡ Char c n → holdsOf test.Digit c ≡ false → is 0x2E c ≡ false →
+    numberTurn (dotted d) s i ≡ ok i []
 unfolding numberTurn
 number-none true s i c n e t q = rw (e, t, q)
 number-none false s i c n e t q = rw (e, t, q)
@@ -123,7 +124,8 @@ module _ {s : List ℕ} {at i : ℕ} (h : i < length s) (e : getD s i 0 ≡ 0x2E
   unfolding numberTurn holdsOf
   number-point d r q = on-turn number-un (rw q at r) (rw (seen-key s i h 0x2E e (omega arith))) (omega arith) (omega arith)
 
-  pub number-again : (d : Bool) → Reached numberTurn s at (dotted d) i → d ≡ true → Answers number s at (step.Refused (faultAt UnexpectedDecimalPoint i))
+  pub number-again : (d : Bool) → Reached numberTurn s at (dotted d) i → d ≡ true →
+      Answers number s at (step.Refused (faultAt UnexpectedDecimalPoint i))
   unfolding numberTurn number holdsOf
   number-again d r q = at-bad number-un (rw q at r) (rw (seen-key s i h 0x2E e (omega arith)))
 
@@ -157,7 +159,8 @@ unfolding bracedTurn
 braces-cut-off zero s i e = rw e
 braces-cut-off (suc d) s i e = rw e
 
-pub braces-other : (d : ℕ) (s : List ℕ) (i c n : ℕ) → see s i ≡ Char c n → is 0x7B c ≡ false → is 0x7D c ≡ false → is 0x5C c ≡ false → bracedTurn d s i ≡ again n [] d
+pub braces-other : (d : ℕ) (s : List ℕ) (i c n : ℕ) → see s i ≡ Char c n → is 0x7B c ≡ false → is 0x7D c ≡ false → is 0x5C c ≡ false →
+    bracedTurn d s i ≡ again n [] d
 unfolding bracedTurn
 braces-other zero s i c n e p q r = rw (e, p, q, r)
 braces-other (suc d) s i c n e p q r = rw (e, p, q, r)

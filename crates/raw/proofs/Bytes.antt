@@ -47,7 +47,8 @@ module _ (s : List ℕ) (i : ℕ) (h : i < length s) where
   pub seen-other : (c : ℕ) × (n : ℕ) × (see s i ≡ Char c n) × ((p : ℕ → Bool) → Narrow p → p (getD s i 0) ≡ false → p c ≡ false)
   seen-other = go (ltb (getD s i 0) 0x80) refl
     where
-      go : (t : Bool) → ltb (getD s i 0) 0x80 ≡ t → (c : ℕ) × (n : ℕ) × (see s i ≡ Char c n) × ((p : ℕ → Bool) → Narrow p → p (getD s i 0) ≡ false → p c ≡ false)
+      go : (t : Bool) → ltb (getD s i 0) 0x80 ≡ t →
+          (c : ℕ) × (n : ℕ) × (see s i ≡ Char c n) × ((p : ℕ → Bool) → Narrow p → p (getD s i 0) ≡ false → p c ≡ false)
       go true e = (getD s i 0, i + 1, see-ascii s i h (ltb-true _ _ e), λ p a q. q)
       go false e =
           let w : 0x80 ≤ code (drop i s) = rw (drop-next s i h) (code-wide (getD s i 0) (drop (i + 1) s) (ltb-false _ _ e)) in

@@ -85,7 +85,8 @@ module _ (t : ℕ → Bool) (reason : Reason) (s : List ℕ) (i : ℕ) where
   off-told : need t reason s i ≡ bad (faultAt reason i) → (step.Refused (faultAt reason i) ≡ stepOf (need t reason s i)) × Unit {0}
   off-told e = (sym (ap stepOf e), tt)
 
-  on-told : {r : ℕ} → need t reason s i ≡ ok r [] → i + 1 ≤ r → r ≤ max i (length s) → (step.At r ≡ stepOf (need t reason s i)) × Onward (length s) 1 i (step.At r)
+  on-told : {r : ℕ} → need t reason s i ≡ ok r [] → i + 1 ≤ r → r ≤ max i (length s) →
+      (step.At r ≡ stepOf (need t reason s i)) × Onward (length s) 1 i (step.At r)
   on-told e h l = (sym (ap stepOf e), (h, l))
 
   -- by the byte

@@ -39,7 +39,8 @@ module _ (s : List ℕ) (at : ℕ) {p₁ : ℕ} (e₁ : p₁ ≡ skip isWhitespa
   unfolding lead
   lead-off d = off-onward (length s) 1 at (then-on _ (white-on s at e₁) ∙ then-off _ (rowless-off (opening s p₁) e₂ d)) d
 
-  pub lead-on : {p₂ p₃ : ℕ} → Onward (length s) 1 p₁ r₂ → r₂ ≡ step.At p₂ → p₃ ≡ skip isWhitespace s p₂ → Ahead s p₂ p₃ → (step.At p₃ ≡ stepOf (lead s at)) × Onward (length s) 1 at (step.At p₃)
+  pub lead-on : {p₂ p₃ : ℕ} → Onward (length s) 1 p₁ r₂ → r₂ ≡ step.At p₂ → p₃ ≡ skip isWhitespace s p₂ → Ahead s p₂ p₃ →
+      (step.At p₃ ≡ stepOf (lead s at)) × Onward (length s) 1 at (step.At p₃)
   unfolding lead
   lead-on {p₂} {p₃} o d e₃ a₃ =
       let q : lead s at ≡ ok p₃ [] = then-on _ (white-on s at e₁) ∙ then-on _ (rowless-at (opening-rowless s p₁) e₂ d) ∙ white-on s p₂ e₃ in
@@ -49,11 +50,14 @@ module _ (s : List ℕ) (at : ℕ) {p₁ : ℕ} (e₁ : p₁ ≡ skip isWhitespa
 -- ---- a preamble's string
 
 module _ (s : List ℕ) (at : ℕ) {base n : ℕ} {b : List ℕ} {r₁ : Step} (e₁ : r₁ ≡ stepOf (string s at)) where
-  pub preamble-off : {f : Fault} {a : Answer} {b′ : List ℕ} → r₁ ≡ step.Refused f → a ≡ refusedOf r₁ → Says base (preamble s at) n b a b′ × Within (length s) 2 at n a
+  pub preamble-off : {f : Fault} {a : Answer} {b′ : List ℕ} → r₁ ≡ step.Refused f → a ≡ refusedOf r₁ →
+      Says base (preamble s at) n b a b′ × Within (length s) 2 at n a
   unfolding preamble
   preamble-off d h = off-step (length s) 2 at (ap (under (row kind.Preamble at)) (rowless-off (string s at) e₁ d)) d h
 
-  pub preamble-on : {p₁ : ℕ} {b′ : List ℕ} → Onward (length s) 2 at r₁ → r₁ ≡ step.At p₁ → b′ ≡ putRow b n (row kind.Preamble (base + at) (base + p₁)) → Says base (preamble s at) n b (answer.Next p₁ (n + 1)) b′ × Within (length s) 2 at n (answer.Next p₁ (n + 1))
+  pub preamble-on : {p₁ : ℕ} {b′ : List ℕ} → Onward (length s) 2 at r₁ → r₁ ≡ step.At p₁ →
+      b′ ≡ putRow b n (row kind.Preamble (base + at) (base + p₁)) →
+      Says base (preamble s at) n b (answer.Next p₁ (n + 1)) b′ × Within (length s) 2 at n (answer.Next p₁ (n + 1))
   unfolding preamble
   preamble-on o d h =
       let k = step-ahead (length s) 2 at d o in
@@ -62,14 +66,16 @@ module _ (s : List ℕ) (at : ℕ) {base n : ℕ} {b : List ℕ} {r₁ : Step} (
 -- ---- an entry's key, to its fields
 
 module _ (s : List ℕ) (at : ℕ) {base n : ℕ} {b : List ℕ} {p₁ p₂ : ℕ} (e₁ : step.At p₁ ≡ stepOf (key s at)) (e₂ : p₂ ≡ skip isWhitespace s p₁) {r₃ : Step} (e₃ : r₃ ≡ stepOf (comma s p₂)) where
-  pub body-off : {f : Fault} {a : Answer} {b′ : List ℕ} → r₃ ≡ step.Refused f → a ≡ refusedOf r₃ → Says base (body s at) n b a b′ × Within (length s) 1 at n a
+  pub body-off : {f : Fault} {a : Answer} {b′ : List ℕ} → r₃ ≡ step.Refused f → a ≡ refusedOf r₃ →
+      Says base (body s at) n b a b′ × Within (length s) 1 at n a
   unfolding body
   body-off {f} d h =
       let q : body s at ≡ bad f = rw (key-on s at e₁, white-on s p₁ e₂, rowless-off (comma s p₂) e₃ d) in
       off-step (length s) 1 at q d h
 
   module _ {p₃ p₄ p₅ p₆ : ℕ} (d₃ : r₃ ≡ step.At p₃) (e₄ : p₄ ≡ skip isWhitespace s p₃) (e₅ : step.At p₅ ≡ stepOf (comment s p₄)) (e₆ : p₆ ≡ skip isWhitespace s p₅) where
-    pub body-on : {r : Answer} {b₁ b′ : List ℕ} → b₁ ≡ putRow b n (row kind.Key (base + at) (base + p₁)) → Says base (fields kind.FieldName s p₆) (n + 1) b₁ r b′ → Says base (body s at) n b r b′
+    pub body-on : {r : Answer} {b₁ b′ : List ℕ} → b₁ ≡ putRow b n (row kind.Key (base + at) (base + p₁)) →
+        Says base (fields kind.FieldName s p₆) (n + 1) b₁ r b′ → Says base (body s at) n b r b′
     unfolding body
     body-on h k =
         says-mark kind.Key at _ (key-on s at e₁)
@@ -87,7 +93,8 @@ module _ (s : List ℕ) (p a e : ℕ) where
   rest-bad Other q = rw q
 
   module _ {r₁ : Step} (e₁ : r₁ ≡ stepOf (lead s e)) where
-    pub rest-off : (form : Form) {f : Fault} {x : Answer} {base n : ℕ} {b b′ : List ℕ} → r₁ ≡ step.Refused f → x ≡ refusedOf r₁ → Says base (rest form p a e s e) n b x b′ × Within (length s) 1 e (n + 1) x
+    pub rest-off : (form : Form) {f : Fault} {x : Answer} {base n : ℕ} {b b′ : List ℕ} → r₁ ≡ step.Refused f → x ≡ refusedOf r₁ →
+        Says base (rest form p a e s e) n b x b′ × Within (length s) 1 e (n + 1) x
     rest-off form {n = n} d h =
         (off-step (length s) 1 e (rest-bad form (rowless-off (lead s e) e₁ d)) d h .0, off-within (length s) 1 e (n + 1) (h ∙ ap refusedOf d))
 
@@ -99,7 +106,8 @@ module _ (s : List ℕ) (p a e : ℕ) where
         formed : {x : Form} {r : Answer} → form ≡ x → Says base (rest x p a e s e) n b r b′ → Says base (rest form p a e s e) n b r b′
         formed q h = says-of (ap (λ (x : Form). rest x p a e s e) q) h
 
-        pub rest-strings : {r : Answer} → form ≡ Strings → Says base (fields kind.DefinitionName s p₁) n b r b′ → Says base (rest form p a e s e) n b r b′
+        pub rest-strings : {r : Answer} → form ≡ Strings → Says base (fields kind.DefinitionName s p₁) n b r b′ →
+            Says base (rest form p a e s e) n b r b′
         unfolding rest strings
         rest-strings f h = formed f (says-of (then-on _ led) h)
 
@@ -107,24 +115,29 @@ module _ (s : List ℕ) (p a e : ℕ) where
         unfolding rest
         rest-preamble f h = formed f (says-of (then-on _ led) h)
 
-        pub rest-other-off : {r : Answer} {x : Fault} {m : ℕ} {b₁ b₂ : List ℕ} → form ≡ Other → r ≡ answer.Refused x → Says base (body s p₁) m b₁ r b₂ → Says base (rest form p a e s e) n b r b′ × Within (length s) 1 e (n + 1) r
+        pub rest-other-off : {r : Answer} {x : Fault} {m : ℕ} {b₁ b₂ : List ℕ} → form ≡ Other → r ≡ answer.Refused x →
+            Says base (body s p₁) m b₁ r b₂ → Says base (rest form p a e s e) n b r b′ × Within (length s) 1 e (n + 1) r
         unfolding rest
         rest-other-off f d h = (formed f (says-at (sym d) (says-off (rw (led, said-off (says-at d h))))), off-within (length s) 1 e (n + 1) d)
 
-        pub rest-other : {q m : ℕ} {b₁ b₂ : List ℕ} → form ≡ Other → b₁ ≡ putRow b (n + 1) (row kind.EntryType (base + a) (base + e)) → Says base (body s p₁) (n + 2) b₁ (answer.Next q m) b₂ → b′ ≡ putRow b₂ n (row kind.Entry (base + p) (base + q)) → Says base (rest form p a e s e) n b (answer.Next q m) b′
+        pub rest-other : {q m : ℕ} {b₁ b₂ : List ℕ} → form ≡ Other → b₁ ≡ putRow b (n + 1) (row kind.EntryType (base + a) (base + e)) →
+            Says base (body s p₁) (n + 2) b₁ (answer.Next q m) b₂ → b′ ≡ putRow b₂ n (row kind.Entry (base + p) (base + q)) →
+            Says base (rest form p a e s e) n b (answer.Next q m) b′
         unfolding rest
         rest-other f h k i =
             let two : n + 2 ≡ n + 1 + 1 = omega arith in
             formed f (rw i (says-under kind.Entry p (says-row kind.EntryType a e (says-of (then-on _ led) (rw (two, h) at k)))))
 
-      pub rest-comment : {q base n : ℕ} {b : List ℕ} → form ≡ Comments → q ≡ skip (fails test.ClosingBrace) s p₁ → Says base (rest form p a e s e) n b (answer.Next q n) b
+      pub rest-comment : {q base n : ℕ} {b : List ℕ} → form ≡ Comments → q ≡ skip (fails test.ClosingBrace) s p₁ →
+          Says base (rest form p a e s e) n b (answer.Next q n) b
       unfolding rest commented
       rest-comment f h = formed f (says-on (then-on _ led ∙ scan-on (fails test.ClosingBrace) s p₁ h))
 
 -- ---- an entry
 
 module _ (s : List ℕ) (at : ℕ) {r₁ : Step} (e₁ : r₁ ≡ stepOf (atSign s at)) where
-  pub entry-at-off : {f : Fault} {x : Answer} {base n : ℕ} {b b′ : List ℕ} → r₁ ≡ step.Refused f → x ≡ refusedOf r₁ → Says base (entry s at) n b x b′ × Within (length s) 1 at n x
+  pub entry-at-off : {f : Fault} {x : Answer} {base n : ℕ} {b b′ : List ℕ} → r₁ ≡ step.Refused f → x ≡ refusedOf r₁ →
+      Says base (entry s at) n b x b′ × Within (length s) 1 at n x
   unfolding entry
   entry-at-off d h = off-step (length s) 1 at (then-off _ (rowless-off (atSign s at) e₁ d)) d h
 
@@ -132,7 +145,8 @@ module _ (s : List ℕ) (at : ℕ) {r₁ : Step} (e₁ : r₁ ≡ stepOf (atSign
     sign : atSign s at ≡ ok p₁ []
     sign = rowless-at (at-sign-rowless s at) e₁ d₁
 
-    pub entry-type-off : {f : Fault} {x : Answer} {base n : ℕ} {b b′ : List ℕ} → r₂ ≡ step.Refused f → x ≡ refusedOf r₂ → Says base (entry s at) n b x b′ × Within (length s) 1 at n x
+    pub entry-type-off : {f : Fault} {x : Answer} {base n : ℕ} {b b′ : List ℕ} → r₂ ≡ step.Refused f → x ≡ refusedOf r₂ →
+        Says base (entry s at) n b x b′ × Within (length s) 1 at n x
     unfolding entry
     entry-type-off d h = off-step (length s) 1 at (then-on _ sign ∙ then-off _ (rowless-off (ident s p₁) e₂ d)) d h
 
@@ -142,11 +156,13 @@ module _ (s : List ℕ) (at : ℕ) {r₁ : Step} (e₁ : r₁ ≡ stepOf (atSign
       typed = then-on _ sign ∙ then-on _ (rowless-at (ident-rowless s p₁) e₂ d₂) ∙ rw f
 
       module _ {base n : ℕ} {b : List ℕ} where
-        pub entry-rest-off : {r : Answer} {x : Fault} {b₁ b′ : List ℕ} → r ≡ answer.Refused x → Says base (rest form at p₁ p₂ s p₂) n b r b₁ → Says base (entry s at) n b r b′ × Within (length s) 1 at n r
+        pub entry-rest-off : {r : Answer} {x : Fault} {b₁ b′ : List ℕ} → r ≡ answer.Refused x → Says base (rest form at p₁ p₂ s p₂) n b r b₁ →
+            Says base (entry s at) n b r b′ × Within (length s) 1 at n r
         entry-rest-off d h = off-answer (length s) 1 at (typed ∙ then-off _ (said-off (says-at d h))) d
 
         module _ {r₃ : Answer} {p₃ m p₄ : ℕ} {b₁ : List ℕ} (h : Says base (rest form at p₁ p₂ s p₂) n b r₃ b₁) (d₃ : r₃ ≡ answer.Next p₃ m) (e₄ : p₄ ≡ skip isWhitespace s p₃) {r₅ : Step} (e₅ : r₅ ≡ stepOf (closing s p₄)) where
-          pub entry-end-off : {x : Fault} {a : Answer} {b′ : List ℕ} → r₅ ≡ step.Refused x → a ≡ refusedOf r₅ → Says base (entry s at) n b a b′ × Within (length s) 1 at n a
+          pub entry-end-off : {x : Fault} {a : Answer} {b′ : List ℕ} → r₅ ≡ step.Refused x → a ≡ refusedOf r₅ →
+              Says base (entry s at) n b a b′ × Within (length s) 1 at n a
           entry-end-off d k =
               let q = k ∙ ap refusedOf d in
               let c = then-on _ (white-on s p₃ e₄) ∙ rowless-off (closing s p₄) e₅ d in

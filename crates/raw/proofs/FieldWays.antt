@@ -53,7 +53,8 @@ module _ (k : Kind) (s : List ℕ) (i : ℕ) {r₁ : Step} (e₁ : r₁ ≡ step
       pub value-off : {x : Fault} {d : List ℕ} → r ≡ answer.Refused x → Says base (field k s i) n b r d
       value-off e = says-at (sym e) (to-value (says-off (then-off _ (said-off (says-at e h)))))
 
-      pub value-on : {p₅ m p₆ p₇ : ℕ} → r ≡ answer.Next p₅ m → p₆ ≡ skip isWhitespace s p₅ → step.At p₇ ≡ stepOf (comment s p₆) → Says base (field k s i) n b (answer.Next p₇ m) b′
+      pub value-on : {p₅ m p₆ p₇ : ℕ} → r ≡ answer.Next p₅ m → p₆ ≡ skip isWhitespace s p₅ → step.At p₇ ≡ stepOf (comment s p₆) →
+          Says base (field k s i) n b (answer.Next p₇ m) b′
       value-on {p₅} {p₆ = p₆} e w₆ e₇ = to-value (says-then _ (says-at e h) (says-of (then-on _ (white-on s p₅ w₆)) (says-on (comment-on s p₆ e₇))))
 
 -- ---- `field_end`
@@ -78,7 +79,8 @@ module _ (s : List ℕ) (i : ℕ) {p : ℕ} (w : p ≡ skip isWhitespace s i) wh
     unfolding comma holdsOf
     comma-eaten e = byte-on (is 0x2C) s p (λ n. ok n []) (bad (faultAt ExpectedComma p)) (narrow-is 0x2C (omega arith)) h (eq-eqb _ _ e)
 
-    pub end-comma : {p₂ p₃ : ℕ} → getD s p 0 ≡ 0x2C → p₂ ≡ skip isWhitespace s (p + 1) → step.At p₃ ≡ stepOf (comment s p₂) → fieldEnd s i ≡ again p₃ [] 0
+    pub end-comma : {p₂ p₃ : ℕ} → getD s p 0 ≡ 0x2C → p₂ ≡ skip isWhitespace s (p + 1) → step.At p₃ ≡ stepOf (comment s p₂) →
+        fieldEnd s i ≡ again p₃ [] 0
     end-comma {p₂} e v d =
         after-field
         ∙ byte-on (is 0x2C) s p (λ n. onComma) braceOr (narrow-is 0x2C (omega arith)) h (eq-eqb _ _ e)
@@ -118,8 +120,10 @@ module _ (k : Kind) (s : List ℕ) (i : ℕ) where
     fields-end l = at-field ∙ byte-end (is 0x7D) s p (λ n. ok p []) ((field k then fieldEnd) s p) l
 
   module _ (p : ℕ) (e : fieldsTurn k 0 s i ≡ (field k then fieldEnd) s p) {base n : ℕ} {b c : List ℕ} where
-    pub fields-off : {x : Fault} {b′ : List ℕ} → Says base (field k s p) n b (answer.Refused x) c → SaysTurn base (fieldsTurn k 0 s i) n b (turned.Refused x) b′
+    pub fields-off : {x : Fault} {b′ : List ℕ} → Says base (field k s p) n b (answer.Refused x) c →
+        SaysTurn base (fieldsTurn k 0 s i) n b (turned.Refused x) b′
     fields-off g = turn-off (e ∙ then-off _ (said-off g))
 
-    pub fields-on : {q m : ℕ} {r : Turn} → Says base (field k s p) n b (answer.Next q m) c → SaysTurn base (fieldEnd s q) m c r c → SaysTurn base (fieldsTurn k 0 s i) n b r c
+    pub fields-on : {q m : ℕ} {r : Turn} → Says base (field k s p) n b (answer.Next q m) c → SaysTurn base (fieldEnd s q) m c r c →
+        SaysTurn base (fieldsTurn k 0 s i) n b r c
     fields-on g f = turn-of e (turn-then _ g f)

@@ -88,22 +88,26 @@ module _ (s : List ℕ) (base : ℕ) (b : List ℕ) (h : base + length s ≤ mos
 
 -- ---- `read`
 
-full-rows : (b : List ℕ) {q n : ℕ} (p : ℕ) (rs : List Row) → answer.Next q n ≡ answer.Next p (0 + length rs) → length b / 4 < n → leb (length rs) (length b / 4) ≡ false
+full-rows : (b : List ℕ) {q n : ℕ} (p : ℕ) (rs : List Row) → answer.Next q n ≡ answer.Next p (0 + length rs) → length b / 4 < n →
+    leb (length rs) (length b / 4) ≡ false
 full-rows b {n = n} p rs e l = let k : n ≡ 0 + length rs = cc in lt-leb (length rs) (length b / 4) (omega arith)
 
-full : (o : Out) (b : List ℕ) (q n : ℕ) → answer.Next q n ≡ answerOf o 0 → length b / 4 < n → (reading.Refused (nowhere NoRoom) ≡ readingOut o (length b)) × (b ≡ leftOut o b)
+full : (o : Out) (b : List ℕ) (q n : ℕ) → answer.Next q n ≡ answerOf o 0 → length b / 4 < n →
+    (reading.Refused (nowhere NoRoom) ≡ readingOut o (length b)) × (b ≡ leftOut o b)
 full (ok p rs) b q n e l = let t = full-rows b p rs e l in (rw t, rw t)
 full (again p rs a) b q n e l = let t = full-rows b p rs e l in (rw t, rw t)
 full (bad f) b q n e l = let z : _≡_ {A = ℕ} 0 1 = cc in absurd (omega arith)
 
-fits-rows : (b b′ : List ℕ) {q n : ℕ} (p : ℕ) (rs : List Row) → answer.Next q n ≡ answer.Next p (0 + length rs) → n ≤ length b / 4 → b′ ≡ overlay b 0 (moved 0 rs) → (reading.Rows n ≡ readingOut (ok p rs) (length b)) × (b′ ≡ leftOut (ok p rs) b)
+fits-rows : (b b′ : List ℕ) {q n : ℕ} (p : ℕ) (rs : List Row) → answer.Next q n ≡ answer.Next p (0 + length rs) → n ≤ length b / 4 →
+    b′ ≡ overlay b 0 (moved 0 rs) → (reading.Rows n ≡ readingOut (ok p rs) (length b)) × (b′ ≡ leftOut (ok p rs) b)
 fits-rows b b′ {n = n} p rs e l r =
     let k : n ≡ 0 + length rs = cc in
     let h : length rs ≤ length b / 4 = omega arith in
     let t = le-leb (length rs) (length b / 4) h in
     (rw t (ap reading.Rows (omega arith)), rw t (r ∙ ap (overlay b 0) (moved-none rs) ∙ overlay-fits rs b h))
 
-fits : (o : Out) (b : List ℕ) {b′ : List ℕ} (q n : ℕ) → answer.Next q n ≡ answerOf o 0 → n ≤ length b / 4 → Room 0 o 0 b b′ → (reading.Rows n ≡ readingOut o (length b)) × (b′ ≡ leftOut o b)
+fits : (o : Out) (b : List ℕ) {b′ : List ℕ} (q n : ℕ) → answer.Next q n ≡ answerOf o 0 → n ≤ length b / 4 → Room 0 o 0 b b′ →
+    (reading.Rows n ≡ readingOut o (length b)) × (b′ ≡ leftOut o b)
 fits (ok p rs) b {b′} q n e l r = fits-rows b b′ p rs e l r
 fits (again p rs a) b {b′} q n e l r = fits-rows b b′ p rs e l r
 fits (bad f) b q n e l r = let z : _≡_ {A = ℕ} 0 1 = cc in absurd (omega arith)

@@ -8,7 +8,8 @@ use Rattle.raw.specs.declared.answer.Answer.{Answer}
 use Rattle.raw.specs.declared.answer.Answer.the-variants as answer
 use Rattle.raw.specs.Says.{Within, Ready}
 
-pub within-later : (len w p n w′ p′ n′ : ℕ) (r : Answer) → p′ + w′ ≤ p + w → p ≤ max p′ len → n + 8 * p′ ≤ n′ + 8 * p → Within len w p n r → Within len w′ p′ n′ r
+pub within-later : (len w p n w′ p′ n′ : ℕ) (r : Answer) → p′ + w′ ≤ p + w → p ≤ max p′ len → n + 8 * p′ ≤ n′ + 8 * p → Within len w p n r →
+    Within len w′ p′ n′ r
 within-later len w p n w′ p′ n′ (answer.Next q m) a b c h = (omega arith, omega arith, omega arith)
 within-later len w p n w′ p′ n′ (answer.Refused f) a b c h = tt
 

@@ -42,7 +42,8 @@ module _ (s : List ℕ) (f : Fault) where
       (λ o. file-fault)
 
   -- rows that do not fit
-  rows-fault : (rs : List Row) (n : ℕ) → reading.Refused f ≡ cond (leb (length rs) (n / 4)) (reading.Rows (length rs)) (reading.Refused (nowhere NoRoom)) → ReadFault s f
+  rows-fault : (rs : List Row) (n : ℕ) →
+      reading.Refused f ≡ cond (leb (length rs) (n / 4)) (reading.Rows (length rs)) (reading.Refused (nowhere NoRoom)) → ReadFault s f
   rows-fault rs n = by (leb (length rs) (n / 4))
     where
       by : (x : Bool) → reading.Refused f ≡ cond x (reading.Rows (length rs)) (reading.Refused (nowhere NoRoom)) → ReadFault s f

@@ -42,7 +42,8 @@ module _ (base : ℕ) (rs : List Row) (n : ℕ) where
   turned-more (again q ss a) = ap (turn.Again q) (omega (arith, length-append rs ss))
   turned-more (bad f) = refl
 
-  over-more : (ss : List Row) (b : List ℕ) → overlay (overlay b n (moved base rs)) (n + length rs) (moved base ss) ≡ overlay b n (moved base (rs ++ ss))
+  over-more : (ss : List Row) (b : List ℕ) →
+      overlay (overlay b n (moved base rs)) (n + length rs) (moved base ss) ≡ overlay b n (moved base (rs ++ ss))
   over-more ss b =
       ap (λ (k : ℕ). overlay (overlay b n (moved base rs)) (n + k) (moved base ss)) (sym (moved-length base rs))
       ∙ sym (overlay-append (moved base rs) (moved base ss) b n)
@@ -73,7 +74,8 @@ record Went (base : ℕ) (o : Out) (n : ℕ) (b : List ℕ) (q m : ℕ) (b′ : 
   goes : (g : ℕ → Out) → more rs (g q) ≡ andThen o g
 
 module _ {base n : ℕ} {b b′ : List ℕ} where
-  went-rows : (rs : List Row) (o : Out) {p q m : ℕ} → answer.Next q m ≡ answer.Next p (n + length rs) → b′ ≡ overlay b n (moved base rs) → ((g : ℕ → Out) → more rs (g p) ≡ andThen o g) → Went base o n b q m b′
+  went-rows : (rs : List Row) (o : Out) {p q m : ℕ} → answer.Next q m ≡ answer.Next p (n + length rs) → b′ ≡ overlay b n (moved base rs) →
+      ((g : ℕ → Out) → more rs (g p) ≡ andThen o g) → Went base o n b q m b′
   went-rows rs o {p} {q} {m} t h k =
       let e : q ≡ p = cc in
       record { rs = rs; next = cc; room = sym h; goes = λ g. ap (λ (x : ℕ). more rs (g x)) e ∙ k g }
@@ -152,12 +154,14 @@ module _ {base : ℕ} (k : Kind) (a e : ℕ) {o : Out} {n : ℕ} {b b′ : List 
 
 -- over what a reader without rows read, before what follows
 module _ {base : ℕ} (k : Kind) (a : ℕ) {o : Out} (g : ℕ → Out) {q n : ℕ} {b b′ : List ℕ} where
-  pub says-mark : {r : Answer} → o ≡ ok q [] → Says base (g q) (n + 1) (putRow b n (row k (base + a) (base + q))) r b′ → Says base (andThen (under (row k a) o) g) n b r b′
+  pub says-mark : {r : Answer} → o ≡ ok q [] → Says base (g q) (n + 1) (putRow b n (row k (base + a) (base + q))) r b′ →
+      Says base (andThen (under (row k a) o) g) n b r b′
   says-mark e h = says-of (ap (λ (x : Out). andThen (under (row k a) x) g) e) (says-row k a q h)
 
 -- over the whole, put last
 module _ {base : ℕ} (k : Kind) (a : ℕ) {n : ℕ} {b c : List ℕ} where
-  under-rows : {p q m : ℕ} (rs : List Row) → answer.Next q m ≡ answer.Next p (n + 1 + length rs) → c ≡ overlay b (n + 1) (moved base rs) → Says base (ok p (row k a p ∷ rs)) n b (answer.Next q m) (putRow c n (row k (base + a) (base + q)))
+  under-rows : {p q m : ℕ} (rs : List Row) → answer.Next q m ≡ answer.Next p (n + 1 + length rs) → c ≡ overlay b (n + 1) (moved base rs) →
+      Says base (ok p (row k a p ∷ rs)) n b (answer.Next q m) (putRow c n (row k (base + a) (base + q)))
   unfolding overlay moved
   under-rows {p} {q} rs t h =
       let e : q ≡ p = cc in
@@ -166,7 +170,8 @@ module _ {base : ℕ} (k : Kind) (a : ℕ) {n : ℕ} {b c : List ℕ} where
         room = rw (e, row-up base k a p, h, add-one n) (put-overlay (moved base rs) b n (suc n) (rowUp base (row k a p)) (omega arith));
       }
 
-  pub says-under : {o : Out} {q m : ℕ} → Says base o (n + 1) b (answer.Next q m) c → Says base (under (row k a) o) n b (answer.Next q m) (putRow c n (row k (base + a) (base + q)))
+  pub says-under : {o : Out} {q m : ℕ} → Says base o (n + 1) b (answer.Next q m) c →
+      Says base (under (row k a) o) n b (answer.Next q m) (putRow c n (row k (base + a) (base + q)))
   says-under {o = ok p rs} h = under-rows rs (h .told) (h .room)
   says-under {o = again p rs x} h = let u = under-rows rs (h .told) (h .room) in record { told = u .told; room = u .room }
   says-under {o = bad f} h = absurd (next-not-refused (h .told))

@@ -56,7 +56,8 @@ spells-length [] s a e k l h z = ne-eqb a e (λ q. z (omega arith))
 spells-length (w ∷ word) s a e k l h z =
     go (ltb a e) refl (eqb (lower (getD s a 0)) w) refl (λ m. spells-length word s (a + 1) e (λ j l. k (suc j) (omega arith)) m h (λ q. z (omega arith)))
   where
-    go : (x : Bool) → ltb a e ≡ x → (y : Bool) → eqb (lower (getD s a 0)) w ≡ y → (a + 1 ≤ e → spells word s (a + 1) e ≡ false) → spells (w ∷ word) s a e ≡ false
+    go : (x : Bool) → ltb a e ≡ x → (y : Bool) → eqb (lower (getD s a 0)) w ≡ y → (a + 1 ≤ e → spells word s (a + 1) e ≡ false) →
+        spells (w ∷ word) s a e ≡ false
     go false p y q ih = letter-none w word s a e (ltb-false a e p)
     go true p false q ih = let m = ltb-true a e p in letter-off w word s a e m (omega arith) (k 0 (omega arith)) (eqb-false _ _ q)
     go true p true q ih = let m = ltb-true a e p in letter-on w word s a e m (omega arith) (k 0 (omega arith)) (eqb-true _ _ q) ∙ ih (omega arith)

@@ -43,7 +43,8 @@ module _ (base n : ℕ) (b c : List ℕ) (o : Out) (g : ℕ → ℕ → Out) whe
       go (again p rs a) t h = absurd (again-not-done (sym t))
       go (bad e) t h = absurd (done-not-refused t)
 
-  on-was : {q m : ℕ} {x : Out} {r : Answer} {b′ : List ℕ} → ((a : ℕ) → g a q ≡ x) → SaysTurn base o n b (turn.Again q m) c → Says base x m c r b′ → Says base (after o g) n b r b′
+  on-was : {q m : ℕ} {x : Out} {r : Answer} {b′ : List ℕ} → ((a : ℕ) → g a q ≡ x) → SaysTurn base o n b (turn.Again q m) c → Says base x m c r b′ →
+      Says base (after o g) n b r b′
   on-was {q} {m} {r = r} {b′ = b′} same h k = go o (h .told) (h .room)
     where
       go : (o : Out) → turn.Again q m ≡ turnOf o n → Room base o n b c → Says base (after o g) n b r b′
@@ -75,11 +76,13 @@ module _ (f : ℕ → Reader) (s : List ℕ) where
 
     -- turns that take no heed of their number
     module _ (same : (a : ℕ) (s : List ℕ) (p : ℕ) → f a s p ≡ f 0 s p) where
-      on-by : (g : ℕ) → length s ≤ p + g → ((r : Answer) (b′ : List ℕ) → Says base (loop f (suc g) 0 s p) m c r b′ → Says base o n b r b′) → {q l : ℕ} → p < q → q ≤ length s → SaysTurn base (f 0 s p) m c (turn.Again q l) d → Leads base q l d o n b
+      on-by : (g : ℕ) → length s ≤ p + g → ((r : Answer) (b′ : List ℕ) → Says base (loop f (suc g) 0 s p) m c r b′ → Says base o n b r b′) →
+          {q l : ℕ} → p < q → q ≤ length s → SaysTurn base (f 0 s p) m c (turn.Again q l) d → Leads base q l d o n b
       unfolding loop
       on-by zero i k u v h = absurd (omega arith)
       on-by (suc g) i k {q} u v h =
           (g, omega arith, λ r b′ w. k r b′ (on-was base m c d (f 0 s p) (λ a q. loop f (suc g) a s q) (λ a. ap (λ (x : Out). after x (λ a q. loop f g a s q)) (same a s q)) h w))
 
-      pub loop-on : Leads base p m c o n b → {q l : ℕ} → p < q → q ≤ length s → SaysTurn base (f 0 s p) m c (turn.Again q l) d → Leads base q l d o n b
+      pub loop-on : Leads base p m c o n b → {q l : ℕ} → p < q → q ≤ length s → SaysTurn base (f 0 s p) m c (turn.Again q l) d →
+          Leads base q l d o n b
       loop-on k u v h = on-by (k .0) (k .1) (k .2) u v h

@@ -30,13 +30,15 @@ use Rattle.raw.proofs.ByteTurns.{quoted-plain, quoted-escape, braces-pl
 abbrev Passes : (ℕ → Reader) → Set → List ℕ → ℕ → ℕ → Type 0
 Passes t x s at d = (k : ℕ) → Reached t s at d k → k < length s → inSet x (getD s k 0) ≡ false → Reached t s at d (k + 1)
 
-pass-bytes : (t : ℕ → Reader) (x : Set) (s : List ℕ) (at d : ℕ) → Passes t x s at d → (i n : ℕ) → i + n ≤ length s → ((k : ℕ) → i ≤ k → k < i + n → inSet x (getD s k 0) ≡ false) → Reached t s at d i → Reached t s at d (i + n)
+pass-bytes : (t : ℕ → Reader) (x : Set) (s : List ℕ) (at d : ℕ) → Passes t x s at d → (i n : ℕ) → i + n ≤ length s →
+    ((k : ℕ) → i ≤ k → k < i + n → inSet x (getD s k 0) ≡ false) → Reached t s at d i → Reached t s at d (i + n)
 pass-bytes t x s at d one i zero h c r = subst (Reached t s at d) (sym (add-zero i)) r
 pass-bytes t x s at d one i (suc n) h c r =
     let o = pass-bytes t x s at d one i n (omega arith) (λ k p q. c k p (omega arith)) r in
     subst (Reached t s at d) (add-one (i + n) ∙ sym (add-suc i n)) (one (i + n) o (omega arith) (c (i + n) (omega arith) (omega arith)))
 
-pass-clear : (t : ℕ → Reader) (x : Set) (s : List ℕ) (at d : ℕ) → Passes t x s at d → {i j : ℕ} → i ≤ length s → Clear x s i j → Reached t s at d i → Reached t s at d j
+pass-clear : (t : ℕ → Reader) (x : Set) (s : List ℕ) (at d : ℕ) → Passes t x s at d → {i j : ℕ} → i ≤ length s → Clear x s i j → Reached t s at d i →
+    Reached t s at d j
 pass-clear t x s at d one {i} {j} h c r =
     let e : i + (j - i) ≡ j = omega (arith, c .from) in
     subst (Reached t s at d) e (pass-bytes t x s at d one i (j - i) (omega (arith, c .from, c .to)) (λ k p q. c .clear k p (omega arith) .1) r)
@@ -53,7 +55,8 @@ module _ {s : List ℕ} {at d : ℕ} where
     pub braces-far : i + 1 < length s → Reached bracedTurn s at d (i + 2)
     braces-far l = let q : i + 1 + 1 ≡ i + 2 = omega arith in subst (Reached bracedTurn s at d) q (braces-escape r h e l)
 
-    pub braces-eof : length s ≤ i + 1 → (step.Refused (faultAt UnexpectedEof (i + 1)) ≡ stepOf (inBraces s at)) × Onward (length s) 0 at (step.Refused (faultAt UnexpectedEof (i + 1)))
+    pub braces-eof : length s ≤ i + 1 →
+        (step.Refused (faultAt UnexpectedEof (i + 1)) ≡ stepOf (inBraces s at)) × Onward (length s) 0 at (step.Refused (faultAt UnexpectedEof (i + 1)))
     braces-eof l = braces-end (braces-cut r h e l) l
 
 module _ {s : List ℕ} {at : ℕ} where
@@ -71,6 +74,7 @@ onward : (n i j : ℕ) (r : Step) → i ≤ j → j ≤ max i n → Onward n 0 j
 onward n i j (step.At p) l m h = (omega arith, omega arith)
 onward n i j (step.Refused f) l m h = h
 
-pub quoted-rest : {s : List ℕ} {at i : ℕ} {r : Step} → Reached quotedTurn s at 0 i → (r ≡ stepOf (quoted s i)) × Onward (length s) 0 i r → (r ≡ stepOf (quoted s at)) × Onward (length s) 0 at r
+pub quoted-rest : {s : List ℕ} {at i : ℕ} {r : Step} → Reached quotedTurn s at 0 i → (r ≡ stepOf (quoted s i)) × Onward (length s) 0 i r →
+    (r ≡ stepOf (quoted s at)) × Onward (length s) 0 at r
 unfolding quoted
 quoted-rest {s} {at} {i} {r} x h = (h .0 ∙ ap stepOf (sym (x .same)), onward (length s) at i r (x .from) (x .to) (h .1))

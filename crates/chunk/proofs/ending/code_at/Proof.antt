@@ -26,9 +26,9 @@ returns c =
 
 returns-2 : tie.Need-returns-2
 returns-2 c =
-    let a = c .before .before .before .before .before .before .args in
-    let p = c .before .before .before .before .before .before .pre in
-    code-seen (a .t .now) _ (a .at) (a .to) _ _ refl (p .0) (p .1) (c .before .before .before .peek .ensures .0) (c .before .code .given .1)
+    let asked = c .before .before .before .before .before .before in
+    let a = asked .args in
+    code-seen (a .t .now) _ (a .at) (a .to) _ _ refl (asked .pre .0) (asked .pre .1) (c .before .before .before .peek .ensures .0) (c .before .code .given .1)
 
 pub code-at-spec : {M : Type 1} → statement M
 code-at-spec =

@@ -75,27 +75,30 @@ loop-less c = search needs
 
 loop-again : tie.Need-loop-again Inv-loop μ-loop
 loop-again c =
-    let a = c .before .before .before .before .before .before .before .before .before .before .before .args in
-    let l = c .before .before .before .before .before .before .before in
-    let step = c .before .step in
-    let m = l .loop .inv in
-    (m .0, omega arith, omega arith, judge-row (m .3) (rows-next (a .rows .now) (l .loop .i) (omega arith)) (step .ensures) (c .if2 .taken))
+    let step = c .before in
+    let l = step .before .before .before .before .before in
+    let asked = l .before .before .before .before .before in
+    let a = asked .args in
+    let m = l .before .loop .inv in
+    (m .0, omega arith, omega arith, judge-row (m .3) (rows-next (a .rows .now) (l .before .loop .i) (omega arith)) (step .step .ensures) (c .if2 .taken))
 
 returns-2 : tie.Need-returns-2 Inv-loop μ-loop
 returns-2 c =
-    let l = c .before .before .before .before .before .before .before in
-    let a = c .before .before .before .before .before .before .before .before .before .before .before .args in
-    let m = l .loop .inv in
-    judge-off (m .3) (rows-next (a .rows .now) (l .loop .i) (omega arith)) (c .if2 .left)
+    let l = c .before .before .before .before .before .before in
+    let asked = l .before .before .before .before .before in
+    let a = asked .args in
+    let m = l .before .loop .inv in
+    judge-off (m .3) (rows-next (a .rows .now) (l .before .loop .i) (omega arith)) (c .if2 .left)
 
 is-whole-requires : tie.Need-is-whole-requires Inv-loop μ-loop
 is-whole-requires c κs = search needs
 
 returns-3 : tie.Need-returns-3 Inv-loop μ-loop
 returns-3 c =
-    let l = c .before .before in
-    let a = c .before .before .before .before .before .before .args in
-    judge-end (l .loop .inv .3) (rows-end (a .rows .now) (l .loop .i) (omega arith)) (c .is-whole .ensures)
+    let l = c .before in
+    let asked = l .before .before .before .before .before in
+    let a = asked .args in
+    judge-end (l .before .loop .inv .3) (rows-end (a .rows .now) (l .before .loop .i) (omega arith)) (c .is-whole .ensures)
 
 pub is-packable-spec : {M : Type 1} → statement M
 is-packable-spec =

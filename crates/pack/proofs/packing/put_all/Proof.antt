@@ -61,10 +61,11 @@ shared-slice-read-put-packed-4 c = search needs
 
 put-packed-requires : tie.Need-put-packed-requires Inv-loop μ-loop
 put-packed-requires c κs =
-    let l = c .before .before .before .before .before .before in
-    let a = c .before .before .before .before .before .before .before .before .before .args in
-    let m = l .loop .inv in
-    (omega arith, seven-next (a .rows .now) (l .loop .i) (omega arith) (m .7) .0)
+    let l = c .before .before .before .before .before in
+    let asked = l .before .before .before .before in
+    let a = asked .args in
+    let m = l .before .loop .inv in
+    (omega arith, seven-next (a .rows .now) (l .before .loop .i) (omega arith) (m .7) .0)
 
 add-i : tie.Need-add-i Inv-loop μ-loop
 add-i c = search needs
@@ -77,19 +78,20 @@ loop-less c = search needs
 
 loop-again : tie.Need-loop-again Inv-loop μ-loop
 loop-again c =
-    let a = c .before .before .before .before .before .before .before .before .before .before .before .before .args in
-    let l = c .before .before .before .before .before .before .before .before .before in
-    let w = c .before .before .put-packed in
-    let m = l .loop .inv in (
+    let w = c .before .before in
+    let l = w .before .before .before .before .before .before in
+    let asked = l .before .before .before .before in
+    let a = asked .args in
+    let m = l .before .loop .inv in (
       m .0,
       m .1 + 1,
       omega arith,
       omega arith,
       omega arith,
-      w .kept .0 ∙ m .5,
+      w .put-packed .kept .0 ∙ m .5,
       m .6,
-      seven-next (a .rows .now) (l .loop .i) (omega arith) (m .7) .1,
-      pack-turn (a .rows .now) (a .bytes .now) (l .loop .i) (l .loop .p) (l .loop .bytes) _ (omega arith) (w .ensures) (m .8),
+      seven-next (a .rows .now) (l .before .loop .i) (omega arith) (m .7) .1,
+      pack-turn (a .rows .now) (a .bytes .now) (l .before .loop .i) (l .before .loop .p) (l .before .loop .bytes) _ (omega arith) (w .put-packed .ensures) (m .8),
     )
 
 same-length : tie.Need-same-length Inv-loop μ-loop

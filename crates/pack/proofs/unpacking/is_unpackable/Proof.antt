@@ -64,33 +64,36 @@ loop-less c = search needs
 
 loop-again : tie.Need-loop-again Inv-loop μ-loop
 loop-again c =
-    let a = c .before .before .before .before .before .before .before .before .before .before .args in
-    let l = c .before .before .before .before .before .before in
-    let step = c .before .before .before .step in
-    let three = c .before .before .three in
-    let three2 = c .before .three2 in
-    let m = l .loop .inv in
-    let r = unpackAt (a .bytes .now) (l .loop .p) in
-    let e = le-leb (r .end) mostBytes (omega (arith, three .ensures .0, three2 .ensures .0)) in
-    (m .0, omega arith, omega arith, judge-row (m .3) (sevens-next (a .bytes .now) (l .loop .p) (omega arith)) (step .ensures) e)
+    let three2 = c .before in
+    let three = three2 .before in
+    let step = three .before in
+    let l = step .before .before in
+    let asked = l .before .before .before .before .before in
+    let a = asked .args in
+    let m = l .before .loop .inv in
+    let r = unpackAt (a .bytes .now) (l .before .loop .p) in
+    let e = le-leb (r .end) mostBytes (omega (arith, three .three .ensures .0, three2 .three2 .ensures .0)) in
+    (m .0, omega arith, omega arith, judge-row (m .3) (sevens-next (a .bytes .now) (l .before .loop .p) (omega arith)) (step .step .ensures) e)
 
 returns-2 : tie.Need-returns-2 Inv-loop μ-loop
 returns-2 c =
-    let l = c .before .before .before .before .before .before in
-    let a = c .before .before .before .before .before .before .before .before .before .before .args in
-    let m = l .loop .inv in
-    let r = unpackAt (a .bytes .now) (l .loop .p) in
+    let l = c .before .before .before .before .before in
+    let asked = l .before .before .before .before .before in
+    let a = asked .args in
+    let m = l .before .loop .inv in
+    let r = unpackAt (a .bytes .now) (l .before .loop .p) in
     let e = lt-leb (r .end) mostBytes (omega (arith, c .before .before .three .ensures .0, c .before .three2 .ensures .0)) in
-    judge-off (m .3) (sevens-next (a .bytes .now) (l .loop .p) (omega arith)) e
+    judge-off (m .3) (sevens-next (a .bytes .now) (l .before .loop .p) (omega arith)) e
 
 is-whole-requires : tie.Need-is-whole-requires Inv-loop μ-loop
 is-whole-requires c κs = search needs
 
 returns-3 : tie.Need-returns-3 Inv-loop μ-loop
 returns-3 c =
-    let l = c .before .before in
-    let a = c .before .before .before .before .before .before .args in
-    judge-end (l .loop .inv .3) (sevens-end (a .bytes .now) (l .loop .p) (omega arith)) (c .is-whole .ensures)
+    let l = c .before in
+    let asked = l .before .before .before .before .before in
+    let a = asked .args in
+    judge-end (l .before .loop .inv .3) (sevens-end (a .bytes .now) (l .before .loop .p) (omega arith)) (c .is-whole .ensures)
 
 pub is-unpackable-spec : {M : Type 1} → statement M
 is-unpackable-spec =

@@ -58,21 +58,22 @@ loop-less c = search needs
 
 loop-again : tie.Need-loop-again Inv-loop μ-loop
 loop-again c =
-    let a = c .before .before .before .before .before .before .before .before .before .before .before .args in
-    let l = c .before .before .before .before .before .before .before .before in
-    let x = c .before .before .before .before .before .three in
-    let y = c .before .before .before .before .three2 in
-    let w = c .before .before .write-numbers in
-    let m = l .loop .inv in
-    let h = getD (a .bytes .now) (l .loop .p) 0 in
-    let r = rowOf (h / 16) (h % 16) (x .result) (x .result + y .result) in (
+    let w = c .before .before in
+    let y = w .before .before in
+    let x = y .before in
+    let l = x .before .before in
+    let asked = l .before .before .before .before in
+    let a = asked .args in
+    let m = l .before .loop .inv in
+    let h = getD (a .bytes .now) (l .before .loop .p) 0 in
+    let r = rowOf (h / 16) (h % 16) (x .three .result) (x .three .result + y .three2 .result) in (
       m .0,
       omega arith,
       omega arith,
-      w .kept .0 ∙ m .3,
+      w .write-numbers .kept .0 ∙ m .3,
       m .4,
-      unpack-turn (a .bytes .now) (a .rows .now) (l .loop .p) (l .loop .n) r (l .loop .rows) _ (omega arith) (rw (x .ensures .0, y .ensures .0))
-          (w .ensures) (m .5),
+      unpack-turn (a .bytes .now) (a .rows .now) (l .before .loop .p) (l .before .loop .n) r (l .before .loop .rows) _ (omega arith) (rw (x .three .ensures .0, y .three2 .ensures .0))
+          (w .write-numbers .ensures) (m .5),
     )
 
 same-length : tie.Need-same-length Inv-loop μ-loop

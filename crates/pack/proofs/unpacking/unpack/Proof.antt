@@ -22,11 +22,12 @@ same-length c = search needs
 
 returns-2 : tie.Need-returns-2
 returns-2 c =
-    let a = c .before .before .before .before .before .before .before .before .before .args in
-    let is-unpackable = c .before .before .before .before .before .before .is-unpackable in
-    let if1 = c .before .before .before .before .before .if1 in
-    let put-all = c .before .before .put-all in
-    unpack-done (a .bytes .now) (a .rows .now) (sym (is-unpackable .ensures) ∙ if1 .taken) (omega arith) _ (put-all .ensures)
+    let put-all = c .before .before in
+    let if1 = put-all .before .before .before in
+    let is-unpackable = if1 .before in
+    let asked = is-unpackable .before .before .before in
+    let a = asked .args in
+    unpack-done (a .bytes .now) (a .rows .now) (sym (is-unpackable .is-unpackable .ensures) ∙ if1 .if1 .taken) (omega arith) _ (put-all .put-all .ensures)
 
 returns-3 : tie.Need-returns-3
 returns-3 c =

@@ -78,13 +78,13 @@ same-length c = search needs
 
 returns-3 : tie.Need-returns-3
 returns-3 c =
-    let t = c .before .before .before .before .before .before .before .before in
-    let form-of = c .before .before .before .before .before .before .form-of in
-    let rest = c .before .before .before .before .rest in
-    let p = t .before .before .before .before in
+    let rest = c .before .before .before .before in
+    let form-of = rest .before .before in
+    let t = form-of .before in
+    let p = t .before .before .before .before .before in
     let a = p .before .before .before .before .before .args in
-    entry-rest-off (a .s .now) (a .at) (p .before .before .at-sign .ensures .0) (p .r1 .given .1) (t .before .before .ident .ensures .0)
-    (t .r2 .given .1) (form-of .ensures) (c .enum-told3 .given .1) (rest .ensures .0)
+    entry-rest-off (a .s .now) (a .at) (p .before .before .at-sign .ensures .0) (p .r1 .given .1) (t .before .before .before .ident .ensures .0)
+    (t .before .r2 .given .1) (form-of .form-of .ensures) (c .enum-told3 .given .1) (rest .rest .ensures .0)
 
 eat-whitespace-requires : tie.Need-eat-whitespace-requires
 eat-whitespace-requires c κs = search needs
@@ -106,40 +106,40 @@ same-length-2 c = search needs
 
 returns-4 : tie.Need-returns-4
 returns-4 c =
-    let t = c .before .before .before .before .before .before .before .before .before .before .before .before .before .before in
-    let form-of = c .before .before .before .before .before .before .before .before .before .before .before .before .form-of in
-    let rest = c .before .before .before .before .before .before .before .before .before .before .rest in
-    let r3 = c .before .before .before .before .before .before .r3 in
-    let eat-whitespace = c .before .before .before .before .eat-whitespace in
-    let closing = c .before .before .before .closing in
-    let enum-told4 = c .before .enum-told4 in
-    let p = t .before .before .before .before in
+    let enum-told4 = c .before in
+    let closing = enum-told4 .before .before in
+    let eat-whitespace = closing .before in
+    let r3 = eat-whitespace .before .before in
+    let rest = r3 .before .before .before .before in
+    let form-of = rest .before .before in
+    let t = form-of .before in
+    let p = t .before .before .before .before .before in
     let a = p .before .before .before .before .before .args in
-    entry-end-off (a .s .now) (a .at) (p .before .before .at-sign .ensures .0) (p .r1 .given .1) (t .before .before .ident .ensures .0)
-    (t .r2 .given .1) (form-of .ensures) (rest .ensures .0) (r3 .given .1) (eat-whitespace .ensures .0) (closing .ensures .0)
-    (enum-told4 .given .1) (c .refused3 .ensures)
+    entry-end-off (a .s .now) (a .at) (p .before .before .at-sign .ensures .0) (p .r1 .given .1) (t .before .before .before .ident .ensures .0)
+    (t .before .r2 .given .1) (form-of .form-of .ensures) (rest .rest .ensures .0) (r3 .r3 .given .1) (eat-whitespace .eat-whitespace .ensures .0) (closing .closing .ensures .0)
+    (enum-told4 .enum-told4 .given .1) (c .refused3 .ensures)
 
 same-length-3 : tie.Need-same-length-3
 same-length-3 c = search needs
 
 returns-5 : tie.Need-returns-5
 returns-5 c =
-    let t = c .before .before .before .before .before .before .before .before .before .before .before .before .before .before in
-    let form-of = c .before .before .before .before .before .before .before .before .before .before .before .before .form-of in
-    let rest = c .before .before .before .before .before .before .before .before .before .before .rest in
-    let r3 = c .before .before .before .before .before .before .r3 in
-    let eat-whitespace = c .before .before .before .before .eat-whitespace in
-    let closing = c .before .before .before .closing in
-    let r5 = c .before .r5 in
-    let p = t .before .before .before .before in
+    let r5 = c .before in
+    let closing = r5 .before .before in
+    let eat-whitespace = closing .before in
+    let r3 = eat-whitespace .before .before in
+    let rest = r3 .before .before .before .before in
+    let form-of = rest .before .before in
+    let t = form-of .before in
+    let p = t .before .before .before .before .before in
     let a = p .before .before .before .before .before .args in
     let k₁ = step-place (length (a .s .now)) 1 (a .at) (p .r1 .given .1) (p .before .before .at-sign .ensures .1)
     (p .before .before .before .before .before .pre .place) in
-    let k₂ = step-place (length (a .s .now)) 1 _ (t .r2 .given .1) (t .before .before .ident .ensures .1) (k₁ .1) in
-    let k₃ = answer-place (length (a .s .now)) 1 _ (a .n + 1) (r3 .given .1) (rest .ensures .1) (k₂ .1) in
-    let k₅ = step-place (length (a .s .now)) 1 (eat-whitespace .result) (r5 .given .1) (closing .ensures .1) (omega arith) in (
-      entry-on (a .s .now) (a .at) (p .before .before .at-sign .ensures .0) (p .r1 .given .1) (t .before .before .ident .ensures .0) (t .r2 .given .1)
-          (form-of .ensures) (rest .ensures .0) (r3 .given .1) (eat-whitespace .ensures .0) (closing .ensures .0) (r5 .given .1),
+    let k₂ = step-place (length (a .s .now)) 1 _ (t .before .r2 .given .1) (t .before .before .before .ident .ensures .1) (k₁ .1) in
+    let k₃ = answer-place (length (a .s .now)) 1 _ (a .n + 1) (r3 .r3 .given .1) (rest .rest .ensures .1) (k₂ .1) in
+    let k₅ = step-place (length (a .s .now)) 1 (eat-whitespace .eat-whitespace .result) (r5 .r5 .given .1) (closing .closing .ensures .1) (omega arith) in (
+      entry-on (a .s .now) (a .at) (p .before .before .at-sign .ensures .0) (p .r1 .given .1) (t .before .before .before .ident .ensures .0) (t .before .r2 .given .1)
+          (form-of .form-of .ensures) (rest .rest .ensures .0) (r3 .r3 .given .1) (eat-whitespace .eat-whitespace .ensures .0) (closing .closing .ensures .0) (r5 .r5 .given .1),
       (omega arith, omega arith, omega arith),
     )
 

@@ -44,22 +44,22 @@ spells-requires-3 c κs =
 returns-3 : tie.Need-returns-3
 unfolding formOf
 returns-3 c =
-    let spells = c .before .before .before .before .before .before .before .spells in
-    let if1 = c .before .before .before .before .before .before .if1 in
-    let spells2 = c .before .before .before .before .spells2 in
-    let if2 = c .before .before .before .if2 in
-    let spells3 = c .before .spells3 in
-    rw (sym (spells .ensures) ∙ if1 .left, sym (spells2 .ensures) ∙ if2 .left, sym (spells3 .ensures) ∙ c .if3 .taken)
+    let spells3 = c .before in
+    let if2 = spells3 .before .before in
+    let spells2 = if2 .before in
+    let if1 = spells2 .before .before in
+    let spells = if1 .before in
+    rw (sym (spells .spells .ensures) ∙ if1 .if1 .left, sym (spells2 .spells2 .ensures) ∙ if2 .if2 .left, sym (spells3 .spells3 .ensures) ∙ c .if3 .taken)
 
 returns-4 : tie.Need-returns-4
 unfolding formOf
 returns-4 c =
-    let spells = c .before .before .before .before .before .before .before .spells in
-    let if1 = c .before .before .before .before .before .before .if1 in
-    let spells2 = c .before .before .before .before .spells2 in
-    let if2 = c .before .before .before .if2 in
-    let spells3 = c .before .spells3 in
-    rw (sym (spells .ensures) ∙ if1 .left, sym (spells2 .ensures) ∙ if2 .left, sym (spells3 .ensures) ∙ c .if3 .left)
+    let spells3 = c .before in
+    let if2 = spells3 .before .before in
+    let spells2 = if2 .before in
+    let if1 = spells2 .before .before in
+    let spells = if1 .before in
+    rw (sym (spells .spells .ensures) ∙ if1 .if1 .left, sym (spells2 .spells2 .ensures) ∙ if2 .if2 .left, sym (spells3 .spells3 .ensures) ∙ c .if3 .left)
 
 pub form-of-spec : {M : Type 1} → statement M
 form-of-spec =

@@ -28,11 +28,12 @@ eat-whitespace-requires-2 c κs = search needs
 
 returns-2 : tie.Need-returns-2
 returns-2 c =
-    let a = c .before .before .before .before .before .before .before .args in
-    let eat-whitespace = c .before .before .before .before .before .eat-whitespace in
-    let opening = c .before .before .before .before .opening in
-    let r2 = c .before .before .r2 in
-    lead-on (a .s .now) (a .at) (eat-whitespace .ensures .0) (eat-whitespace .ensures .1) (opening .ensures .0) (opening .ensures .1) (r2 .given .1)
+    let r2 = c .before .before in
+    let opening = r2 .before .before in
+    let eat-whitespace = opening .before in
+    let asked = eat-whitespace .before .before in
+    let a = asked .args in
+    lead-on (a .s .now) (a .at) (eat-whitespace .eat-whitespace .ensures .0) (eat-whitespace .eat-whitespace .ensures .1) (opening .opening .ensures .0) (opening .opening .ensures .1) (r2 .r2 .given .1)
     (c .eat-whitespace2 .ensures .0) (c .eat-whitespace2 .ensures .1)
 
 pub lead-spec : {M : Type 1} → statement M

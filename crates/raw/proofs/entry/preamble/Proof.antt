@@ -21,30 +21,31 @@ refused-requires c κs = search needs
 
 returns : tie.Need-returns
 returns c =
-    let a = c .before .before .before .before .before .before .args in
-    let string = c .before .before .before .string in
-    let enum-told = c .before .enum-told in
-    preamble-off (a .s .now) (a .at) (string .ensures .0) (enum-told .given .1) (c .refused .ensures)
+    let enum-told = c .before in
+    let string = enum-told .before .before in
+    let asked = string .before .before .before in
+    let a = asked .args in
+    preamble-off (a .s .now) (a .at) (string .string .ensures .0) (enum-told .enum-told .given .1) (c .refused .ensures)
 
 add-put-row : tie.Need-add-put-row
 add-put-row c = search needs
 
 add-put-row-2 : tie.Need-add-put-row-2
 add-put-row-2 c =
-    let a = c .before .before .before .before .before .before .before .args in
-    let asked = c .before .before .before .before .before .before .before .pre in
-    let string = c .before .before .before .before .string in
-    let r1 = c .before .before .r1 in
-    let k = step-place (length (a .s .now)) 2 (a .at) (r1 .given .1) (string .ensures .1) (asked .place) in
+    let r1 = c .before .before in
+    let string = r1 .before .before in
+    let asked = string .before .before .before in
+    let a = asked .args in
+    let k = step-place (length (a .s .now)) 2 (a .at) (r1 .r1 .given .1) (string .string .ensures .1) (asked .pre .place) in
     omega arith
 
 put-row-requires : tie.Need-put-row-requires
 put-row-requires c κs =
-    let a = c .before .before .before .before .before .before .before .args in
-    let asked = c .before .before .before .before .before .before .before .pre in
-    let string = c .before .before .before .before .string in
-    let r1 = c .before .before .r1 in
-    let k = step-place (length (a .s .now)) 2 (a .at) (r1 .given .1) (string .ensures .1) (asked .place) in
+    let r1 = c .before .before in
+    let string = r1 .before .before in
+    let asked = string .before .before .before in
+    let a = asked .args in
+    let k = step-place (length (a .s .now)) 2 (a .at) (r1 .r1 .given .1) (string .string .ensures .1) (asked .pre .place) in
     (omega arith, omega arith)
 
 add-t12 : tie.Need-add-t12
@@ -55,11 +56,12 @@ same-length c = search needs
 
 returns-2 : tie.Need-returns-2
 returns-2 c =
-    let a = c .before .before .before .before .before .before .before .before .before .before .args in
-    let string = c .before .before .before .before .before .before .before .string in
-    let r1 = c .before .before .before .before .before .r1 in
-    let put-row = c .before .before .put-row in
-    preamble-on (a .s .now) (a .at) (string .ensures .0) (string .ensures .1) (r1 .given .1) (put-row .ensures)
+    let put-row = c .before .before in
+    let r1 = put-row .before .before .before in
+    let string = r1 .before .before in
+    let asked = string .before .before .before in
+    let a = asked .args in
+    preamble-on (a .s .now) (a .at) (string .string .ensures .0) (string .string .ensures .1) (r1 .r1 .given .1) (put-row .put-row .ensures)
 
 pub preamble-spec : {M : Type 1} → statement M
 preamble-spec =

@@ -93,12 +93,12 @@ same-length c = search needs
 
 returns-2 : tie.Need-returns-2
 returns-2 c =
-    let l = c .before .before .before .before .before .before .before .before .before .before .before .before .before in
-    let enum-told5 = c .before .before .before .before .before .before .before .before .before .before .enum-told5 in
-    let body = c .before .before .before .before .body in
-    let a = l .before .before .before .before .before .args in
-    rest-other-off (a .s .now) (a .start) (a .at) (a .end) (l .before .before .lead .ensures .0) (a .form) (l .r1 .given .1) (enum-told5 .given .1)
-    (c .enum-told6 .given .1) (body .ensures .0)
+    let body = c .before .before .before .before in
+    let enum-told5 = body .before .before .before .before .before .before in
+    let l = enum-told5 .before .before in
+    let a = l .before .before .before .before .before .before .args in
+    rest-other-off (a .s .now) (a .start) (a .at) (a .end) (l .before .before .before .lead .ensures .0) (a .form) (l .before .r1 .given .1) (enum-told5 .enum-told5 .given .1)
+    (c .enum-told6 .given .1) (body .body .ensures .0)
 
 add-put-row-4 : tie.Need-add-put-row-4
 add-put-row-4 c = search needs
@@ -130,16 +130,16 @@ same-length-2 c = search needs
 
 returns-3 : tie.Need-returns-3
 returns-3 c =
-    let l = c .before .before .before .before .before .before .before in
-    let enum-told2 = c .before .before .before .before .enum-told2 in
-    let fields = c .before .before .fields in
-    let a = l .before .before .before .before .before .args in
-    let k = step-place (length (a .s .now)) 1 (a .end) (l .r1 .given .1) (l .before .before .lead .ensures .1)
-    (l .before .before .before .before .before .pre .0 .place) in (
-      rest-strings (a .s .now) (a .start) (a .at) (a .end) (l .before .before .lead .ensures .0) (a .form) (l .r1 .given .1) (enum-told2 .given .1)
-          (fields .ensures .0),
-      within-later (length (a .s .now)) 0 _ (a .n) 1 (a .end) (a .n + 1) (fields .result) (omega arith) (omega arith) (omega arith)
-          (fields .ensures .1),
+    let fields = c .before .before in
+    let enum-told2 = fields .before .before in
+    let l = enum-told2 .before .before in
+    let a = l .before .before .before .before .before .before .args in
+    let k = step-place (length (a .s .now)) 1 (a .end) (l .before .r1 .given .1) (l .before .before .before .lead .ensures .1)
+    (l .before .before .before .before .before .before .pre .0 .place) in (
+      rest-strings (a .s .now) (a .start) (a .at) (a .end) (l .before .before .before .lead .ensures .0) (a .form) (l .before .r1 .given .1) (enum-told2 .enum-told2 .given .1)
+          (fields .fields .ensures .0),
+      within-later (length (a .s .now)) 0 _ (a .n) 1 (a .end) (a .n + 1) (fields .fields .result) (omega arith) (omega arith) (omega arith)
+          (fields .fields .ensures .1),
     )
 
 same-length-3 : tie.Need-same-length-3
@@ -147,16 +147,16 @@ same-length-3 c = search needs
 
 returns-4 : tie.Need-returns-4
 returns-4 c =
-    let l = c .before .before .before .before .before .before .before in
-    let enum-told3 = c .before .before .before .before .enum-told3 in
-    let preamble = c .before .before .preamble in
-    let a = l .before .before .before .before .before .args in
-    let k = step-place (length (a .s .now)) 1 (a .end) (l .r1 .given .1) (l .before .before .lead .ensures .1)
-    (l .before .before .before .before .before .pre .0 .place) in (
-      rest-preamble (a .s .now) (a .start) (a .at) (a .end) (l .before .before .lead .ensures .0) (a .form) (l .r1 .given .1) (enum-told3 .given .1)
-          (preamble .ensures .0),
-      within-later (length (a .s .now)) 2 _ (a .n) 1 (a .end) (a .n + 1) (preamble .result) (omega arith) (omega arith) (omega arith)
-          (preamble .ensures .1),
+    let preamble = c .before .before in
+    let enum-told3 = preamble .before .before in
+    let l = enum-told3 .before .before in
+    let a = l .before .before .before .before .before .before .args in
+    let k = step-place (length (a .s .now)) 1 (a .end) (l .before .r1 .given .1) (l .before .before .before .lead .ensures .1)
+    (l .before .before .before .before .before .before .pre .0 .place) in (
+      rest-preamble (a .s .now) (a .start) (a .at) (a .end) (l .before .before .before .lead .ensures .0) (a .form) (l .before .r1 .given .1) (enum-told3 .enum-told3 .given .1)
+          (preamble .preamble .ensures .0),
+      within-later (length (a .s .now)) 2 _ (a .n) 1 (a .end) (a .n + 1) (preamble .preamble .result) (omega arith) (omega arith) (omega arith)
+          (preamble .preamble .ensures .1),
     )
 
 returns-5 : tie.Need-returns-5
@@ -176,18 +176,18 @@ same-length-4 c = search needs
 
 returns-6 : tie.Need-returns-6
 returns-6 c =
-    let l = c .before .before .before .before .before .before .before .before .before .before .before .before .before .before .before .before .before .before in
-    let enum-told5 = c .before .before .before .before .before .before .before .before .before .before .before .before .before .before .before .enum-told5 in
-    let put-row = c .before .before .before .before .before .before .before .before .before .before .before .before .before .put-row in
-    let body = c .before .before .before .before .before .before .before .before .before .body in
-    let r2 = c .before .before .before .before .before .r2 in
-    let put-row2 = c .before .before .put-row2 in
-    let a = l .before .before .before .before .before .args in
-    let k = step-place (length (a .s .now)) 1 (a .end) (l .r1 .given .1) (l .before .before .lead .ensures .1)
-    (l .before .before .before .before .before .pre .0 .place) in
-    let q = answer-place (length (a .s .now)) 1 _ (a .n + 2) (r2 .given .1) (body .ensures .1) (k .1) in (
-      rest-other (a .s .now) (a .start) (a .at) (a .end) (l .before .before .lead .ensures .0) (a .form) (l .r1 .given .1) (enum-told5 .given .1)
-          (put-row .ensures) (says-at (r2 .given .1) (body .ensures .0)) (put-row2 .ensures),
+    let put-row2 = c .before .before in
+    let r2 = put-row2 .before .before .before in
+    let body = r2 .before .before .before .before in
+    let put-row = body .before .before .before .before in
+    let enum-told5 = put-row .before .before in
+    let l = enum-told5 .before .before in
+    let a = l .before .before .before .before .before .before .args in
+    let k = step-place (length (a .s .now)) 1 (a .end) (l .before .r1 .given .1) (l .before .before .before .lead .ensures .1)
+    (l .before .before .before .before .before .before .pre .0 .place) in
+    let q = answer-place (length (a .s .now)) 1 _ (a .n + 2) (r2 .r2 .given .1) (body .body .ensures .1) (k .1) in (
+      rest-other (a .s .now) (a .start) (a .at) (a .end) (l .before .before .before .lead .ensures .0) (a .form) (l .before .r1 .given .1) (enum-told5 .enum-told5 .given .1)
+          (put-row .put-row .ensures) (says-at (r2 .r2 .given .1) (body .body .ensures .0)) (put-row2 .put-row2 .ensures),
       (omega arith, omega arith, omega arith),
     )
 

@@ -41,15 +41,15 @@ shared-slice-read-if2 c = omega arith
 
 returns-2 : tie.Need-returns-2 Inv-loop μ-loop
 returns-2 c =
-    let a = c .before .before .before .before .before .before .before .before .before .args in
-    let asked = c .before .before .before .before .before .before .before .before .before .pre in
-    let if1 = c .before .before .before .before .before .before .if1 in
-    let turn = c .before .before .before .before .before .loop in
-    let test = c .before .before .before .before .loop-test in
-    let lower = c .before .before .lower in
+    let lower = c .before .before in
+    let test = lower .before .before in
+    let turn = test .before in
+    let if1 = turn .before in
+    let asked = if1 .before .before .before in
+    let a = asked .args in
     sym
-    (turn .inv .1 ∙ spells-off (a .s .now) (a .word .now) (a .at) (a .end) (asked) (if1 .left) (turn .k) (test .taken)
-    (λ q. c .if2 .taken (lower .ensures ∙ q)))
+    (turn .loop .inv .1 ∙ spells-off (a .s .now) (a .word .now) (a .at) (a .end) (asked .pre) (if1 .if1 .left) (turn .loop .k) (test .loop-test .taken)
+    (λ q. c .if2 .taken (lower .lower .ensures ∙ q)))
 
 add-k : tie.Need-add-k Inv-loop μ-loop
 add-k c = omega arith
@@ -59,14 +59,14 @@ loop-less c = omega arith
 
 loop-again : tie.Need-loop-again Inv-loop μ-loop
 loop-again c =
-    let a = c .before .before .before .before .before .before .before .before .before .args in
-    let asked = c .before .before .before .before .before .before .before .before .before .pre in
-    let if1 = c .before .before .before .before .before .before .if1 in
-    let turn = c .before .before .before .before .before .loop in
-    let test = c .before .before .before .before .loop-test in
+    let test = c .before .before .before .before in
+    let turn = test .before in
+    let if1 = turn .before in
+    let asked = if1 .before .before .before in
+    let a = asked .args in
     let lower = c .before .before .lower in (
       omega arith,
-      turn .inv .1 ∙ spells-on (a .s .now) (a .word .now) (a .at) (a .end) (asked) (if1 .left) (turn .k) (test .taken)
+      turn .loop .inv .1 ∙ spells-on (a .s .now) (a .word .now) (a .at) (a .end) (asked .pre) (if1 .if1 .left) (turn .loop .k) (test .loop-test .taken)
           (sym (lower .ensures) ∙ c .if2 .left),
     )
 

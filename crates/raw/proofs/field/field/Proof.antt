@@ -23,10 +23,11 @@ refused-requires c κs = search needs
 
 returns : tie.Need-returns
 returns c =
-    let a = c .before .before .before .before .before .before .args in
-    let name = c .before .before .before .name in
-    let enum-told = c .before .enum-told in
-    off-step (length (a .s .now)) 3 (a .at) (name-off (a .kind) (a .s .now) (a .at) (name .ensures .0) (enum-told .given .1)) (enum-told .given .1)
+    let enum-told = c .before in
+    let name = enum-told .before .before in
+    let asked = name .before .before .before in
+    let a = asked .args in
+    off-step (length (a .s .now)) 3 (a .at) (name-off (a .kind) (a .s .now) (a .at) (name .name .ensures .0) (enum-told .enum-told .given .1)) (enum-told .enum-told .given .1)
     (c .refused .ensures)
 
 eat-whitespace-requires : tie.Need-eat-whitespace-requires
@@ -46,15 +47,16 @@ refused-requires-2 c κs = search needs
 
 returns-2 : tie.Need-returns-2
 returns-2 c =
-    let a = c .before .before .before .before .before .before .before .before .before .before .before .args in
-    let name = c .before .before .before .before .before .before .before .before .name in
-    let r1 = c .before .before .before .before .before .before .r1 in
-    let eat-whitespace = c .before .before .before .before .eat-whitespace in
-    let equals = c .before .before .before .equals in
-    let enum-told2 = c .before .enum-told2 in
+    let enum-told2 = c .before in
+    let equals = enum-told2 .before .before in
+    let eat-whitespace = equals .before in
+    let r1 = eat-whitespace .before .before in
+    let name = r1 .before .before in
+    let asked = name .before .before .before in
+    let a = asked .args in
     off-step (length (a .s .now)) 3 (a .at)
-    (equals-off (a .kind) (a .s .now) (a .at) (name .ensures .0) (r1 .given .1) (eat-whitespace .ensures .0) (equals .ensures .0)
-    (enum-told2 .given .1)) (enum-told2 .given .1) (c .refused2 .ensures)
+    (equals-off (a .kind) (a .s .now) (a .at) (name .name .ensures .0) (r1 .r1 .given .1) (eat-whitespace .eat-whitespace .ensures .0) (equals .equals .ensures .0)
+    (enum-told2 .enum-told2 .given .1)) (enum-told2 .enum-told2 .given .1) (c .refused2 .ensures)
 
 eat-whitespace-requires-2 : tie.Need-eat-whitespace-requires-2
 eat-whitespace-requires-2 c κs = search needs
@@ -64,49 +66,49 @@ add-put-row c = search needs
 
 add-put-row-2 : tie.Need-add-put-row-2
 add-put-row-2 c =
-    let a = c .before .before .before .before .before .before .before .before .before .before .before .before .before .args in
-    let asked = c .before .before .before .before .before .before .before .before .before .before .before .before .before .pre in
-    let name = c .before .before .before .before .before .before .before .before .before .before .name in
-    let r1 = c .before .before .before .before .before .before .before .before .r1 in
-    let eat-whitespace = c .before .before .before .before .before .before .eat-whitespace in
-    let equals = c .before .before .before .before .before .equals in
-    let r3 = c .before .before .before .r3 in
+    let r3 = c .before .before .before in
+    let equals = r3 .before .before in
+    let eat-whitespace = equals .before in
+    let r1 = eat-whitespace .before .before in
+    let name = r1 .before .before in
+    let asked = name .before .before .before in
+    let a = asked .args in
     let len = length (a .s .now) in
-    let k = step-place len 1 (a .at) (r1 .given .1) (name .ensures .1) (asked .place) in
-    let l = step-place len 1 _ (r3 .given .1) (equals .ensures .1) (omega (arith, k .1, eat-whitespace .ensures .1 .to)) in
-    omega (arith, asked .file)
+    let k = step-place len 1 (a .at) (r1 .r1 .given .1) (name .name .ensures .1) (asked .pre .place) in
+    let l = step-place len 1 _ (r3 .r3 .given .1) (equals .equals .ensures .1) (omega (arith, k .1, eat-whitespace .eat-whitespace .ensures .1 .to)) in
+    omega (arith, asked .pre .file)
 
 put-row-requires : tie.Need-put-row-requires
 put-row-requires c κs =
-    let a = c .before .before .before .before .before .before .before .before .before .before .before .before .before .args in
-    let asked = c .before .before .before .before .before .before .before .before .before .before .before .before .before .pre in
-    let name = c .before .before .before .before .before .before .before .before .before .before .name in
-    let r1 = c .before .before .before .before .before .before .before .before .r1 in
-    let eat-whitespace = c .before .before .before .before .before .before .eat-whitespace in
-    let equals = c .before .before .before .before .before .equals in
-    let r3 = c .before .before .before .r3 in
+    let r3 = c .before .before .before in
+    let equals = r3 .before .before in
+    let eat-whitespace = equals .before in
+    let r1 = eat-whitespace .before .before in
+    let name = r1 .before .before in
+    let asked = name .before .before .before in
+    let a = asked .args in
     let len = length (a .s .now) in
-    let k = step-place len 1 (a .at) (r1 .given .1) (name .ensures .1) (asked .place) in
-    let l = step-place len 1 _ (r3 .given .1) (equals .ensures .1) (omega (arith, k .1, eat-whitespace .ensures .1 .to)) in
-    (omega (arith, asked .file, asked .place), omega (arith, asked .file))
+    let k = step-place len 1 (a .at) (r1 .r1 .given .1) (name .name .ensures .1) (asked .pre .place) in
+    let l = step-place len 1 _ (r3 .r3 .given .1) (equals .equals .ensures .1) (omega (arith, k .1, eat-whitespace .eat-whitespace .ensures .1 .to)) in
+    (omega (arith, asked .pre .file, asked .pre .place), omega (arith, asked .pre .file))
 
 add-abbr-field : tie.Need-add-abbr-field
 add-abbr-field c = search needs
 
 abbr-field-requires : tie.Need-abbr-field-requires
 abbr-field-requires c κs =
-    let a = c .before .before .before .before .before .before .before .before .before .before .before .before .before .before .before .before .before .args in
-    let asked = c .before .before .before .before .before .before .before .before .before .before .before .before .before .before .before .before .before .pre in
-    let name = c .before .before .before .before .before .before .before .before .before .before .before .before .before .before .name in
-    let r1 = c .before .before .before .before .before .before .before .before .before .before .before .before .r1 in
-    let eat-whitespace = c .before .before .before .before .before .before .before .before .before .before .eat-whitespace in
-    let equals = c .before .before .before .before .before .before .before .before .before .equals in
-    let r3 = c .before .before .before .before .before .before .before .r3 in
-    let eat-whitespace2 = c .before .before .before .before .before .eat-whitespace2 in
+    let eat-whitespace2 = c .before .before .before .before .before in
+    let r3 = eat-whitespace2 .before .before in
+    let equals = r3 .before .before in
+    let eat-whitespace = equals .before in
+    let r1 = eat-whitespace .before .before in
+    let name = r1 .before .before in
+    let asked = name .before .before .before in
+    let a = asked .args in
     let len = length (a .s .now) in
-    let k = step-place len 1 (a .at) (r1 .given .1) (name .ensures .1) (asked .place) in
-    let l = step-place len 1 _ (r3 .given .1) (equals .ensures .1) (omega (arith, k .1, eat-whitespace .ensures .1 .to)) in
-    ready-later _ (a .n + 1 + 1) (asked) (omega arith) (omega (arith, eat-whitespace2 .ensures .1 .to)) (omega arith)
+    let k = step-place len 1 (a .at) (r1 .r1 .given .1) (name .name .ensures .1) (asked .pre .place) in
+    let l = step-place len 1 _ (r3 .r3 .given .1) (equals .equals .ensures .1) (omega (arith, k .1, eat-whitespace .eat-whitespace .ensures .1 .to)) in
+    ready-later _ (a .n + 1 + 1) (asked .pre) (omega arith) (omega (arith, eat-whitespace2 .eat-whitespace2 .ensures .1 .to)) (omega arith)
 
 enum-known-r5 : tie.Need-enum-known-r5
 enum-known-r5 c = search needs
@@ -119,17 +121,18 @@ same-length c = search needs
 
 returns-3 : tie.Need-returns-3
 returns-3 c =
-    let a = c .before .before .before .before .before .before .before .before .before .before .before .before .before .before .before .before .before .before .before .before .before .before .args in
-    let name = c .before .before .before .before .before .before .before .before .before .before .before .before .before .before .before .before .before .before .before .name in
-    let r1 = c .before .before .before .before .before .before .before .before .before .before .before .before .before .before .before .before .before .r1 in
-    let eat-whitespace = c .before .before .before .before .before .before .before .before .before .before .before .before .before .before .before .eat-whitespace in
-    let equals = c .before .before .before .before .before .before .before .before .before .before .before .before .before .before .equals in
-    let r3 = c .before .before .before .before .before .before .before .before .before .before .before .before .r3 in
-    let eat-whitespace2 = c .before .before .before .before .before .before .before .before .before .before .eat-whitespace2 in
-    let put-row = c .before .before .before .before .before .before .before .before .put-row in
+    let put-row = c .before .before .before .before .before .before .before .before in
+    let eat-whitespace2 = put-row .before .before in
+    let r3 = eat-whitespace2 .before .before in
+    let equals = r3 .before .before in
+    let eat-whitespace = equals .before in
+    let r1 = eat-whitespace .before .before in
+    let name = r1 .before .before in
+    let asked = name .before .before .before in
+    let a = asked .args in
     let abbr-field = c .before .before .before .before .abbr-field in (
-      value-off (a .kind) (a .s .now) (a .at) (name .ensures .0) (r1 .given .1) (eat-whitespace .ensures .0) (equals .ensures .0) (r3 .given .1)
-          (eat-whitespace2 .ensures .0) (put-row .ensures) (abbr-field .ensures .0) (c .enum-told3 .given .1),
+      value-off (a .kind) (a .s .now) (a .at) (name .name .ensures .0) (r1 .r1 .given .1) (eat-whitespace .eat-whitespace .ensures .0) (equals .equals .ensures .0) (r3 .r3 .given .1)
+          (eat-whitespace2 .eat-whitespace2 .ensures .0) (put-row .put-row .ensures) (abbr-field .ensures .0) (c .enum-told3 .given .1),
       off-within (length (a .s .now)) 3 (a .at) (a .n) (c .enum-told3 .given .1),
     )
 

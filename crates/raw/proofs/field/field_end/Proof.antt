@@ -23,33 +23,36 @@ comment-requires c κs = search needs
 
 returns : tie.Need-returns
 returns c =
-    let a = c .before .before .before .before .before .before .before .args in
-    let eat-whitespace = c .before .before .before .before .before .eat-whitespace in
-    let if1 = c .before .before .before .before .if1 in
-    let if2 = c .before .before .if2 in
+    let if2 = c .before .before in
+    let if1 = if2 .before .before in
+    let eat-whitespace = if1 .before in
+    let asked = eat-whitespace .before .before in
+    let a = asked .args in
     let eat-whitespace2 = c .before .eat-whitespace2 in (
       λ base b. turn-again
-          (end-comma (a .s .now) (a .at) (eat-whitespace .ensures .0) (if1 .taken) (if2 .taken) (eat-whitespace2 .ensures .0) (c .comment .ensures .0)),
+          (end-comma (a .s .now) (a .at) (eat-whitespace .eat-whitespace .ensures .0) (if1 .if1 .taken) (if2 .if2 .taken) (eat-whitespace2 .ensures .0) (c .comment .ensures .0)),
       (omega arith, omega arith, omega arith),
     )
 
 returns-2 : tie.Need-returns-2
 returns-2 c =
-    let a = c .before .before .before .before .before .before .args in
-    let eat-whitespace = c .before .before .before .before .eat-whitespace in
-    let if1 = c .before .before .before .if1 in
+    let if1 = c .before .before .before in
+    let eat-whitespace = if1 .before in
+    let asked = eat-whitespace .before .before in
+    let a = asked .args in
     let if2 = c .before .if2 in (
-      λ base b. turn-done (end-brace (a .s .now) (a .at) (eat-whitespace .ensures .0) (if1 .taken) (if2 .left) (c .if3 .taken)),
+      λ base b. turn-done (end-brace (a .s .now) (a .at) (eat-whitespace .eat-whitespace .ensures .0) (if1 .if1 .taken) (if2 .left) (c .if3 .taken)),
       (omega arith, omega arith, omega arith),
     )
 
 returns-3 : tie.Need-returns-3
 returns-3 c =
-    let a = c .before .before .before .before .before .before .args in
-    let eat-whitespace = c .before .before .before .before .eat-whitespace in
-    let if1 = c .before .before .before .if1 in
-    let if2 = c .before .if2 in
-    (λ base b. turn-off (end-off (a .s .now) (a .at) (eat-whitespace .ensures .0) (if1 .taken) (if2 .left) (c .if3 .left)), tt)
+    let if2 = c .before in
+    let if1 = if2 .before .before in
+    let eat-whitespace = if1 .before in
+    let asked = eat-whitespace .before .before in
+    let a = asked .args in
+    (λ base b. turn-off (end-off (a .s .now) (a .at) (eat-whitespace .eat-whitespace .ensures .0) (if1 .if1 .taken) (if2 .if2 .left) (c .if3 .left)), tt)
 
 returns-4 : tie.Need-returns-4
 returns-4 c =

@@ -39,27 +39,29 @@ enum-known-q c = search needs
 
 loop-less : tie.Need-loop-less Inv-loop μ-loop
 loop-less c =
-    let a = c .before .before .before .before .before .before .before .before .before .before .args in
-    let l = c .before .before .before .before .before .before .before .loop in
-    let fields-turn = c .before .before .before .before .before .fields-turn in
-    let q = c .before .q in
-    let k = again-place (length (a .s .now)) 0 (l .p) (l .m) 1 (q .given .1) (fields-turn .ensures .1) (l .inv .1) in
+    let q = c .before in
+    let fields-turn = q .before .before .before .before in
+    let l = fields-turn .before .before in
+    let asked = l .before .before .before in
+    let a = asked .args in
+    let k = again-place (length (a .s .now)) 0 (l .loop .p) (l .loop .m) 1 (q .q .given .1) (fields-turn .fields-turn .ensures .1) (l .loop .inv .1) in
     omega arith
 
 loop-again : tie.Need-loop-again Inv-loop μ-loop
 unfolding fieldsTurn
 loop-again c =
-    let a = c .before .before .before .before .before .before .before .before .before .before .args in
-    let l = c .before .before .before .before .before .before .before .loop in
-    let fields-turn = c .before .before .before .before .before .fields-turn in
-    let q = c .before .q in
-    let k = again-place (length (a .s .now)) 0 (l .p) (l .m) 1 (q .given .1) (fields-turn .ensures .1) (l .inv .1) in
-    let t = turn-at (q .given .1) (fields-turn .ensures .0) in (
+    let q = c .before in
+    let fields-turn = q .before .before .before .before in
+    let l = fields-turn .before .before in
+    let asked = l .before .before .before in
+    let a = asked .args in
+    let k = again-place (length (a .s .now)) 0 (l .loop .p) (l .loop .m) 1 (q .q .given .1) (fields-turn .fields-turn .ensures .1) (l .loop .inv .1) in
+    let t = turn-at (q .q .given .1) (fields-turn .fields-turn .ensures .0) in (
       omega arith,
       k .1,
       omega arith,
-      fields-turn .kept .1 .1 .1 .0 ∙ l .inv .3,
-      loop-on (fieldsTurn (a .kind)) (a .s .now) (l .p) (λ a s p. refl) (l .inv .4) (omega arith) (k .1) t,
+      fields-turn .fields-turn .kept .1 .1 .1 .0 ∙ l .loop .inv .3,
+      loop-on (fieldsTurn (a .kind)) (a .s .now) (l .loop .p) (λ a s p. refl) (l .loop .inv .4) (omega arith) (k .1) t,
     )
 
 enum-known-q-2 : tie.Need-enum-known-q-2 Inv-loop μ-loop
@@ -67,19 +69,20 @@ enum-known-q-2 c = search needs
 
 same-length : tie.Need-same-length Inv-loop μ-loop
 same-length c =
-    let turn = c .before .before .before .before .before .before .before .loop in
-    let fields-turn = c .before .before .before .before .before .fields-turn in
-    fields-turn .kept .1 .1 .1 .0 ∙ turn .inv .3
+    let fields-turn = c .before .before .before .before .before in
+    let turn = fields-turn .before .before in
+    fields-turn .fields-turn .kept .1 .1 .1 .0 ∙ turn .loop .inv .3
 
 returns : tie.Need-returns Inv-loop μ-loop
 unfolding fields
 returns c =
-    let a = c .before .before .before .before .before .before .before .before .before .before .args in
-    let l = c .before .before .before .before .before .before .before .loop in
-    let fields-turn = c .before .before .before .before .before .fields-turn in
-    let q2 = c .before .q2 in
-    let k = done-place (length (a .s .now)) 0 (l .p) (l .m) 1 (q2 .given .1) (fields-turn .ensures .1) (l .inv .1) in (
-      loop-done (fieldsTurn (a .kind)) (a .s .now) (l .p) (l .inv .4) (turn-at (q2 .given .1) (fields-turn .ensures .0)),
+    let q2 = c .before in
+    let fields-turn = q2 .before .before .before .before in
+    let l = fields-turn .before .before in
+    let asked = l .before .before .before in
+    let a = asked .args in
+    let k = done-place (length (a .s .now)) 0 (l .loop .p) (l .loop .m) 1 (q2 .q2 .given .1) (fields-turn .fields-turn .ensures .1) (l .loop .inv .1) in (
+      loop-done (fieldsTurn (a .kind)) (a .s .now) (l .loop .p) (l .loop .inv .4) (turn-at (q2 .q2 .given .1) (fields-turn .fields-turn .ensures .0)),
       (omega arith, omega arith, omega arith),
     )
 
@@ -88,18 +91,19 @@ enum-known-f c = search needs
 
 same-length-2 : tie.Need-same-length-2 Inv-loop μ-loop
 same-length-2 c =
-    let turn = c .before .before .before .before .before .before .before .loop in
-    let fields-turn = c .before .before .before .before .before .fields-turn in
-    fields-turn .kept .1 .1 .1 .0 ∙ turn .inv .3
+    let fields-turn = c .before .before .before .before .before in
+    let turn = fields-turn .before .before in
+    fields-turn .fields-turn .kept .1 .1 .1 .0 ∙ turn .loop .inv .3
 
 returns-2 : tie.Need-returns-2 Inv-loop μ-loop
 unfolding fields
 returns-2 c =
-    let a = c .before .before .before .before .before .before .before .before .before .before .args in
-    let l = c .before .before .before .before .before .before .before .loop in
-    let fields-turn = c .before .before .before .before .before .fields-turn in
-    let f = c .before .f in
-    (says-off (loop-off (fieldsTurn (a .kind)) (a .s .now) (l .p) (l .inv .4) (turn-at (f .given .1) (fields-turn .ensures .0))), tt)
+    let f = c .before in
+    let fields-turn = f .before .before .before .before in
+    let l = fields-turn .before .before in
+    let asked = l .before .before .before in
+    let a = asked .args in
+    (says-off (loop-off (fieldsTurn (a .kind)) (a .s .now) (l .loop .p) (l .loop .inv .4) (turn-at (f .f .given .1) (fields-turn .fields-turn .ensures .0))), tt)
 
 pub fields-spec : {M : Type 1} → statement M
 fields-spec =

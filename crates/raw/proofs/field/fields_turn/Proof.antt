@@ -20,11 +20,12 @@ shared-slice-read-if3 c = search needs
 
 returns-2 : tie.Need-returns-2
 returns-2 c =
-    let a = c .before .before .before .before .before .before .before .args in
-    let if1 = c .before .before .before .before .if1 in
-    let eat-whitespace = c .before .before .before .eat-whitespace in
+    let eat-whitespace = c .before .before .before in
+    let if1 = eat-whitespace .before in
+    let asked = if1 .before .before .before in
+    let a = asked .args in
     let if2 = c .before .before .if2 in (
-      turn-done (fields-brace (a .kind) (a .s .now) (a .at) (if1 .left) (eat-whitespace .ensures .0) (if2 .taken) (c .if3 .taken)),
+      turn-done (fields-brace (a .kind) (a .s .now) (a .at) (if1 .if1 .left) (eat-whitespace .eat-whitespace .ensures .0) (if2 .taken) (c .if3 .taken)),
       (omega arith, omega arith, omega arith),
     )
 
@@ -39,16 +40,17 @@ same-length c = search needs
 
 returns-3 : tie.Need-returns-3
 returns-3 c =
-    let a = c .before .before .before .before .before .before .before .before .before .before .before .before .args in
-    let if1 = c .before .before .before .before .before .before .before .before .before .if1 in
-    let eat-whitespace = c .before .before .before .before .before .before .before .before .eat-whitespace in
-    let if2 = c .before .before .before .before .before .before .before .if2 in
-    let field = c .before .before .before .before .before .field in
+    let field = c .before .before .before .before .before in
+    let if2 = field .before .before in
+    let eat-whitespace = if2 .before in
+    let if1 = eat-whitespace .before in
+    let asked = if1 .before .before .before in
+    let a = asked .args in
     let f = c .before .f in (
-      fields-off (a .kind) (a .s .now) (a .at) (eat-whitespace .result)
-          (⊎-elim (λ w. fields-other (a .kind) (a .s .now) (a .at) (if1 .left) (eat-whitespace .ensures .0) (w .0 .taken) (w .2 .left))
-          (λ w. fields-end (a .kind) (a .s .now) (a .at) (if1 .left) (eat-whitespace .ensures .0) (w .left)) (if2 .came))
-          (says-at (f .given .1) (field .ensures .0)),
+      fields-off (a .kind) (a .s .now) (a .at) (eat-whitespace .eat-whitespace .result)
+          (⊎-elim (λ w. fields-other (a .kind) (a .s .now) (a .at) (if1 .if1 .left) (eat-whitespace .eat-whitespace .ensures .0) (w .0 .taken) (w .2 .left))
+          (λ w. fields-end (a .kind) (a .s .now) (a .at) (if1 .if1 .left) (eat-whitespace .eat-whitespace .ensures .0) (w .left)) (if2 .if2 .came))
+          (says-at (f .given .1) (field .field .ensures .0)),
       tt,
     )
 
@@ -63,19 +65,19 @@ same-length-2 c = search needs
 
 returns-4 : tie.Need-returns-4
 returns-4 c =
-    let a = c .before .before .before .before .before .before .before .before .before .before .before .before .before .args in
-    let asked = c .before .before .before .before .before .before .before .before .before .before .before .before .before .pre in
-    let if1 = c .before .before .before .before .before .before .before .before .before .before .if1 in
-    let eat-whitespace = c .before .before .before .before .before .before .before .before .before .eat-whitespace in
-    let if2 = c .before .before .before .before .before .before .before .before .if2 in
-    let field = c .before .before .before .before .before .before .field in
-    let p2 = c .before .before .p2 in
+    let p2 = c .before .before in
+    let field = p2 .before .before .before .before in
+    let if2 = field .before .before in
+    let eat-whitespace = if2 .before in
+    let if1 = eat-whitespace .before in
+    let asked = if1 .before .before .before in
+    let a = asked .args in
     let len = length (a .s .now) in
-    let k = answer-place len 3 _ (a .n) (p2 .given .1) (field .ensures .1) (omega (arith, eat-whitespace .ensures .1 .to, asked .place)) in (
-      fields-on (a .kind) (a .s .now) (a .at) (eat-whitespace .result)
-          (⊎-elim (λ w. fields-other (a .kind) (a .s .now) (a .at) (if1 .left) (eat-whitespace .ensures .0) (w .0 .taken) (w .2 .left))
-          (λ w. fields-end (a .kind) (a .s .now) (a .at) (if1 .left) (eat-whitespace .ensures .0) (w .left)) (if2 .came))
-          (says-at (p2 .given .1) (field .ensures .0)) (c .field-end .ensures .0 (a .base) _),
+    let k = answer-place len 3 _ (a .n) (p2 .p2 .given .1) (field .field .ensures .1) (omega (arith, eat-whitespace .eat-whitespace .ensures .1 .to, asked .pre .place)) in (
+      fields-on (a .kind) (a .s .now) (a .at) (eat-whitespace .eat-whitespace .result)
+          (⊎-elim (λ w. fields-other (a .kind) (a .s .now) (a .at) (if1 .if1 .left) (eat-whitespace .eat-whitespace .ensures .0) (w .0 .taken) (w .2 .left))
+          (λ w. fields-end (a .kind) (a .s .now) (a .at) (if1 .if1 .left) (eat-whitespace .eat-whitespace .ensures .0) (w .left)) (if2 .if2 .came))
+          (says-at (p2 .p2 .given .1) (field .field .ensures .0)) (c .field-end .ensures .0 (a .base) _),
       turn-later len 1 0 _ _ 1 0 (a .at) (a .n) (c .field-end .result) (omega arith) (omega arith) (omega arith) (omega arith)
           (c .field-end .ensures .1),
     )

@@ -12,11 +12,12 @@ shared-slice-read-b c = search needs
 
 returns : tie.Need-returns
 returns c =
-    let a = c .before .before .before .before .before .before .args in
-    let eat-letters = c .before .before .before .before .eat-letters in
-    let if1 = c .before .before .before .if1 in
-    let if2 = c .before .before .if2 in
-    ident-letters (a .s .now) (a .at) (eat-letters .ensures) (if1 .taken) (if2 .taken) (c .if3 .taken)
+    let if2 = c .before .before in
+    let if1 = if2 .before in
+    let eat-letters = if1 .before in
+    let asked = eat-letters .before .before in
+    let a = asked .args in
+    ident-letters (a .s .now) (a .at) (eat-letters .eat-letters .ensures) (if1 .if1 .taken) (if2 .if2 .taken) (c .if3 .taken)
 
 ident-requires : tie.Need-ident-requires
 ident-requires c κs = search needs

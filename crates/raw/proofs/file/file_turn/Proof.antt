@@ -32,15 +32,16 @@ same-length c = search needs
 
 returns-2 : tie.Need-returns-2
 returns-2 c =
-    let a = c .before .before .before .before .before .before .before .before .before .before .before .before .before .args in
-    let eat-gap = c .before .before .before .before .before .before .before .before .before .before .eat-gap in
-    let if1 = c .before .before .before .before .before .before .before .before .before .if1 in
-    let if2 = c .before .before .before .before .before .before .before .if2 in
-    let entry = c .before .before .before .before .before .entry in
-    let p2 = c .before .p2 in
-    let k = answer-place (length (a .s .now)) 1 (eat-gap .result) (a .n) (p2 .given .1) (entry .ensures .1) (omega arith) in
-    let e = file-entry (a .s .now) (a .at) (eat-gap .ensures .0) (if1 .left) (if2 .taken) in
-    (turn-of e (turn-then _ (says-at (p2 .given .1) (entry .ensures .0)) (turn-again refl)), (omega arith, omega arith, omega arith))
+    let p2 = c .before in
+    let entry = p2 .before .before .before .before in
+    let if2 = entry .before .before in
+    let if1 = if2 .before .before in
+    let eat-gap = if1 .before in
+    let asked = eat-gap .before .before .before in
+    let a = asked .args in
+    let k = answer-place (length (a .s .now)) 1 (eat-gap .eat-gap .result) (a .n) (p2 .p2 .given .1) (entry .entry .ensures .1) (omega arith) in
+    let e = file-entry (a .s .now) (a .at) (eat-gap .eat-gap .ensures .0) (if1 .if1 .left) (if2 .if2 .taken) in
+    (turn-of e (turn-then _ (says-at (p2 .p2 .given .1) (entry .entry .ensures .0)) (turn-again refl)), (omega arith, omega arith, omega arith))
 
 enum-known-f : tie.Need-enum-known-f
 enum-known-f c = search needs
@@ -50,26 +51,28 @@ same-length-2 c = search needs
 
 returns-3 : tie.Need-returns-3
 returns-3 c =
-    let a = c .before .before .before .before .before .before .before .before .before .before .before .before .before .args in
-    let eat-gap = c .before .before .before .before .before .before .before .before .before .before .eat-gap in
-    let if1 = c .before .before .before .before .before .before .before .before .before .if1 in
-    let if2 = c .before .before .before .before .before .before .before .if2 in
-    let entry = c .before .before .before .before .before .entry in
-    let f = c .before .f in
-    let e = file-entry (a .s .now) (a .at) (eat-gap .ensures .0) (if1 .left) (if2 .taken) in
-    (turn-off (e ∙ then-off _ (said-off (says-at (f .given .1) (entry .ensures .0)))), tt)
+    let f = c .before in
+    let entry = f .before .before .before .before in
+    let if2 = entry .before .before in
+    let if1 = if2 .before .before in
+    let eat-gap = if1 .before in
+    let asked = eat-gap .before .before .before in
+    let a = asked .args in
+    let e = file-entry (a .s .now) (a .at) (eat-gap .eat-gap .ensures .0) (if1 .if1 .left) (if2 .if2 .taken) in
+    (turn-off (e ∙ then-off _ (said-off (says-at (f .f .given .1) (entry .entry .ensures .0)))), tt)
 
 comment-requires : tie.Need-comment-requires
 comment-requires c κs = search needs
 
 returns-4 : tie.Need-returns-4
 returns-4 c =
-    let a = c .before .before .before .before .before .before .before .before .args in
-    let eat-gap = c .before .before .before .before .before .eat-gap in
-    let if1 = c .before .before .before .before .if1 in
-    let if3 = c .before .if3 in
-    let k = comment-further (a .s .now) (eat-gap .result) (if1 .left) (if3 .taken) (c .comment .ensures .0) in (
-      turn-again (file-comment (a .s .now) (a .at) (eat-gap .ensures .0) (if1 .left) (if3 .taken) (c .comment .ensures .0)),
+    let if3 = c .before in
+    let if1 = if3 .before .before .before in
+    let eat-gap = if1 .before in
+    let asked = eat-gap .before .before .before in
+    let a = asked .args in
+    let k = comment-further (a .s .now) (eat-gap .eat-gap .result) (if1 .if1 .left) (if3 .if3 .taken) (c .comment .ensures .0) in (
+      turn-again (file-comment (a .s .now) (a .at) (eat-gap .eat-gap .ensures .0) (if1 .if1 .left) (if3 .if3 .taken) (c .comment .ensures .0)),
       (omega arith, omega arith, omega arith),
     )
 
@@ -78,12 +81,13 @@ eat-requires c κs = search needs
 
 returns-5 : tie.Need-returns-5
 returns-5 c =
-    let a = c .before .before .before .before .before .before .before .before .args in
-    let eat-gap = c .before .before .before .before .before .eat-gap in
-    let if1 = c .before .before .before .before .if1 in
-    let if2 = c .before .before .if2 in
-    let if3 = c .before .if3 in
-    let k = file-other (a .s .now) (a .at) (eat-gap .ensures .0) (if1 .left) (if2 .left) (if3 .left) (c .eat .ensures .0) in
+    let if3 = c .before in
+    let if2 = if3 .before in
+    let if1 = if2 .before .before in
+    let eat-gap = if1 .before in
+    let asked = eat-gap .before .before .before in
+    let a = asked .args in
+    let k = file-other (a .s .now) (a .at) (eat-gap .eat-gap .ensures .0) (if1 .if1 .left) (if2 .if2 .left) (if3 .if3 .left) (c .eat .ensures .0) in
     (turn-again (k .0), (omega arith, omega arith, omega arith))
 
 pub file-turn-spec : {M : Type 1} → statement M

@@ -32,25 +32,27 @@ enum-known-q c = search needs
 
 loop-less : tie.Need-loop-less Inv-loop μ-loop
 loop-less c =
-    let a = c .before .before .before .before .before .before .before .before .before .before .args in
-    let l = c .before .before .before .before .before .before .before .loop in
-    let file-turn = c .before .before .before .before .before .file-turn in
-    let q = c .before .q in
-    let k = again-place (length (a .s .now)) 0 (l .p) (l .m) 1 (q .given .1) (file-turn .ensures .1) (l .inv .0) in
+    let q = c .before in
+    let file-turn = q .before .before .before .before in
+    let l = file-turn .before .before in
+    let asked = l .before .before .before in
+    let a = asked .args in
+    let k = again-place (length (a .s .now)) 0 (l .loop .p) (l .loop .m) 1 (q .q .given .1) (file-turn .file-turn .ensures .1) (l .loop .inv .0) in
     omega arith
 
 loop-again : tie.Need-loop-again Inv-loop μ-loop
 unfolding fileTurn
 loop-again c =
-    let a = c .before .before .before .before .before .before .before .before .before .before .args in
-    let l = c .before .before .before .before .before .before .before .loop in
-    let file-turn = c .before .before .before .before .before .file-turn in
-    let q = c .before .q in
-    let k = again-place (length (a .s .now)) 0 (l .p) (l .m) 1 (q .given .1) (file-turn .ensures .1) (l .inv .0) in (
+    let q = c .before in
+    let file-turn = q .before .before .before .before in
+    let l = file-turn .before .before in
+    let asked = l .before .before .before in
+    let a = asked .args in
+    let k = again-place (length (a .s .now)) 0 (l .loop .p) (l .loop .m) 1 (q .q .given .1) (file-turn .file-turn .ensures .1) (l .loop .inv .0) in (
       omega arith,
       omega arith,
-      file-turn .kept .1 .1 .1 .0 ∙ l .inv .2,
-      loop-on fileTurn (a .s .now) (l .p) (λ a s p. refl) (l .inv .3) (omega arith) (k .1) (turn-at (q .given .1) (file-turn .ensures .0)),
+      file-turn .file-turn .kept .1 .1 .1 .0 ∙ l .loop .inv .2,
+      loop-on fileTurn (a .s .now) (l .loop .p) (λ a s p. refl) (l .loop .inv .3) (omega arith) (k .1) (turn-at (q .q .given .1) (file-turn .file-turn .ensures .0)),
     )
 
 enum-known-q-2 : tie.Need-enum-known-q-2 Inv-loop μ-loop
@@ -58,37 +60,39 @@ enum-known-q-2 c = search needs
 
 same-length : tie.Need-same-length Inv-loop μ-loop
 same-length c =
-    let turn = c .before .before .before .before .before .before .before .loop in
-    let file-turn = c .before .before .before .before .before .file-turn in
-    file-turn .kept .1 .1 .1 .0 ∙ turn .inv .2
+    let file-turn = c .before .before .before .before .before in
+    let turn = file-turn .before .before in
+    file-turn .file-turn .kept .1 .1 .1 .0 ∙ turn .loop .inv .2
 
 returns : tie.Need-returns Inv-loop μ-loop
 unfolding file
 returns c =
-    let a = c .before .before .before .before .before .before .before .before .before .before .args in
-    let l = c .before .before .before .before .before .before .before .loop in
-    let file-turn = c .before .before .before .before .before .file-turn in
-    let q2 = c .before .q2 in
-    let k = done-place (length (a .s .now)) 0 (l .p) (l .m) 1 (q2 .given .1) (file-turn .ensures .1) (l .inv .0) in
-    (loop-done fileTurn (a .s .now) (l .p) (l .inv .3) (turn-at (q2 .given .1) (file-turn .ensures .0)), (omega arith, omega arith, omega arith))
+    let q2 = c .before in
+    let file-turn = q2 .before .before .before .before in
+    let l = file-turn .before .before in
+    let asked = l .before .before .before in
+    let a = asked .args in
+    let k = done-place (length (a .s .now)) 0 (l .loop .p) (l .loop .m) 1 (q2 .q2 .given .1) (file-turn .file-turn .ensures .1) (l .loop .inv .0) in
+    (loop-done fileTurn (a .s .now) (l .loop .p) (l .loop .inv .3) (turn-at (q2 .q2 .given .1) (file-turn .file-turn .ensures .0)), (omega arith, omega arith, omega arith))
 
 enum-known-f : tie.Need-enum-known-f Inv-loop μ-loop
 enum-known-f c = search needs
 
 same-length-2 : tie.Need-same-length-2 Inv-loop μ-loop
 same-length-2 c =
-    let turn = c .before .before .before .before .before .before .before .loop in
-    let file-turn = c .before .before .before .before .before .file-turn in
-    file-turn .kept .1 .1 .1 .0 ∙ turn .inv .2
+    let file-turn = c .before .before .before .before .before in
+    let turn = file-turn .before .before in
+    file-turn .file-turn .kept .1 .1 .1 .0 ∙ turn .loop .inv .2
 
 returns-2 : tie.Need-returns-2 Inv-loop μ-loop
 unfolding file
 returns-2 c =
-    let a = c .before .before .before .before .before .before .before .before .before .before .args in
-    let l = c .before .before .before .before .before .before .before .loop in
-    let file-turn = c .before .before .before .before .before .file-turn in
-    let f = c .before .f in
-    (says-off (loop-off fileTurn (a .s .now) (l .p) (l .inv .3) (turn-at (f .given .1) (file-turn .ensures .0))), tt)
+    let f = c .before in
+    let file-turn = f .before .before .before .before in
+    let l = file-turn .before .before in
+    let asked = l .before .before .before in
+    let a = asked .args in
+    (says-off (loop-off fileTurn (a .s .now) (l .loop .p) (l .loop .inv .3) (turn-at (f .f .given .1) (file-turn .file-turn .ensures .0))), tt)
 
 pub parse-spec : {M : Type 1} → statement M
 parse-spec =

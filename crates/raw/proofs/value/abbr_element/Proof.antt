@@ -20,14 +20,15 @@ same-length c = search needs
 
 returns : tie.Need-returns
 returns c =
-    let a = c .before .before .before .before .before .before .before .before .before .args in
-    let if1 = c .before .before .before .before .before .before .if1 in
-    let if2 = c .before .before .before .before .if2 in
-    let braced = c .before .before .braced in
-    let whole = if1 .taken in (
-      says-of (element-braced (a .s .now) (a .at) whole (if2 .taken)) (braced .ensures .0),
-      within-later (length (a .s .now)) 2 (a .at) (a .n) 1 (a .at) (a .n) (braced .result) (omega arith) (omega arith) (omega arith)
-          (braced .ensures .1),
+    let braced = c .before .before in
+    let if2 = braced .before .before in
+    let if1 = if2 .before .before in
+    let asked = if1 .before .before .before in
+    let a = asked .args in
+    let whole = if1 .if1 .taken in (
+      says-of (element-braced (a .s .now) (a .at) whole (if2 .if2 .taken)) (braced .braced .ensures .0),
+      within-later (length (a .s .now)) 2 (a .at) (a .n) 1 (a .at) (a .n) (braced .braced .result) (omega arith) (omega arith) (omega arith)
+          (braced .braced .ensures .1),
     )
 
 string-literal-requires : tie.Need-string-literal-requires
@@ -38,15 +39,16 @@ same-length-2 c = search needs
 
 returns-2 : tie.Need-returns-2
 returns-2 c =
-    let a = c .before .before .before .before .before .before .before .before .before .before .args in
-    let if1 = c .before .before .before .before .before .before .before .if1 in
-    let if2 = c .before .before .before .before .before .if2 in
-    let if3 = c .before .before .before .before .if3 in
-    let string = c .before .before .string-literal in
-    let whole = if1 .taken in (
-      says-of (element-quoted (a .s .now) (a .at) whole (if2 .left) (if3 .taken)) (string .ensures .0),
-      within-later (length (a .s .now)) 2 (a .at) (a .n) 1 (a .at) (a .n) (string .result) (omega arith) (omega arith) (omega arith)
-          (string .ensures .1),
+    let string = c .before .before in
+    let if3 = string .before .before in
+    let if2 = if3 .before in
+    let if1 = if2 .before .before in
+    let asked = if1 .before .before .before in
+    let a = asked .args in
+    let whole = if1 .if1 .taken in (
+      says-of (element-quoted (a .s .now) (a .at) whole (if2 .if2 .left) (if3 .if3 .taken)) (string .string-literal .ensures .0),
+      within-later (length (a .s .now)) 2 (a .at) (a .n) 1 (a .at) (a .n) (string .string-literal .result) (omega arith) (omega arith) (omega arith)
+          (string .string-literal .ensures .1),
     )
 
 bare-element-requires : tie.Need-bare-element-requires

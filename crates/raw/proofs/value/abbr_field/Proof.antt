@@ -45,29 +45,31 @@ enum-known-q c = search needs
 
 loop-less : tie.Need-loop-less Inv-loop μ-loop
 loop-less c =
-    let a = c .before .before .before .before .before .before .before .before .before .before .args in
-    let l = c .before .before .before .before .before .before .before .loop in
-    let abbr-turn = c .before .before .before .before .before .abbr-turn in
-    let q = c .before .q in
+    let q = c .before in
+    let abbr-turn = q .before .before .before .before in
+    let l = abbr-turn .before .before in
+    let asked = l .before .before .before in
+    let a = asked .args in
     let len = length (a .s .now) in
-    let k = again-place len 1 (l .p) (l .m) 1 (q .given .1) (abbr-turn .ensures .1) (l .inv .1) in
+    let k = again-place len 1 (l .loop .p) (l .loop .m) 1 (q .q .given .1) (abbr-turn .abbr-turn .ensures .1) (l .loop .inv .1) in
     omega arith
 
 loop-again : tie.Need-loop-again Inv-loop μ-loop
 unfolding abbrTurn
 loop-again c =
-    let a = c .before .before .before .before .before .before .before .before .before .before .args in
-    let l = c .before .before .before .before .before .before .before .loop in
-    let abbr-turn = c .before .before .before .before .before .abbr-turn in
-    let q = c .before .q in
+    let q = c .before in
+    let abbr-turn = q .before .before .before .before in
+    let l = abbr-turn .before .before in
+    let asked = l .before .before .before in
+    let a = asked .args in
     let len = length (a .s .now) in
-    let k = again-place len 1 (l .p) (l .m) 1 (q .given .1) (abbr-turn .ensures .1) (l .inv .1) in
-    let t = turn-at (q .given .1) (abbr-turn .ensures .0) in (
+    let k = again-place len 1 (l .loop .p) (l .loop .m) 1 (q .q .given .1) (abbr-turn .abbr-turn .ensures .1) (l .loop .inv .1) in
+    let t = turn-at (q .q .given .1) (abbr-turn .abbr-turn .ensures .0) in (
       omega arith,
       k .1,
       omega arith,
-      abbr-turn .kept .1 .1 .1 .0 ∙ l .inv .3,
-      loop-on abbrTurn (a .s .now) (l .p) (λ a s p. refl) (l .inv .4) (omega arith) (k .1) t,
+      abbr-turn .abbr-turn .kept .1 .1 .1 .0 ∙ l .loop .inv .3,
+      loop-on abbrTurn (a .s .now) (l .loop .p) (λ a s p. refl) (l .loop .inv .4) (omega arith) (k .1) t,
     )
 
 enum-known-q-2 : tie.Need-enum-known-q-2 Inv-loop μ-loop
@@ -82,63 +84,65 @@ add-put-row c =
 
 add-put-row-2 : tie.Need-add-put-row-2 Inv-loop μ-loop
 add-put-row-2 c =
-    let a = c .before .before .before .before .before .before .before .before .before .before .before .args in
-    let asked = c .before .before .before .before .before .before .before .before .before .before .before .pre in
-    let l = c .before .before .before .before .before .before .before .before .loop in
-    let abbr-turn = c .before .before .before .before .before .before .abbr-turn in
-    let q2 = c .before .before .q2 in
+    let q2 = c .before .before in
+    let abbr-turn = q2 .before .before .before .before in
+    let l = abbr-turn .before .before in
+    let asked = l .before .before .before in
+    let a = asked .args in
     let len = length (a .s .now) in
-    let k = done-place len 1 (l .p) (l .m) 1 (q2 .given .1) (abbr-turn .ensures .1) (l .inv .1) in
-    omega (arith, asked .file)
+    let k = done-place len 1 (l .loop .p) (l .loop .m) 1 (q2 .q2 .given .1) (abbr-turn .abbr-turn .ensures .1) (l .loop .inv .1) in
+    omega (arith, asked .pre .file)
 
 put-row-requires : tie.Need-put-row-requires Inv-loop μ-loop
 put-row-requires c κs =
-    let a = c .before .before .before .before .before .before .before .before .before .before .before .args in
-    let asked = c .before .before .before .before .before .before .before .before .before .before .before .pre in
-    let l = c .before .before .before .before .before .before .before .before .loop in
-    let abbr-turn = c .before .before .before .before .before .before .abbr-turn in
-    let q2 = c .before .before .q2 in
+    let q2 = c .before .before in
+    let abbr-turn = q2 .before .before .before .before in
+    let l = abbr-turn .before .before in
+    let asked = l .before .before .before in
+    let a = asked .args in
     let len = length (a .s .now) in
-    let k = done-place len 1 (l .p) (l .m) 1 (q2 .given .1) (abbr-turn .ensures .1) (l .inv .1) in
-    (omega (arith, asked .file, asked .place), omega (arith, asked .file))
+    let k = done-place len 1 (l .loop .p) (l .loop .m) 1 (q2 .q2 .given .1) (abbr-turn .abbr-turn .ensures .1) (l .loop .inv .1) in
+    (omega (arith, asked .pre .file, asked .pre .place), omega (arith, asked .pre .file))
 
 same-length : tie.Need-same-length Inv-loop μ-loop
 same-length c =
-    let turn = c .before .before .before .before .before .before .before .before .before .before .before .loop in
-    let abbr-turn = c .before .before .before .before .before .before .before .before .before .abbr-turn in
-    let put-row = c .before .before .put-row in
-    put-row .kept .0 ∙ abbr-turn .kept .1 .1 .1 .0 ∙ turn .inv .3
+    let put-row = c .before .before in
+    let abbr-turn = put-row .before .before .before .before .before .before .before in
+    let turn = abbr-turn .before .before in
+    put-row .put-row .kept .0 ∙ abbr-turn .abbr-turn .kept .1 .1 .1 .0 ∙ turn .loop .inv .3
 
 returns : tie.Need-returns Inv-loop μ-loop
 unfolding abbrField
 returns c =
-    let a = c .before .before .before .before .before .before .before .before .before .before .before .before .before .before .args in
-    let l = c .before .before .before .before .before .before .before .before .before .before .before .loop in
-    let abbr-turn = c .before .before .before .before .before .before .before .before .before .abbr-turn in
-    let q2 = c .before .before .before .before .before .q2 in
-    let put-row = c .before .before .put-row in
+    let put-row = c .before .before in
+    let q2 = put-row .before .before .before in
+    let abbr-turn = q2 .before .before .before .before in
+    let l = abbr-turn .before .before in
+    let asked = l .before .before .before in
+    let a = asked .args in
     let len = length (a .s .now) in
-    let k = done-place len 1 (l .p) (l .m) 1 (q2 .given .1) (abbr-turn .ensures .1) (l .inv .1) in
-    let t = loop-done abbrTurn (a .s .now) (l .p) (l .inv .4) (turn-at (q2 .given .1) (abbr-turn .ensures .0)) in
-    (rw (put-row .ensures) (says-under kind.Value (a .at) t), (omega arith, omega arith, omega arith))
+    let k = done-place len 1 (l .loop .p) (l .loop .m) 1 (q2 .q2 .given .1) (abbr-turn .abbr-turn .ensures .1) (l .loop .inv .1) in
+    let t = loop-done abbrTurn (a .s .now) (l .loop .p) (l .loop .inv .4) (turn-at (q2 .q2 .given .1) (abbr-turn .abbr-turn .ensures .0)) in
+    (rw (put-row .put-row .ensures) (says-under kind.Value (a .at) t), (omega arith, omega arith, omega arith))
 
 enum-known-f : tie.Need-enum-known-f Inv-loop μ-loop
 enum-known-f c = search needs
 
 same-length-2 : tie.Need-same-length-2 Inv-loop μ-loop
 same-length-2 c =
-    let turn = c .before .before .before .before .before .before .before .loop in
-    let abbr-turn = c .before .before .before .before .before .abbr-turn in
-    abbr-turn .kept .1 .1 .1 .0 ∙ turn .inv .3
+    let abbr-turn = c .before .before .before .before .before in
+    let turn = abbr-turn .before .before in
+    abbr-turn .abbr-turn .kept .1 .1 .1 .0 ∙ turn .loop .inv .3
 
 returns-2 : tie.Need-returns-2 Inv-loop μ-loop
 unfolding abbrField
 returns-2 c =
-    let a = c .before .before .before .before .before .before .before .before .before .before .args in
-    let l = c .before .before .before .before .before .before .before .loop in
-    let abbr-turn = c .before .before .before .before .before .abbr-turn in
-    let f = c .before .f in
-    let e = loop-off abbrTurn (a .s .now) (l .p) (l .inv .4) (turn-at (f .given .1) (abbr-turn .ensures .0)) in
+    let f = c .before in
+    let abbr-turn = f .before .before .before .before in
+    let l = abbr-turn .before .before in
+    let asked = l .before .before .before in
+    let a = asked .args in
+    let e = loop-off abbrTurn (a .s .now) (l .loop .p) (l .loop .inv .4) (turn-at (f .f .given .1) (abbr-turn .abbr-turn .ensures .0)) in
     (says-off (ap (under (row kind.Value (a .at))) e), tt)
 
 pub abbr-field-spec : {M : Type 1} → statement M

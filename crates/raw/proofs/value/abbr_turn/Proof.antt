@@ -20,10 +20,11 @@ same-length c = search needs
 
 returns : tie.Need-returns
 returns c =
-    let a = c .before .before .before .before .before .before .before .before .before .args in
-    let abbr-element = c .before .before .before .before .before .abbr-element in
-    let r1 = c .before .r1 in
-    (turn-off (element-off (a .s .now) (a .at) (says-at (r1 .given .1) (abbr-element .ensures .0))), tt)
+    let r1 = c .before in
+    let abbr-element = r1 .before .before .before .before in
+    let asked = abbr-element .before .before .before .before in
+    let a = asked .args in
+    (turn-off (element-off (a .s .now) (a .at) (says-at (r1 .r1 .given .1) (abbr-element .abbr-element .ensures .0))), tt)
 
 enum-known-r1-2 : tie.Need-enum-known-r1-2
 enum-known-r1-2 c = search needs
@@ -40,15 +41,15 @@ same-length-2 c = search needs
 returns-2 : tie.Need-returns-2
 unfolding holdsOf
 returns-2 c =
-    let a = c .before .before .before .before .before .before .before .before .before .before .before .before .args in
-    let asked = c .before .before .before .before .before .before .before .before .before .before .before .before .pre in
-    let abbr-element = c .before .before .before .before .before .before .before .before .abbr-element in
-    let r12 = c .before .before .before .before .r12 in
-    let eat-whitespace = c .before .before .eat-whitespace in
-    let eat-byte = c .before .eat-byte in
+    let eat-byte = c .before in
+    let eat-whitespace = eat-byte .before in
+    let r12 = eat-whitespace .before .before in
+    let abbr-element = r12 .before .before .before .before in
+    let asked = abbr-element .before .before .before .before in
+    let a = asked .args in
     let len = length (a .s .now) in
-    let k = answer-place len 1 (a .at) (a .n) (r12 .given .1) (abbr-element .ensures .1) (asked .place) in (
-      turn-last (a .s .now) (a .at) (says-at (r12 .given .1) (abbr-element .ensures .0)) (eat-whitespace .ensures .0) (eat-byte .ensures .0)
+    let k = answer-place len 1 (a .at) (a .n) (r12 .r12 .given .1) (abbr-element .abbr-element .ensures .1) (asked .pre .place) in (
+      turn-last (a .s .now) (a .at) (says-at (r12 .r12 .given .1) (abbr-element .abbr-element .ensures .0)) (eat-whitespace .eat-whitespace .ensures .0) (eat-byte .eat-byte .ensures .0)
           (c .if1 .taken),
       (omega arith, omega arith, omega arith),
     )
@@ -62,17 +63,17 @@ same-length-3 c = search needs
 returns-3 : tie.Need-returns-3
 unfolding holdsOf
 returns-3 c =
-    let a = c .before .before .before .before .before .before .before .before .before .before .before .before .before .args in
-    let asked = c .before .before .before .before .before .before .before .before .before .before .before .before .before .pre in
-    let abbr-element = c .before .before .before .before .before .before .before .before .before .abbr-element in
-    let r12 = c .before .before .before .before .before .r12 in
-    let eat-whitespace = c .before .before .before .eat-whitespace in
-    let eat-byte = c .before .before .eat-byte in
-    let if1 = c .before .if1 in
+    let if1 = c .before in
+    let eat-byte = if1 .before in
+    let eat-whitespace = eat-byte .before in
+    let r12 = eat-whitespace .before .before in
+    let abbr-element = r12 .before .before .before .before in
+    let asked = abbr-element .before .before .before .before in
+    let a = asked .args in
     let len = length (a .s .now) in
-    let k = answer-place len 1 (a .at) (a .n) (r12 .given .1) (abbr-element .ensures .1) (asked .place) in (
-      turn-hash (a .s .now) (a .at) (says-at (r12 .given .1) (abbr-element .ensures .0)) (eat-whitespace .ensures .0) (eat-byte .ensures .0)
-          (if1 .left) (c .eat-whitespace2 .ensures .0),
+    let k = answer-place len 1 (a .at) (a .n) (r12 .r12 .given .1) (abbr-element .abbr-element .ensures .1) (asked .pre .place) in (
+      turn-hash (a .s .now) (a .at) (says-at (r12 .r12 .given .1) (abbr-element .abbr-element .ensures .0)) (eat-whitespace .eat-whitespace .ensures .0) (eat-byte .eat-byte .ensures .0)
+          (if1 .if1 .left) (c .eat-whitespace2 .ensures .0),
       (omega arith, omega arith, omega arith),
     )
 

@@ -33,37 +33,38 @@ refused-requires c κs = search needs
 
 returns : tie.Need-returns
 returns c =
-    let a = c .before .before .before .before .before .before .before .before .args in
-    let eat-if = c .before .before .before .before .before .eat-if in
-    let if1 = c .before .before .before .before .if1 in
-    let the-number = c .before .before .before .number in
-    let enum-told = c .before .enum-told in
+    let enum-told = c .before in
+    let the-number = enum-told .before .before in
+    let if1 = the-number .before in
+    let eat-if = if1 .before in
+    let asked = eat-if .before .before .before in
+    let a = asked .args in
     off-step (length (a .s .now)) 1 (a .at)
-    (element-number (a .s .now) (a .at) (eat-if .ensures .0) (if1 .taken) ∙ ap (under (row kind.Literal (a .at)))
-    (rowless-off (number (a .s .now) (a .at)) (the-number .ensures .0) (enum-told .given .1))) (enum-told .given .1) (c .refused .ensures)
+    (element-number (a .s .now) (a .at) (eat-if .eat-if .ensures .0) (if1 .if1 .taken) ∙ ap (under (row kind.Literal (a .at)))
+    (rowless-off (number (a .s .now) (a .at)) (the-number .number .ensures .0) (enum-told .enum-told .given .1))) (enum-told .enum-told .given .1) (c .refused .ensures)
 
 add-put-row : tie.Need-add-put-row
 add-put-row c = search needs
 
 add-put-row-2 : tie.Need-add-put-row-2
 add-put-row-2 c =
-    let a = c .before .before .before .before .before .before .before .before .before .args in
-    let asked = c .before .before .before .before .before .before .before .before .before .pre in
-    let number = c .before .before .before .before .number in
-    let r1 = c .before .before .r1 in
+    let r1 = c .before .before in
+    let number = r1 .before .before in
+    let asked = number .before .before .before .before .before in
+    let a = asked .args in
     let len = length (a .s .now) in
-    let k = step-place len 0 (a .at) (r1 .given .1) (number .ensures .1) (asked .0 .place) in
-    omega (arith, asked .0 .file)
+    let k = step-place len 0 (a .at) (r1 .r1 .given .1) (number .number .ensures .1) (asked .pre .0 .place) in
+    omega (arith, asked .pre .0 .file)
 
 put-row-requires : tie.Need-put-row-requires
 put-row-requires c κs =
-    let a = c .before .before .before .before .before .before .before .before .before .args in
-    let asked = c .before .before .before .before .before .before .before .before .before .pre in
-    let number = c .before .before .before .before .number in
-    let r1 = c .before .before .r1 in
+    let r1 = c .before .before in
+    let number = r1 .before .before in
+    let asked = number .before .before .before .before .before in
+    let a = asked .args in
     let len = length (a .s .now) in
-    let k = step-place len 0 (a .at) (r1 .given .1) (number .ensures .1) (asked .0 .place) in
-    (omega (arith, asked .0 .file), omega (arith, asked .0 .file))
+    let k = step-place len 0 (a .at) (r1 .r1 .given .1) (number .number .ensures .1) (asked .pre .0 .place) in
+    (omega (arith, asked .pre .0 .file), omega (arith, asked .pre .0 .file))
 
 add-t18 : tie.Need-add-t18
 add-t18 c = search needs
@@ -73,20 +74,20 @@ same-length c = search needs
 
 returns-2 : tie.Need-returns-2
 returns-2 c =
-    let a = c .before .before .before .before .before .before .before .before .before .before .before .before .args in
-    let asked = c .before .before .before .before .before .before .before .before .before .before .before .before .pre in
-    let eat-if = c .before .before .before .before .before .before .before .before .before .eat-if in
-    let if1 = c .before .before .before .before .before .before .before .before .if1 in
-    let number = c .before .before .before .before .before .before .before .number in
-    let r1 = c .before .before .before .before .before .r1 in
-    let put-row = c .before .before .put-row in
+    let put-row = c .before .before in
+    let r1 = put-row .before .before .before in
+    let number = r1 .before .before in
+    let if1 = number .before in
+    let eat-if = if1 .before in
+    let asked = eat-if .before .before .before in
+    let a = asked .args in
     let len = length (a .s .now) in
-    let k = step-place len 0 (a .at) (r1 .given .1) (number .ensures .1) (asked .0 .place) in
-    let e = rowless-at (number-rowless (a .s .now) (a .at)) (number .ensures .0) (r1 .given .1) in
-    let l = number-past (a .s .now) (a .at) (eat-if .ensures .0) (if1 .taken) e in
-    let m = not-at (eat-if .ensures .1 .from) (if1 .taken) in (
-      rw (put-row .ensures)
-          (says-of (element-number (a .s .now) (a .at) (eat-if .ensures .0) (if1 .taken)) (says-under kind.Literal (a .at) (says-on e))),
+    let k = step-place len 0 (a .at) (r1 .r1 .given .1) (number .number .ensures .1) (asked .pre .0 .place) in
+    let e = rowless-at (number-rowless (a .s .now) (a .at)) (number .number .ensures .0) (r1 .r1 .given .1) in
+    let l = number-past (a .s .now) (a .at) (eat-if .eat-if .ensures .0) (if1 .if1 .taken) e in
+    let m = not-at (eat-if .eat-if .ensures .1 .from) (if1 .if1 .taken) in (
+      rw (put-row .put-row .ensures)
+          (says-of (element-number (a .s .now) (a .at) (eat-if .eat-if .ensures .0) (if1 .if1 .taken)) (says-under kind.Literal (a .at) (says-on e))),
       (omega arith, omega arith, omega arith),
     )
 
@@ -107,39 +108,40 @@ refused-requires-2 c κs = search needs
 
 returns-3 : tie.Need-returns-3
 returns-3 c =
-    let a = c .before .before .before .before .before .before .before .before .before .before .args in
-    let eat-if = c .before .before .before .before .before .before .before .eat-if in
-    let if1 = c .before .before .before .before .before .before .if1 in
-    let eat-if2 = c .before .before .before .before .before .eat-if2 in
-    let if2 = c .before .before .before .before .if2 in
-    let the-ident = c .before .before .before .ident in
-    let enum-told2 = c .before .enum-told2 in
+    let enum-told2 = c .before in
+    let the-ident = enum-told2 .before .before in
+    let if2 = the-ident .before in
+    let eat-if2 = if2 .before in
+    let if1 = eat-if2 .before in
+    let eat-if = if1 .before in
+    let asked = eat-if .before .before .before in
+    let a = asked .args in
     off-step (length (a .s .now)) 1 (a .at)
-    (element-name (a .s .now) (a .at) (eat-if .ensures .0) (if1 .left) (eat-if2 .ensures .0) (if2 .taken) ∙ ap (under (row kind.Name (a .at)))
-    (rowless-off (ident (a .s .now) (a .at)) (the-ident .ensures .0) (enum-told2 .given .1))) (enum-told2 .given .1) (c .refused2 .ensures)
+    (element-name (a .s .now) (a .at) (eat-if .eat-if .ensures .0) (if1 .if1 .left) (eat-if2 .eat-if2 .ensures .0) (if2 .if2 .taken) ∙ ap (under (row kind.Name (a .at)))
+    (rowless-off (ident (a .s .now) (a .at)) (the-ident .ident .ensures .0) (enum-told2 .enum-told2 .given .1))) (enum-told2 .enum-told2 .given .1) (c .refused2 .ensures)
 
 add-put-row-3 : tie.Need-add-put-row-3
 add-put-row-3 c = search needs
 
 add-put-row-4 : tie.Need-add-put-row-4
 add-put-row-4 c =
-    let a = c .before .before .before .before .before .before .before .before .before .before .before .args in
-    let asked = c .before .before .before .before .before .before .before .before .before .before .before .pre in
-    let ident = c .before .before .before .before .ident in
-    let r2 = c .before .before .r2 in
+    let r2 = c .before .before in
+    let ident = r2 .before .before in
+    let asked = ident .before .before .before .before .before .before .before in
+    let a = asked .args in
     let len = length (a .s .now) in
-    let k = step-place len 1 (a .at) (r2 .given .1) (ident .ensures .1) (asked .0 .place) in
-    omega (arith, asked .0 .file)
+    let k = step-place len 1 (a .at) (r2 .r2 .given .1) (ident .ident .ensures .1) (asked .pre .0 .place) in
+    omega (arith, asked .pre .0 .file)
 
 put-row-requires-2 : tie.Need-put-row-requires-2
 put-row-requires-2 c κs =
-    let a = c .before .before .before .before .before .before .before .before .before .before .before .args in
-    let asked = c .before .before .before .before .before .before .before .before .before .before .before .pre in
-    let ident = c .before .before .before .before .ident in
-    let r2 = c .before .before .r2 in
+    let r2 = c .before .before in
+    let ident = r2 .before .before in
+    let asked = ident .before .before .before .before .before .before .before in
+    let a = asked .args in
     let len = length (a .s .now) in
-    let k = step-place len 1 (a .at) (r2 .given .1) (ident .ensures .1) (asked .0 .place) in
-    (omega (arith, asked .0 .file), omega (arith, asked .0 .file))
+    let k = step-place len 1 (a .at) (r2 .r2 .given .1) (ident .ident .ensures .1) (asked .pre .0 .place) in
+    (omega (arith, asked .pre .0 .file), omega (arith, asked .pre .0 .file))
 
 add-t24 : tie.Need-add-t24
 add-t24 c = search needs
@@ -149,34 +151,34 @@ same-length-2 c = search needs
 
 returns-4 : tie.Need-returns-4
 returns-4 c =
-    let a = c .before .before .before .before .before .before .before .before .before .before .before .before .before .before .args in
-    let asked = c .before .before .before .before .before .before .before .before .before .before .before .before .before .before .pre in
-    let eat-if = c .before .before .before .before .before .before .before .before .before .before .before .eat-if in
-    let if1 = c .before .before .before .before .before .before .before .before .before .before .if1 in
-    let eat-if2 = c .before .before .before .before .before .before .before .before .before .eat-if2 in
-    let if2 = c .before .before .before .before .before .before .before .before .if2 in
-    let ident = c .before .before .before .before .before .before .before .ident in
-    let r2 = c .before .before .before .before .before .r2 in
-    let put-row2 = c .before .before .put-row2 in
+    let put-row2 = c .before .before in
+    let r2 = put-row2 .before .before .before in
+    let ident = r2 .before .before in
+    let if2 = ident .before in
+    let eat-if2 = if2 .before in
+    let if1 = eat-if2 .before in
+    let eat-if = if1 .before in
+    let asked = eat-if .before .before .before in
+    let a = asked .args in
     let len = length (a .s .now) in
-    let k = step-place len 1 (a .at) (r2 .given .1) (ident .ensures .1) (asked .0 .place) in
-    let e = rowless-at (ident-rowless (a .s .now) (a .at)) (ident .ensures .0) (r2 .given .1) in (
-      rw (put-row2 .ensures)
-          (says-of (element-name (a .s .now) (a .at) (eat-if .ensures .0) (if1 .left) (eat-if2 .ensures .0) (if2 .taken))
+    let k = step-place len 1 (a .at) (r2 .r2 .given .1) (ident .ident .ensures .1) (asked .pre .0 .place) in
+    let e = rowless-at (ident-rowless (a .s .now) (a .at)) (ident .ident .ensures .0) (r2 .r2 .given .1) in (
+      rw (put-row2 .put-row2 .ensures)
+          (says-of (element-name (a .s .now) (a .at) (eat-if .eat-if .ensures .0) (if1 .if1 .left) (eat-if2 .eat-if2 .ensures .0) (if2 .if2 .taken))
           (says-under kind.Name (a .at) (says-on e))),
       (omega arith, omega arith, omega arith),
     )
 
 returns-5 : tie.Need-returns-5
 returns-5 c =
-    let a = c .before .before .before .before .before .before .args in
-    let asked = c .before .before .before .before .before .before .pre in
-    let eat-if = c .before .before .before .eat-if in
-    let if1 = c .before .before .if1 in
-    let eat-if2 = c .before .eat-if2 in
+    let eat-if2 = c .before in
+    let if1 = eat-if2 .before in
+    let eat-if = if1 .before in
+    let asked = eat-if .before .before .before in
+    let a = asked .args in
     off-answer (length (a .s .now)) 1 (a .at)
-    (element-field (a .s .now) (a .at) (eat-if .ensures .0) (if1 .left) (eat-if2 .ensures .0) (c .if2 .left) ∙ single-none (a .s .now) (a .at)
-    (asked .1)) refl
+    (element-field (a .s .now) (a .at) (eat-if .eat-if .ensures .0) (if1 .if1 .left) (eat-if2 .eat-if2 .ensures .0) (c .if2 .left) ∙ single-none (a .s .now) (a .at)
+    (asked .pre .1)) refl
 
 pub bare-element-spec : {M : Type 1} → statement M
 bare-element-spec =

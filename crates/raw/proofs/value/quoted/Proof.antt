@@ -53,13 +53,13 @@ shared-slice-read-match2 c = omega (arith, c .before .before .before .before .ha
 
 returns-2 : tie.Need-returns-2 Inv-loop μ-loop
 returns-2 c =
-    let turn = c .before .before .before .before .before .before .loop in
-    let has = c .before .before .before .before .before .has in
-    let if1 = c .before .before .before .before .if1 in
-    let matched = c .before .before .match in
-    let h = has .ensures (if1 .taken) in
-    let m = matched .rest in
-    quoted-closed (quoted-plain (turn .inv) (omega (arith, h)) (m .0 .1) (m .1)) (omega (arith, h)) (c .match2 .keys1)
+    let matched = c .before .before in
+    let if1 = matched .before .before in
+    let has = if1 .before in
+    let turn = has .before in
+    let h = has .has .ensures (if1 .if1 .taken) in
+    let m = matched .match .rest in
+    quoted-closed (quoted-plain (turn .loop .inv) (omega (arith, h)) (m .0 .1) (m .1)) (omega (arith, h)) (c .match2 .keys1)
 
 add-i-2 : tie.Need-add-i-2 Inv-loop μ-loop
 add-i-2 c = omega (arith, c .before .before .before .before .before .has .ensures (c .before .before .before .before .if1 .taken))
@@ -69,13 +69,13 @@ loop-less-2 c = omega (arith, c .before .before .before .before .before .has .en
 
 loop-again-2 : tie.Need-loop-again-2 Inv-loop μ-loop
 loop-again-2 c =
-    let turn = c .before .before .before .before .before .before .loop in
-    let has = c .before .before .before .before .before .has in
-    let if1 = c .before .before .before .before .if1 in
-    let matched = c .before .before .match in
-    let h = has .ensures (if1 .taken) in
-    let m = matched .rest in
-    quoted-far (quoted-plain (turn .inv) (omega (arith, h)) (m .0 .1) (m .1)) (omega (arith, h)) (c .match2 .keys2)
+    let matched = c .before .before in
+    let if1 = matched .before .before in
+    let has = if1 .before in
+    let turn = has .before in
+    let h = has .has .ensures (if1 .if1 .taken) in
+    let m = matched .match .rest in
+    quoted-far (quoted-plain (turn .loop .inv) (omega (arith, h)) (m .0 .1) (m .1)) (omega (arith, h)) (c .match2 .keys2)
 
 add-past-quotes : tie.Need-add-past-quotes Inv-loop μ-loop
 add-past-quotes c = omega (arith, c .before .before .before .before .before .has .ensures (c .before .before .before .before .if1 .taken))
@@ -85,21 +85,21 @@ past-quotes-requires c κs = search needs
 
 loop-less-3 : tie.Need-loop-less-3 Inv-loop μ-loop
 loop-less-3 c =
-    let has = c .before .before .before .before .before .before .has in
-    let if1 = c .before .before .before .before .before .if1 in
-    omega (arith, has .ensures (if1 .taken), c .past-quotes .ensures .from)
+    let if1 = c .before .before .before .before .before in
+    let has = if1 .before in
+    omega (arith, has .has .ensures (if1 .if1 .taken), c .past-quotes .ensures .from)
 
 loop-again-3 : tie.Need-loop-again-3 Inv-loop μ-loop
 loop-again-3 c =
-    let turn = c .before .before .before .before .before .before .before .loop in
-    let has = c .before .before .before .before .before .before .has in
-    let if1 = c .before .before .before .before .before .if1 in
-    let matched = c .before .before .before .match in
-    let match2 = c .before .match2 in
-    let h = has .ensures (if1 .taken) in
-    let m = matched .rest in
-    let n = match2 .rest in
-    quoted-clear (quoted-plain (quoted-plain (turn .inv) (omega (arith, h)) (m .0 .1) (m .1)) (omega (arith, h)) (n .0 .1) (n .1)) (omega (arith, h))
+    let match2 = c .before in
+    let matched = match2 .before .before in
+    let if1 = matched .before .before in
+    let has = if1 .before in
+    let turn = has .before in
+    let h = has .has .ensures (if1 .if1 .taken) in
+    let m = matched .match .rest in
+    let n = match2 .match2 .rest in
+    quoted-clear (quoted-plain (quoted-plain (turn .loop .inv) (omega (arith, h)) (m .0 .1) (m .1)) (omega (arith, h)) (n .0 .1) (n .1)) (omega (arith, h))
     (c .past-quotes .ensures)
 
 quoted-end-requires : tie.Need-quoted-end-requires Inv-loop μ-loop

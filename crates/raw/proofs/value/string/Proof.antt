@@ -36,12 +36,13 @@ enum-told-2 c = search needs
 
 returns-2 : tie.Need-returns-2
 returns-2 c =
-    let a = c .before .before .before .before .before .before .before .before .args in
-    let quote = c .before .before .before .before .before .before .quote in
-    let r1 = c .before .before .before .before .r1 in
-    let quoted = c .before .before .quoted in
+    let quoted = c .before .before in
+    let r1 = quoted .before .before in
+    let quote = r1 .before .before in
+    let asked = quote .before .before in
+    let a = asked .args in
     off-onward (length (a .s .now)) 2 (a .at)
-    (string-inside-off (a .s .now) (a .at) (quote .ensures .0) (r1 .given .1) (quoted .ensures .0) (c .enum-told2 .given .1))
+    (string-inside-off (a .s .now) (a .at) (quote .quote .ensures .0) (r1 .r1 .given .1) (quoted .quoted .ensures .0) (c .enum-told2 .given .1))
     (c .enum-told2 .given .1)
 
 quote-requires-2 : tie.Need-quote-requires-2
@@ -49,14 +50,15 @@ quote-requires-2 c κs = search needs
 
 returns-3 : tie.Need-returns-3
 returns-3 c =
-    let a = c .before .before .before .before .before .before .before .before .before .before .args in
-    let quote = c .before .before .before .before .before .before .before .before .quote in
-    let r1 = c .before .before .before .before .before .before .r1 in
-    let quoted = c .before .before .before .before .quoted in
-    let r2 = c .before .before .r2 in
-    let k = step-ahead (length (a .s .now)) 1 (a .at) (r1 .given .1) (quote .ensures .1) in
-    let l = step-ahead (length (a .s .now)) 0 _ (r2 .given .1) (quoted .ensures .1) in
-    let e = string-rest (a .s .now) (a .at) (quote .ensures .0) (r1 .given .1) (quoted .ensures .0) (r2 .given .1) in (
+    let r2 = c .before .before in
+    let quoted = r2 .before .before in
+    let r1 = quoted .before .before in
+    let quote = r1 .before .before in
+    let asked = quote .before .before in
+    let a = asked .args in
+    let k = step-ahead (length (a .s .now)) 1 (a .at) (r1 .r1 .given .1) (quote .quote .ensures .1) in
+    let l = step-ahead (length (a .s .now)) 0 _ (r2 .r2 .given .1) (quoted .quoted .ensures .1) in
+    let e = string-rest (a .s .now) (a .at) (quote .quote .ensures .0) (r1 .r1 .given .1) (quoted .quoted .ensures .0) (r2 .r2 .given .1) in (
       c .quote2 .ensures .0 ∙ sym (ap stepOf e),
       onward-from (length (a .s .now)) 2 (a .at) 1 _ (c .quote2 .result) (c .quote2 .ensures .1) (omega arith) (omega arith),
     )

@@ -50,10 +50,11 @@ loop-less c = search needs
 
 loop-again : tie.Need-loop-again Inv-loop μ-loop
 loop-again c =
-    let l = c .before .before .before .before .before in
-    let a = c .before .before .before .before .before .before .before .before .args in
-    let m = l .loop .inv in
-    (m .0, omega arith, omega arith, turn (a .rows .now) (l .loop .i) (l .loop .state) _ (omega arith) (c .before .step .ensures) (m .3))
+    let l = c .before .before .before .before in
+    let asked = l .before .before .before .before in
+    let a = asked .args in
+    let m = l .before .loop .inv in
+    (m .0, omega arith, omega arith, turn (a .rows .now) (l .before .loop .i) (l .before .loop .state) _ (omega arith) (c .before .step .ensures) (m .3))
 
 value-row-requires : tie.Need-value-row-requires Inv-loop μ-loop
 value-row-requires c κs = search needs
@@ -66,40 +67,43 @@ enum-told c = search needs
 
 returns-2 : tie.Need-returns-2 Inv-loop μ-loop
 returns-2 c =
-    let a = c .before .before .before .before .before .before .before .before .before .before .before .before .before .args in
-    let l = c .before .before .before .before .before .before .before .before .before .before in
-    let step = c .before .before .before .before .before .before .step in
-    let state = c .before .before .before .before .state in
-    let value-row = c .before .before .value-row in
-    let m = l .loop .inv in
+    let value-row = c .before .before in
+    let state = value-row .before .before in
+    let step = state .before .before in
+    let l = step .before .before .before in
+    let asked = l .before .before .before .before in
+    let a = asked .args in
+    let m = l .before .loop .inv in
     bad-rows (a .rows .now) (m .0)
-    (named-other (a .rows .now) (l .loop .i) (l .loop .state) _ _ _ (omega arith) (step .ensures) (state .given .1) (value-row .ensures) (m .3)
+    (named-other (a .rows .now) (l .before .loop .i) (l .before .loop .state) _ _ _ (omega arith) (step .step .ensures) (state .state .given .1) (value-row .value-row .ensures) (m .3)
     (c .enum-told .given .1))
 
 loop-less-2 : tie.Need-loop-less-2 Inv-loop μ-loop
 loop-less-2 c =
-    let a = c .before .before .before .before .before .before .before .before .before .before .before .before .before .before .args in
-    let l = c .before .before .before .before .before .before .before .before .before .before .before in
-    let step = c .before .before .before .before .before .before .before .step in
-    let state = c .before .before .before .before .before .state in
-    let value-row = c .before .before .before .value-row in
-    let next = c .before .next in
-    let m = l .loop .inv in
-    let x = named-value (a .rows .now) (l .loop .i) (l .loop .state) _ _ _ (omega arith) (step .ensures) (state .given .1) (value-row .ensures) (m .3)
-    _ (next .given .1) in
+    let next = c .before in
+    let value-row = next .before .before in
+    let state = value-row .before .before in
+    let step = state .before .before in
+    let l = step .before .before .before in
+    let asked = l .before .before .before .before in
+    let a = asked .args in
+    let m = l .before .loop .inv in
+    let x = named-value (a .rows .now) (l .before .loop .i) (l .before .loop .state) _ _ _ (omega arith) (step .step .ensures) (state .state .given .1) (value-row .value-row .ensures) (m .3)
+    _ (next .next .given .1) in
     omega (arith, x .0 .0, x .0 .1)
 
 loop-again-2 : tie.Need-loop-again-2 Inv-loop μ-loop
 loop-again-2 c =
-    let a = c .before .before .before .before .before .before .before .before .before .before .before .before .before .before .args in
-    let l = c .before .before .before .before .before .before .before .before .before .before .before in
-    let step = c .before .before .before .before .before .before .before .step in
-    let state = c .before .before .before .before .before .state in
-    let value-row = c .before .before .before .value-row in
-    let next = c .before .next in
-    let m = l .loop .inv in
-    let x = named-value (a .rows .now) (l .loop .i) (l .loop .state) _ _ _ (omega arith) (step .ensures) (state .given .1) (value-row .ensures) (m .3)
-    _ (next .given .1) in
+    let next = c .before in
+    let value-row = next .before .before in
+    let state = value-row .before .before in
+    let step = state .before .before in
+    let l = step .before .before .before in
+    let asked = l .before .before .before .before in
+    let a = asked .args in
+    let m = l .before .loop .inv in
+    let x = named-value (a .rows .now) (l .before .loop .i) (l .before .loop .state) _ _ _ (omega arith) (step .step .ensures) (state .state .given .1) (value-row .value-row .ensures) (m .3)
+    _ (next .next .given .1) in
     (m .0, omega (arith, x .0 .0), omega (arith, x .0 .0, x .0 .1), x .1)
 
 is-whole-requires : tie.Need-is-whole-requires Inv-loop μ-loop
@@ -107,21 +111,21 @@ is-whole-requires c κs = search needs
 
 returns-3 : tie.Need-returns-3 Inv-loop μ-loop
 returns-3 c =
-    let a = c .before .before .before .before .before .before .args in
-    let l = c .before .before .before in
-    let test = c .before .before .loop-test in
-    let is-whole = c .before .is-whole in
-    let m = l .loop .inv in
-    rw (← is-whole .ensures, c .if2 .taken) at (ended (a .rows .now) (l .loop .i) (l .loop .state) (test .left) (m .0) (m .3))
+    let is-whole = c .before in
+    let l = is-whole .before in
+    let asked = l .before .before .before .before in
+    let a = asked .args in
+    let m = l .before .loop .inv in
+    rw (← is-whole .is-whole .ensures, c .if2 .taken) at (ended (a .rows .now) (l .before .loop .i) (l .before .loop .state) (l .loop-test .left) (m .0) (m .3))
 
 returns-4 : tie.Need-returns-4 Inv-loop μ-loop
 returns-4 c =
-    let a = c .before .before .before .before .before .before .args in
-    let l = c .before .before .before in
-    let test = c .before .before .loop-test in
-    let is-whole = c .before .is-whole in
-    let m = l .loop .inv in
-    rw (← is-whole .ensures, c .if2 .left) at (ended (a .rows .now) (l .loop .i) (l .loop .state) (test .left) (m .0) (m .3))
+    let is-whole = c .before in
+    let l = is-whole .before in
+    let asked = l .before .before .before .before in
+    let a = asked .args in
+    let m = l .before .loop .inv in
+    rw (← is-whole .is-whole .ensures, c .if2 .left) at (ended (a .rows .now) (l .before .loop .i) (l .before .loop .state) (l .loop-test .left) (m .0) (m .3))
 
 pub check-spec : {M : Type 1} → statement M
 check-spec =

@@ -37,23 +37,25 @@ shared-slice-read-if2 c = omega arith
 
 returns-2 : tie.Need-returns-2 Inv-loop μ-loop
 returns-2 c =
-    let a = c .before .before .before .before .before .before .args in
-    let l = c .before .before .before .before .loop in
-    let find = c .before .before .before .find in
-    let if1 = c .before .before .if1 in
-    l .inv .2 _ (found-head (a .s .now) (l .i) _ (l .inv .1) (find .ensures) (if1 .left) (c .if2 .taken))
+    let if1 = c .before .before in
+    let find = if1 .before in
+    let l = find .before in
+    let asked = l .before .before in
+    let a = asked .args in
+    l .loop .inv .2 _ (found-head (a .s .now) (l .loop .i) _ (l .loop .inv .1) (find .find .ensures) (if1 .if1 .left) (c .if2 .taken))
 
 loop-less : tie.Need-loop-less Inv-loop μ-loop
 loop-less c = omega (arith, c .before .before .before .find .ensures .from)
 
 loop-again : tie.Need-loop-again Inv-loop μ-loop
 loop-again c =
-    let a = c .before .before .before .before .before .before .args in
-    let l = c .before .before .before .before .loop in
-    let find = c .before .before .before .find in
-    let if1 = c .before .before .if1 in
-    let f = find .ensures in
-    (omega (arith, f .from), if1 .left, λ e x. l .inv .2 e (found-on (a .s .now) (l .i) _ (l .inv .1) f (if1 .left) (c .if2 .left) e x))
+    let if1 = c .before .before in
+    let find = if1 .before in
+    let l = find .before in
+    let asked = l .before .before in
+    let a = asked .args in
+    let f = find .find .ensures in
+    (omega (arith, f .from), if1 .if1 .left, λ e x. l .loop .inv .2 e (found-on (a .s .now) (l .loop .i) _ (l .loop .inv .1) f (if1 .if1 .left) (c .if2 .left) e x))
 
 pub far-end-spec : {M : Type 1} → statement M
 far-end-spec =

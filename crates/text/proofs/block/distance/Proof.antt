@@ -21,12 +21,13 @@ lesser-requires-2 c κs = search needs
 
 returns : tie.Need-returns
 returns c =
-    let a = c .before .before .before .before .before .before .before .before .args in
-    let apart = c .before .before .before .before .apart in
-    let apart2 = c .before .before .before .apart2 in
-    let apart3 = c .before .before .apart3 in
-    let lesser = c .before .lesser in
-    distance-none (a .x) (a .b) (apart .ensures) (apart2 .ensures) (apart3 .ensures) (lesser .ensures) (c .lesser2 .ensures)
+    let lesser = c .before in
+    let apart3 = lesser .before in
+    let apart2 = apart3 .before in
+    let apart = apart2 .before in
+    let asked = apart .before .before .before .before in
+    let a = asked .args in
+    distance-none (a .x) (a .b) (apart .apart .ensures) (apart2 .apart2 .ensures) (apart3 .apart3 .ensures) (lesser .lesser .ensures) (c .lesser2 .ensures)
 
 pub distance-spec : {M : Type 1} → statement M
 distance-spec =

@@ -38,12 +38,13 @@ loop-less c = omega arith
 
 loop-again : tie.Need-loop-again Inv-loop μ-loop
 loop-again c =
-    let a = c .before .before .before .before .before .before .args in
-    let v = c .before .before .before .before .loop in
-    let shared-slice-known2 = c .before .before .shared-slice-known2 in
-    let place = c .before .place in
-    let b = shared-slice-known2 .given (a .at + v .k) in
-    (omega arith, omega arith, part-more (a .x) (a .s .now) (a .at) (v .k) (v .m) _ (c .lesser .ensures) (v .inv .2) (omega arith) (place .ensures))
+    let place = c .before in
+    let shared-slice-known2 = place .before in
+    let v = shared-slice-known2 .before .before in
+    let asked = v .before .before in
+    let a = asked .args in
+    let b = shared-slice-known2 .shared-slice-known2 .given (a .at + v .loop .k) in
+    (omega arith, omega arith, part-more (a .x) (a .s .now) (a .at) (v .loop .k) (v .loop .m) _ (c .lesser .ensures) (v .loop .inv .2) (omega arith) (place .place .ensures))
 
 cast-result : tie.Need-cast-result Inv-loop μ-loop
 cast-result c = search needs

@@ -30,12 +30,13 @@ has-requires c κs = search needs
 
 returns-2 : tie.Need-returns-2 Inv-loop μ-loop
 returns-2 c =
-    let a = c .before .before .before .before .before .before .before .args in
-    let turn = c .before .before .before .before .before .loop in
-    let has = c .before .has in
-    let v = turn .inv in
+    let has = c .before in
+    let turn = has .before .before .before .before in
+    let asked = turn .before .before in
+    let a = asked .args in
+    let v = turn .loop .inv in
     record
-    { from = v .0; to = v .1; passed = v .2; stopped = λ l h. sym (ap (λ (y : Bool). Bool·beq y (a .want)) (has .ensures)) ∙ not-true _ (c .if2 .taken) }
+    { from = v .0; to = v .1; passed = v .2; stopped = λ l h. sym (ap (λ (y : Bool). Bool·beq y (a .want)) (has .has .ensures)) ∙ not-true _ (c .if2 .taken) }
 
 add-i : tie.Need-add-i Inv-loop μ-loop
 add-i c = omega arith
@@ -45,13 +46,14 @@ loop-less c = omega arith
 
 loop-again : tie.Need-loop-again Inv-loop μ-loop
 loop-again c =
-    let a = c .before .before .before .before .before .before .before .args in
-    let turn = c .before .before .before .before .before .loop in
-    let test = c .before .before .before .before .loop-test in
-    let if1 = c .before .before .if1 in
-    let has = c .before .has in
-    let v = turn .inv in
-    (omega arith, omega arith, passed-more _ _ _ (a .s .now) _ _ (v .2) (test .taken) (if1 .left) (has .ensures) (not-false _ (c .if2 .left)))
+    let has = c .before in
+    let if1 = has .before in
+    let test = if1 .before .before in
+    let turn = test .before in
+    let asked = turn .before .before in
+    let a = asked .args in
+    let v = turn .loop .inv in
+    (omega arith, omega arith, passed-more _ _ _ (a .s .now) _ _ (v .2) (test .loop-test .taken) (if1 .if1 .left) (has .has .ensures) (not-false _ (c .if2 .left)))
 
 returns-3 : tie.Need-returns-3 Inv-loop μ-loop
 returns-3 c = let v = c .before .loop .inv in record { from = v .0; to = v .1; passed = v .2; stopped = λ l h. absurd (omega arith) }

@@ -29,10 +29,11 @@ is-letter-requires c κs = search needs
 
 returns : tie.Need-returns Inv-loop μ-loop
 returns c =
-    let a = c .before .before .before .before .before .before .before .args in
-    let turn = c .before .before .before .before .before .loop in
-    let test = c .before .before .before .before .loop-test in
-    ran isIdContinue (a .s .now) (a .at) (sym (turn .inv ∙ id-stop (a .s .now) _ (test .taken) (c .if2 .taken)))
+    let test = c .before .before .before .before in
+    let turn = test .before in
+    let asked = turn .before .before in
+    let a = asked .args in
+    ran isIdContinue (a .s .now) (a .at) (sym (turn .loop .inv ∙ id-stop (a .s .now) _ (test .loop-test .taken) (c .if2 .taken)))
 
 eat-rest-requires : tie.Need-eat-rest-requires Inv-loop μ-loop
 eat-rest-requires c κs = search needs
@@ -40,9 +41,10 @@ eat-rest-requires c κs = search needs
 returns-2 : tie.Need-returns-2 Inv-loop μ-loop
 unfolding holdsOf
 returns-2 c =
-    let a = c .before .before .before .before .before .before .before .before .args in
-    let turn = c .before .before .before .before .before .before .loop in
-    ran isIdContinue (a .s .now) (a .at) (c .eat-rest .ensures .0 ∙ sym (turn .inv))
+    let turn = c .before .before .before .before .before .before in
+    let asked = turn .before .before in
+    let a = asked .args in
+    ran isIdContinue (a .s .now) (a .at) (c .eat-rest .ensures .0 ∙ sym (turn .loop .inv))
 
 add-i : tie.Need-add-i Inv-loop μ-loop
 add-i c = omega arith
@@ -52,11 +54,12 @@ loop-less c = omega arith
 
 loop-again : tie.Need-loop-again Inv-loop μ-loop
 loop-again c =
-    let a = c .before .before .before .before .before .before .args in
-    let turn = c .before .before .before .before .loop in
-    let test = c .before .before .before .loop-test in
-    let is-letter = c .before .is-letter in
-    turn .inv ∙ letter-on (a .s .now) _ (test .taken) (sym (is-letter .ensures) ∙ not-false _ (c .if1 .left))
+    let is-letter = c .before in
+    let test = is-letter .before .before in
+    let turn = test .before in
+    let asked = turn .before .before in
+    let a = asked .args in
+    turn .loop .inv ∙ letter-on (a .s .now) _ (test .loop-test .taken) (sym (is-letter .is-letter .ensures) ∙ not-false _ (c .if1 .left))
 
 returns-3 : tie.Need-returns-3 Inv-loop μ-loop
 returns-3 c =

@@ -28,21 +28,23 @@ add-result c = search needs
 
 returns-3 : tie.Need-returns-3
 returns-3 c =
-    let a = c .before .before .before .before .before .before .before .args in
-    let if1 = c .before .before .before .before .before .if1 in
-    let if2 = c .before .before .before .if2 in
-    let ascii = c .before .before .ascii in
-    let has = c .before .has in
-    bit-on (a .t) (ascii .result) (ascii .ensures) (a .s .now) (a .at) (if1 .left) (if2 .left) (has .ensures) (c .if3 .taken)
+    let has = c .before in
+    let ascii = has .before in
+    let if2 = ascii .before in
+    let if1 = if2 .before .before in
+    let asked = if1 .before .before in
+    let a = asked .args in
+    bit-on (a .t) (ascii .ascii .result) (ascii .ascii .ensures) (a .s .now) (a .at) (if1 .if1 .left) (if2 .if2 .left) (has .has .ensures) (c .if3 .taken)
 
 returns-4 : tie.Need-returns-4
 returns-4 c =
-    let a = c .before .before .before .before .before .before .before .args in
-    let if1 = c .before .before .before .before .before .if1 in
-    let if2 = c .before .before .before .if2 in
-    let ascii = c .before .before .ascii in
-    let has = c .before .has in
-    bit-off (a .t) (ascii .result) (ascii .ensures) (a .s .now) (a .at) (if1 .left) (if2 .left) (has .ensures) (c .if3 .left)
+    let has = c .before in
+    let ascii = has .before in
+    let if2 = ascii .before in
+    let if1 = if2 .before .before in
+    let asked = if1 .before .before in
+    let a = asked .args in
+    bit-off (a .t) (ascii .ascii .result) (ascii .ascii .ensures) (a .s .now) (a .at) (if1 .if1 .left) (if2 .if2 .left) (has .has .ensures) (c .if3 .left)
 
 pub eat-if-spec : {M : Type 1} → statement M
 eat-if-spec =

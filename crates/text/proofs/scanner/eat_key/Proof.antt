@@ -25,10 +25,11 @@ shared-slice-read-b c = omega arith
 
 returns : tie.Need-returns Inv-loop μ-loop
 returns c =
-    let a = c .before .before .before .before .before .before .args in
-    let turn = c .before .before .before .before .loop in
-    let test = c .before .before .before .loop-test in
-    ran isKey (a .s .now) (a .at) (sym (turn .inv ∙ key-stop (a .s .now) _ (test .taken) (c .if2 .taken)))
+    let test = c .before .before .before in
+    let turn = test .before in
+    let asked = turn .before .before in
+    let a = asked .args in
+    ran isKey (a .s .now) (a .at) (sym (turn .loop .inv ∙ key-stop (a .s .now) _ (test .loop-test .taken) (c .if2 .taken)))
 
 eat-rest-requires : tie.Need-eat-rest-requires Inv-loop μ-loop
 eat-rest-requires c κs = search needs
@@ -36,9 +37,10 @@ eat-rest-requires c κs = search needs
 returns-2 : tie.Need-returns-2 Inv-loop μ-loop
 unfolding holdsOf
 returns-2 c =
-    let a = c .before .before .before .before .before .before .before .args in
-    let turn = c .before .before .before .before .before .loop in
-    ran isKey (a .s .now) (a .at) (c .eat-rest .ensures .0 ∙ sym (turn .inv))
+    let turn = c .before .before .before .before .before in
+    let asked = turn .before .before in
+    let a = asked .args in
+    ran isKey (a .s .now) (a .at) (c .eat-rest .ensures .0 ∙ sym (turn .loop .inv))
 
 add-i : tie.Need-add-i Inv-loop μ-loop
 add-i c = omega arith

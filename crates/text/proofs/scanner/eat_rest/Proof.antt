@@ -27,12 +27,13 @@ ascii-run-requires c κs = search needs
 
 returns : tie.Need-returns Inv-loop μ-loop
 returns c =
-    let a = c .before .before .before .before .before .before .args in
-    let ascii = c .before .before .before .before .ascii in
-    let turn = c .before .before .before .loop in
-    let ascii-run = c .before .ascii-run in
+    let ascii-run = c .before in
+    let turn = ascii-run .before .before in
+    let ascii = turn .before in
+    let asked = ascii .before .before in
+    let a = asked .args in
     let p = wants (a .t) (a .want) in
-    let e = turn .inv ∙ ran-on (a .t) (a .want) (ascii .result) (ascii .ensures) (a .s .now) (turn .i) (ascii-run .ensures) in
+    let e = turn .loop .inv ∙ ran-on (a .t) (a .want) (ascii .ascii .result) (ascii .ascii .ensures) (a .s .now) (turn .loop .i) (ascii-run .ascii-run .ensures) in
     ran p (a .s .now) (a .at) (sym (e ∙ skip-end p (a .s .now) _ (c .if1 .taken)))
 
 shared-slice-read-if2 : tie.Need-shared-slice-read-if2 Inv-loop μ-loop
@@ -40,32 +41,34 @@ shared-slice-read-if2 c = omega arith
 
 returns-2 : tie.Need-returns-2 Inv-loop μ-loop
 returns-2 c =
-    let a = c .before .before .before .before .before .before .before .before .args in
-    let ascii = c .before .before .before .before .before .before .ascii in
-    let turn = c .before .before .before .before .before .loop in
-    let ascii-run = c .before .before .before .ascii-run in
-    let if1 = c .before .before .if1 in
+    let if1 = c .before .before in
+    let ascii-run = if1 .before in
+    let turn = ascii-run .before .before in
+    let ascii = turn .before in
+    let asked = ascii .before .before in
+    let a = asked .args in
     let p = wants (a .t) (a .want) in
     ran p (a .s .now) (a .at)
     (sym
-    (turn .inv ∙ ran-stop (a .t) (a .want) (ascii .result) (ascii .ensures) (a .s .now) (turn .i) (ascii-run .ensures) (if1 .left)
+    (turn .loop .inv ∙ ran-stop (a .t) (a .want) (ascii .ascii .result) (ascii .ascii .ensures) (a .s .now) (turn .loop .i) (ascii-run .ascii-run .ensures) (if1 .if1 .left)
     (c .if2 .taken)))
 
 returns-3 : tie.Need-returns-3 Inv-loop μ-loop
 returns-3 c =
-    let a = c .before .before .before .before .before .before .before .before .before .before .args in
-    let ascii = c .before .before .before .before .before .before .before .before .ascii in
-    let turn = c .before .before .before .before .before .before .before .loop in
-    let ascii-run = c .before .before .before .before .before .ascii-run in
-    let if1 = c .before .before .before .before .if1 in
-    let if2 = c .before .before .if2 in
-    let if3 = c .before .if3 in
+    let if3 = c .before in
+    let if2 = if3 .before in
+    let if1 = if2 .before .before in
+    let ascii-run = if1 .before in
+    let turn = ascii-run .before .before in
+    let ascii = turn .before in
+    let asked = ascii .before .before in
+    let a = asked .args in
     let p = wants (a .t) (a .want) in
-    let e = turn .inv ∙ ran-on (a .t) (a .want) (ascii .result) (ascii .ensures) (a .s .now) (turn .i) (ascii-run .ensures) in
+    let e = turn .loop .inv ∙ ran-on (a .t) (a .want) (ascii .ascii .result) (ascii .ascii .ensures) (a .s .now) (turn .loop .i) (ascii-run .ascii-run .ensures) in
     ran p (a .s .now) (a .at)
     (sym
-    (e ∙ wide-stop p (a .s .now) _ (if1 .left) (if2 .left)
-    (λ n h. wants-off (a .t) n (a .want) (c .if4 .taken) (ascii .ensures .others (if3 .taken) n h))))
+    (e ∙ wide-stop p (a .s .now) _ (if1 .if1 .left) (if2 .if2 .left)
+    (λ n h. wants-off (a .t) n (a .want) (c .if4 .taken) (ascii .ascii .ensures .others (if3 .if3 .taken) n h))))
 
 add-i : tie.Need-add-i Inv-loop μ-loop
 add-i c = omega arith
@@ -75,52 +78,56 @@ loop-less c = omega (arith, c .before .before .before .before .before .ascii-run
 
 loop-again : tie.Need-loop-again Inv-loop μ-loop
 loop-again c =
-    let a = c .before .before .before .before .before .before .before .before .before .before .args in
-    let ascii = c .before .before .before .before .before .before .before .before .ascii in
-    let turn = c .before .before .before .before .before .before .before .loop in
-    let ascii-run = c .before .before .before .before .before .ascii-run in
-    let if1 = c .before .before .before .before .if1 in
-    let if2 = c .before .before .if2 in
-    let if3 = c .before .if3 in
+    let if3 = c .before in
+    let if2 = if3 .before in
+    let if1 = if2 .before .before in
+    let ascii-run = if1 .before in
+    let turn = ascii-run .before .before in
+    let ascii = turn .before in
+    let asked = ascii .before .before in
+    let a = asked .args in
     let p = wants (a .t) (a .want) in
-    let e = turn .inv ∙ ran-on (a .t) (a .want) (ascii .result) (ascii .ensures) (a .s .now) (turn .i) (ascii-run .ensures) in
-    e ∙ wide-on p (λ n h. wants-on (a .t) n (a .want) (c .if4 .left) (ascii .ensures .others (if3 .taken) n h)) (a .s .now) _ (if1 .left) (if2 .left)
+    let e = turn .loop .inv ∙ ran-on (a .t) (a .want) (ascii .ascii .result) (ascii .ascii .ensures) (a .s .now) (turn .loop .i) (ascii-run .ascii-run .ensures) in
+    e ∙ wide-on p (λ n h. wants-on (a .t) n (a .want) (c .if4 .left) (ascii .ascii .ensures .others (if3 .if3 .taken) n h)) (a .s .now) _ (if1 .if1 .left) (if2 .if2 .left)
 
 eat-wide-requires : tie.Need-eat-wide-requires Inv-loop μ-loop
 eat-wide-requires c κs = search needs
 
 returns-4 : tie.Need-returns-4 Inv-loop μ-loop
 returns-4 c =
-    let a = c .before .before .before .before .before .before .before .before .before .before .before .args in
-    let ascii = c .before .before .before .before .before .before .before .before .before .ascii in
-    let turn = c .before .before .before .before .before .before .before .before .loop in
-    let ascii-run = c .before .before .before .before .before .before .ascii-run in
-    let if1 = c .before .before .before .before .before .if1 in
-    let eat-wide = c .before .eat-wide in
+    let eat-wide = c .before in
+    let if1 = eat-wide .before .before .before .before in
+    let ascii-run = if1 .before in
+    let turn = ascii-run .before .before in
+    let ascii = turn .before in
+    let asked = ascii .before .before in
+    let a = asked .args in
     let p = wants (a .t) (a .want) in
-    let e = turn .inv ∙ ran-on (a .t) (a .want) (ascii .result) (ascii .ensures) (a .s .now) (turn .i) (ascii-run .ensures) in
-    ran p (a .s .now) (a .at) (sym (e ∙ one-stop p (a .s .now) _ (if1 .left) (eat-wide .ensures) (c .if5 .taken)))
+    let e = turn .loop .inv ∙ ran-on (a .t) (a .want) (ascii .ascii .result) (ascii .ascii .ensures) (a .s .now) (turn .loop .i) (ascii-run .ascii-run .ensures) in
+    ran p (a .s .now) (a .at) (sym (e ∙ one-stop p (a .s .now) _ (if1 .if1 .left) (eat-wide .eat-wide .ensures) (c .if5 .taken)))
 
 loop-less-2 : tie.Need-loop-less-2 Inv-loop μ-loop
 loop-less-2 c =
-    let a = c .before .before .before .before .before .before .before .before .before .before .before .args in
-    let ascii-run = c .before .before .before .before .before .before .ascii-run in
-    let if1 = c .before .before .before .before .before .if1 in
-    let eat-wide = c .before .eat-wide in
-    let n = one-on (wants (a .t) (a .want)) (a .s .now) _ (if1 .left) (eat-wide .ensures) (c .if5 .left) in
-    omega (arith, ascii-run .ensures .from)
+    let eat-wide = c .before in
+    let if1 = eat-wide .before .before .before .before in
+    let ascii-run = if1 .before in
+    let asked = ascii-run .before .before .before .before .before in
+    let a = asked .args in
+    let n = one-on (wants (a .t) (a .want)) (a .s .now) _ (if1 .if1 .left) (eat-wide .eat-wide .ensures) (c .if5 .left) in
+    omega (arith, ascii-run .ascii-run .ensures .from)
 
 loop-again-2 : tie.Need-loop-again-2 Inv-loop μ-loop
 loop-again-2 c =
-    let a = c .before .before .before .before .before .before .before .before .before .before .before .args in
-    let ascii = c .before .before .before .before .before .before .before .before .before .ascii in
-    let turn = c .before .before .before .before .before .before .before .before .loop in
-    let ascii-run = c .before .before .before .before .before .before .ascii-run in
-    let if1 = c .before .before .before .before .before .if1 in
-    let eat-wide = c .before .eat-wide in
+    let eat-wide = c .before in
+    let if1 = eat-wide .before .before .before .before in
+    let ascii-run = if1 .before in
+    let turn = ascii-run .before .before in
+    let ascii = turn .before in
+    let asked = ascii .before .before in
+    let a = asked .args in
     let p = wants (a .t) (a .want) in
-    let e = turn .inv ∙ ran-on (a .t) (a .want) (ascii .result) (ascii .ensures) (a .s .now) (turn .i) (ascii-run .ensures) in
-    e ∙ one-on p (a .s .now) _ (if1 .left) (eat-wide .ensures) (c .if5 .left) .2
+    let e = turn .loop .inv ∙ ran-on (a .t) (a .want) (ascii .ascii .result) (ascii .ascii .ensures) (a .s .now) (turn .loop .i) (ascii-run .ascii-run .ensures) in
+    e ∙ one-on p (a .s .now) _ (if1 .if1 .left) (eat-wide .eat-wide .ensures) (c .if5 .left) .2
 
 returns-5 : tie.Need-returns-5 Inv-loop μ-loop
 returns-5 c =

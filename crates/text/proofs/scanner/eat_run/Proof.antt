@@ -26,23 +26,25 @@ shared-slice-read-if2 c = search needs
 
 returns-2 : tie.Need-returns-2
 returns-2 c =
-    let a = c .before .before .before .before .before .before .args in
-    let ascii = c .before .before .before .before .ascii in
-    let ascii-run = c .before .before .before .ascii-run in
-    let if1 = c .before .before .if1 in
+    let if1 = c .before .before in
+    let ascii-run = if1 .before in
+    let ascii = ascii-run .before in
+    let asked = ascii .before .before in
+    let a = asked .args in
     ran (wants (a .t) (a .want)) (a .s .now) (a .at)
-    (sym (ran-stop (a .t) (a .want) (ascii .result) (ascii .ensures) (a .s .now) (a .at) (ascii-run .ensures) (if1 .left) (c .if2 .taken)))
+    (sym (ran-stop (a .t) (a .want) (ascii .ascii .result) (ascii .ascii .ensures) (a .s .now) (a .at) (ascii-run .ascii-run .ensures) (if1 .if1 .left) (c .if2 .taken)))
 
 eat-rest-requires : tie.Need-eat-rest-requires
 eat-rest-requires c κs = search needs
 
 returns-3 : tie.Need-returns-3
 returns-3 c =
-    let a = c .before .before .before .before .before .before .before .args in
-    let ascii = c .before .before .before .before .before .ascii in
-    let ascii-run = c .before .before .before .before .ascii-run in
+    let ascii-run = c .before .before .before .before in
+    let ascii = ascii-run .before in
+    let asked = ascii .before .before in
+    let a = asked .args in
     let p = wants (a .t) (a .want) in
-    let e = ran-on (a .t) (a .want) (ascii .result) (ascii .ensures) (a .s .now) (a .at) (ascii-run .ensures) in
+    let e = ran-on (a .t) (a .want) (ascii .ascii .result) (ascii .ascii .ensures) (a .s .now) (a .at) (ascii-run .ascii-run .ensures) in
     ran p (a .s .now) (a .at) (c .eat-rest .ensures .0 ∙ sym e)
 
 pub eat-run-spec : {M : Type 1} → statement M

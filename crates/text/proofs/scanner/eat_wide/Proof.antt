@@ -21,12 +21,13 @@ holds-requires c κs = search needs
 
 returns : tie.Need-returns
 returns c =
-    let a = c .before .before .before .before .before .before .before .args in
-    let peek = c .before .before .before .before .before .peek in
-    let code = c .before .before .before .code in
-    let holds = c .before .holds in
-    past-hit (a .s .now) (a .at) (peek .ensures .0) (code .given .1) (wants (a .t) (a .want))
-    (sym (wants-told (a .t) _ (holds .ensures) (a .want)) ∙ c .if1 .taken)
+    let holds = c .before in
+    let code = holds .before .before in
+    let peek = code .before .before in
+    let asked = peek .before .before in
+    let a = asked .args in
+    past-hit (a .s .now) (a .at) (peek .peek .ensures .0) (code .code .given .1) (wants (a .t) (a .want))
+    (sym (wants-told (a .t) _ (holds .holds .ensures) (a .want)) ∙ c .if1 .taken)
 
 returns-2 : tie.Need-returns-2
 returns-2 c =
@@ -36,12 +37,13 @@ returns-2 c =
 
 returns-3 : tie.Need-returns-3
 returns-3 c =
-    let a = c .before .before .before .before .before .before .before .args in
-    let peek = c .before .before .before .before .before .peek in
-    let code = c .before .before .before .code in
-    let holds = c .before .holds in
-    past-miss (a .s .now) (a .at) (peek .ensures .0) (code .given .1) (wants (a .t) (a .want))
-    (sym (wants-told (a .t) _ (holds .ensures) (a .want)) ∙ c .if1 .left)
+    let holds = c .before in
+    let code = holds .before .before in
+    let peek = code .before .before in
+    let asked = peek .before .before in
+    let a = asked .args in
+    past-miss (a .s .now) (a .at) (peek .peek .ensures .0) (code .code .given .1) (wants (a .t) (a .want))
+    (sym (wants-told (a .t) _ (holds .holds .ensures) (a .want)) ∙ c .if1 .left)
 
 pub eat-wide-spec : {M : Type 1} → statement M
 eat-wide-spec =

@@ -44,12 +44,13 @@ returns-3 c =
 
 returns-4 : tie.Need-returns-4
 returns-4 c =
-    let a = c .before .before .before .before .before .before .args in
-    let is-scalar = c .before .before .before .before .is-scalar in
-    let if1 = c .before .before .before .if1 in
-    let if2 = c .before .before .if2 in
-    let if4 = c .before .if4 in
-    short-two (a .c) (a .out .now) (sym (is-scalar .ensures) ∙ not-false _ (if1 .left)) (if2 .left) (if4 .taken) (c .if5 .taken)
+    let if4 = c .before in
+    let if2 = if4 .before in
+    let if1 = if2 .before in
+    let is-scalar = if1 .before in
+    let asked = is-scalar .before .before in
+    let a = asked .args in
+    short-two (a .c) (a .out .now) (sym (is-scalar .is-scalar .ensures) ∙ not-false _ (if1 .if1 .left)) (if2 .if2 .left) (if4 .if4 .taken) (c .if5 .taken)
 
 add-out : tie.Need-add-out
 add-out c = search needs
@@ -71,22 +72,24 @@ same-length-2 c = search needs
 
 returns-5 : tie.Need-returns-5
 returns-5 c =
-    let a = c .before .before .before .before .before .before .before .args in
-    let is-scalar = c .before .before .before .before .before .is-scalar in
-    let if1 = c .before .before .before .before .if1 in
-    let if2 = c .before .before .before .if2 in
-    let if4 = c .before .before .if4 in
-    let if5 = c .before .if5 in
-    encode-two (a .c) (a .out .now) (sym (is-scalar .ensures) ∙ not-false _ (if1 .left)) (if2 .left) (if4 .taken) (if5 .left) (c .further-of .ensures)
+    let if5 = c .before in
+    let if4 = if5 .before in
+    let if2 = if4 .before in
+    let if1 = if2 .before in
+    let is-scalar = if1 .before in
+    let asked = is-scalar .before .before in
+    let a = asked .args in
+    encode-two (a .c) (a .out .now) (sym (is-scalar .is-scalar .ensures) ∙ not-false _ (if1 .if1 .left)) (if2 .if2 .left) (if4 .if4 .taken) (if5 .if5 .left) (c .further-of .ensures)
 
 returns-6 : tie.Need-returns-6
 returns-6 c =
-    let a = c .before .before .before .before .before .before .before .args in
-    let is-scalar = c .before .before .before .before .before .is-scalar in
-    let if1 = c .before .before .before .before .if1 in
-    let if4 = c .before .before .if4 in
-    let if6 = c .before .if6 in
-    short-three (a .c) (a .out .now) (sym (is-scalar .ensures) ∙ not-false _ (if1 .left)) (if4 .left) (if6 .taken) (c .if7 .taken)
+    let if6 = c .before in
+    let if4 = if6 .before in
+    let if1 = if4 .before .before in
+    let is-scalar = if1 .before in
+    let asked = is-scalar .before .before in
+    let a = asked .args in
+    short-three (a .c) (a .out .now) (sym (is-scalar .is-scalar .ensures) ∙ not-false _ (if1 .if1 .left)) (if4 .if4 .left) (if6 .if6 .taken) (c .if7 .taken)
 
 add-out-2 : tie.Need-add-out-2
 add-out-2 c = search needs
@@ -114,33 +117,36 @@ same-length-3 c = search needs
 
 returns-7 : tie.Need-returns-7
 returns-7 c =
-    let a = c .before .before .before .before .before .before .before .before .before .args in
-    let is-scalar = c .before .before .before .before .before .before .before .is-scalar in
-    let if1 = c .before .before .before .before .before .before .if1 in
-    let if4 = c .before .before .before .before .if4 in
-    let if6 = c .before .before .before .if6 in
-    let if7 = c .before .before .if7 in
-    let further-of2 = c .before .further-of2 in
-    encode-three (a .c) (a .out .now) (sym (is-scalar .ensures) ∙ not-false _ (if1 .left)) (if4 .left) (if6 .taken) (if7 .left) (further-of2 .ensures)
+    let further-of2 = c .before in
+    let if7 = further-of2 .before in
+    let if6 = if7 .before in
+    let if4 = if6 .before in
+    let if1 = if4 .before .before in
+    let is-scalar = if1 .before in
+    let asked = is-scalar .before .before in
+    let a = asked .args in
+    encode-three (a .c) (a .out .now) (sym (is-scalar .is-scalar .ensures) ∙ not-false _ (if1 .if1 .left)) (if4 .if4 .left) (if6 .if6 .taken) (if7 .if7 .left) (further-of2 .further-of2 .ensures)
     (c .further-of3 .ensures)
 
 returns-8 : tie.Need-returns-8
 returns-8 c =
-    let a = c .before .before .before .before .before .before .before .args in
-    let is-scalar = c .before .before .before .before .before .is-scalar in
-    let if1 = c .before .before .before .before .if1 in
-    let if6 = c .before .if6 in
-    short-four (a .c) (a .out .now) (sym (is-scalar .ensures) ∙ not-false _ (if1 .left)) (if6 .left) (c .if8 .taken)
+    let if6 = c .before in
+    let if1 = if6 .before .before .before in
+    let is-scalar = if1 .before in
+    let asked = is-scalar .before .before in
+    let a = asked .args in
+    short-four (a .c) (a .out .now) (sym (is-scalar .is-scalar .ensures) ∙ not-false _ (if1 .if1 .left)) (if6 .if6 .left) (c .if8 .taken)
 
 add-out-3 : tie.Need-add-out-3
 add-out-3 c = search needs
 
 cast-out-4 : tie.Need-cast-out-4
 cast-out-4 c =
-    let a = c .before .before .before .before .before .before .before .args in
-    let is-scalar = c .before .before .before .before .before .is-scalar in
-    let if1 = c .before .before .before .before .if1 in
-    let h = scalar-high (a .c) (sym (is-scalar .ensures) ∙ not-false _ (if1 .left)) in
+    let if1 = c .before .before .before .before in
+    let is-scalar = if1 .before in
+    let asked = is-scalar .before .before in
+    let a = asked .args in
+    let h = scalar-high (a .c) (sym (is-scalar .is-scalar .ensures) ∙ not-false _ (if1 .if1 .left)) in
     omega arith
 
 slice-write-out-7 : tie.Need-slice-write-out-7
@@ -169,15 +175,16 @@ same-length-4 c = search needs
 
 returns-9 : tie.Need-returns-9
 returns-9 c =
-    let a = c .before .before .before .before .before .before .before .before .before .before .args in
-    let is-scalar = c .before .before .before .before .before .before .before .before .is-scalar in
-    let if1 = c .before .before .before .before .before .before .before .if1 in
-    let if6 = c .before .before .before .before .if6 in
-    let if8 = c .before .before .before .if8 in
-    let further-of4 = c .before .before .further-of4 in
-    let further-of5 = c .before .further-of5 in
-    encode-four (a .c) (a .out .now) (sym (is-scalar .ensures) ∙ not-false _ (if1 .left)) (if6 .left) (if8 .left) (further-of4 .ensures)
-    (further-of5 .ensures) (c .further-of6 .ensures)
+    let further-of5 = c .before in
+    let further-of4 = further-of5 .before in
+    let if8 = further-of4 .before in
+    let if6 = if8 .before in
+    let if1 = if6 .before .before .before in
+    let is-scalar = if1 .before in
+    let asked = is-scalar .before .before in
+    let a = asked .args in
+    encode-four (a .c) (a .out .now) (sym (is-scalar .is-scalar .ensures) ∙ not-false _ (if1 .if1 .left)) (if6 .if6 .left) (if8 .if8 .left) (further-of4 .further-of4 .ensures)
+    (further-of5 .further-of5 .ensures) (c .further-of6 .ensures)
 
 pub encode-spec : {M : Type 1} → statement M
 encode-spec =

@@ -31,10 +31,11 @@ is-tail-requires c κs = search needs
 
 returns-2 : tie.Need-returns-2
 returns-2 c =
-    let a = c .before .before .before .before .before .before .before .args in
-    let goes-second = c .before .before .before .before .goes-second in
-    let is-tail = c .before .is-tail in
-    on-three (a .s .now) (a .at) (a .a) (a .n) (omega arith) (goes-second .ensures) (is-tail .ensures) (c .if2 .taken)
+    let is-tail = c .before in
+    let goes-second = is-tail .before .before .before in
+    let asked = goes-second .before .before .before in
+    let a = asked .args in
+    on-three (a .s .now) (a .at) (a .a) (a .n) (omega arith) (goes-second .goes-second .ensures) (is-tail .is-tail .ensures) (c .if2 .taken)
 
 add-is-tail-2 : tie.Need-add-is-tail-2
 add-is-tail-2 c = search needs
@@ -47,12 +48,13 @@ is-tail-requires-2 c κs = search needs
 
 returns-3 : tie.Need-returns-3
 returns-3 c =
-    let a = c .before .before .before .before .before .before .before .before .before .args in
-    let goes-second = c .before .before .before .before .before .before .goes-second in
-    let if1 = c .before .before .before .before .before .if1 in
-    let is-tail = c .before .before .before .is-tail in
-    let if2 = c .before .before .if2 in
-    on-four (a .s .now) (a .at) (a .a) (a .n) (omega arith) (goes-second .ensures) (is-tail .ensures) (if1 .left) (if2 .left) (omega arith)
+    let if2 = c .before .before in
+    let is-tail = if2 .before in
+    let if1 = is-tail .before .before in
+    let goes-second = if1 .before in
+    let asked = goes-second .before .before .before in
+    let a = asked .args in
+    on-four (a .s .now) (a .at) (a .a) (a .n) (omega arith) (goes-second .goes-second .ensures) (is-tail .is-tail .ensures) (if1 .if1 .left) (if2 .if2 .left) (omega arith)
     (omega arith) (c .is-tail2 .ensures)
 
 pub goes-on-spec : {M : Type 1} → statement M

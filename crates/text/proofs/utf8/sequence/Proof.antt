@@ -37,14 +37,15 @@ sub-if4 c = search needs
 
 returns-4 : tie.Need-returns-4
 returns-4 c =
-    let a = c .before .before .before .before .before .before .before .args in
-    let if1 = c .before .before .before .before .before .if1 in
-    let shared-slice-known2 = c .before .before .before .before .shared-slice-known2 in
-    let if2 = c .before .before .before .if2 in
-    let if3 = c .before .before .if3 in
+    let if3 = c .before .before in
+    let if2 = if3 .before in
+    let shared-slice-known2 = if2 .before in
+    let if1 = shared-slice-known2 .before in
+    let asked = if1 .before .before in
+    let a = asked .args in
     let sequence-length = c .before .sequence-length in (
       sym
-          (width-short (a .s .now) (a .at) (if1 .left) (omega (arith, shared-slice-known2 .given (a .at))) (if2 .left) (if3 .left) _
+          (width-short (a .s .now) (a .at) (if1 .if1 .left) (omega (arith, shared-slice-known2 .shared-slice-known2 .given (a .at))) (if2 .if2 .left) (if3 .if3 .left) _
           (sequence-length .ensures) (c .if4 .taken)),
       omega arith,
       omega arith,
@@ -52,46 +53,49 @@ returns-4 c =
 
 goes-on-requires : tie.Need-goes-on-requires
 goes-on-requires c κs =
-    let a = c .before .before .before .before .before .before .before .args in
-    let if1 = c .before .before .before .before .before .if1 in
-    let shared-slice-known2 = c .before .before .before .before .shared-slice-known2 in
-    let if2 = c .before .before .before .if2 in
-    let if3 = c .before .before .if3 in
-    let sequence-length = c .before .sequence-length in
-    let r = length-range (a .s .now) (a .at) (if1 .left) (omega (arith, shared-slice-known2 .given (a .at))) (if2 .left) (if3 .left) _
-    (sequence-length .ensures) in
+    let sequence-length = c .before in
+    let if3 = sequence-length .before in
+    let if2 = if3 .before in
+    let shared-slice-known2 = if2 .before in
+    let if1 = shared-slice-known2 .before in
+    let asked = if1 .before .before in
+    let a = asked .args in
+    let r = length-range (a .s .now) (a .at) (if1 .if1 .left) (omega (arith, shared-slice-known2 .shared-slice-known2 .given (a .at))) (if2 .if2 .left) (if3 .if3 .left) _
+    (sequence-length .sequence-length .ensures) in
     (omega arith, r .0, r .1)
 
 returns-5 : tie.Need-returns-5
 returns-5 c =
-    let a = c .before .before .before .before .before .before .before .before .before .args in
-    let if1 = c .before .before .before .before .before .before .before .if1 in
-    let shared-slice-known2 = c .before .before .before .before .before .before .shared-slice-known2 in
-    let if2 = c .before .before .before .before .before .if2 in
-    let if3 = c .before .before .before .before .if3 in
-    let sequence-length = c .before .before .before .sequence-length in
-    let goes-on = c .before .goes-on in
-    let r = length-range (a .s .now) (a .at) (if1 .left) (omega (arith, shared-slice-known2 .given (a .at))) (if2 .left) (if3 .left) _
-    (sequence-length .ensures) in (
+    let goes-on = c .before in
+    let sequence-length = goes-on .before .before in
+    let if3 = sequence-length .before in
+    let if2 = if3 .before in
+    let shared-slice-known2 = if2 .before in
+    let if1 = shared-slice-known2 .before in
+    let asked = if1 .before .before in
+    let a = asked .args in
+    let r = length-range (a .s .now) (a .at) (if1 .if1 .left) (omega (arith, shared-slice-known2 .shared-slice-known2 .given (a .at))) (if2 .if2 .left) (if3 .if3 .left) _
+    (sequence-length .sequence-length .ensures) in (
       sym
-          (width-whole (a .s .now) (a .at) (if1 .left) (omega (arith, shared-slice-known2 .given (a .at))) (if2 .left) (if3 .left) _
-          (sequence-length .ensures) (goes-on .ensures) (c .if5 .taken)),
+          (width-whole (a .s .now) (a .at) (if1 .if1 .left) (omega (arith, shared-slice-known2 .shared-slice-known2 .given (a .at))) (if2 .if2 .left) (if3 .if3 .left) _
+          (sequence-length .sequence-length .ensures) (goes-on .goes-on .ensures) (c .if5 .taken)),
       omega arith,
       r .1,
     )
 
 returns-6 : tie.Need-returns-6
 returns-6 c =
-    let a = c .before .before .before .before .before .before .before .before .before .args in
-    let if1 = c .before .before .before .before .before .before .before .if1 in
-    let shared-slice-known2 = c .before .before .before .before .before .before .shared-slice-known2 in
-    let if2 = c .before .before .before .before .before .if2 in
-    let if3 = c .before .before .before .before .if3 in
-    let sequence-length = c .before .before .before .sequence-length in
+    let sequence-length = c .before .before .before in
+    let if3 = sequence-length .before in
+    let if2 = if3 .before in
+    let shared-slice-known2 = if2 .before in
+    let if1 = shared-slice-known2 .before in
+    let asked = if1 .before .before in
+    let a = asked .args in
     let goes-on = c .before .goes-on in (
       sym
-          (width-broken (a .s .now) (a .at) (if1 .left) (omega (arith, shared-slice-known2 .given (a .at))) (if2 .left) (if3 .left) _
-          (sequence-length .ensures) (goes-on .ensures) (c .if5 .left)),
+          (width-broken (a .s .now) (a .at) (if1 .if1 .left) (omega (arith, shared-slice-known2 .shared-slice-known2 .given (a .at))) (if2 .if2 .left) (if3 .if3 .left) _
+          (sequence-length .sequence-length .ensures) (goes-on .ensures) (c .if5 .left)),
       omega arith,
       omega arith,
     )

@@ -76,10 +76,10 @@ sequence-requires c κs = search needs
 
 returns : tie.Need-returns Inv-loop μ-loop
 returns c =
-    let turn = c .before .before .before .before .before .before .before .before .before .loop in
-    let test = c .before .before .before .before .before .before .before .before .loop-test in
-    let sequence = c .before .sequence in
-    sym (turn .inv .1 ∙ valid-stop (λ n. Valid) _ _ _ (sequence .ensures .0) (c .if4 .taken) (test .taken))
+    let sequence = c .before in
+    let test = sequence .before .before .before .before .before .before .before in
+    let turn = test .before in
+    sym (turn .loop .inv .1 ∙ valid-stop (λ n. Valid) _ _ _ (sequence .sequence .ensures .0) (c .if4 .taken) (test .loop-test .taken))
 
 add-at-3 : tie.Need-add-at-3 Inv-loop μ-loop
 add-at-3 c = omega arith
@@ -89,12 +89,13 @@ loop-less-4 c = omega arith
 
 loop-again-4 : tie.Need-loop-again-4 Inv-loop μ-loop
 loop-again-4 c =
-    let a = c .before .before .before .before .before .before .before .before .before .before .before .args in
-    let v = c .before .before .before .before .before .before .before .before .before .loop in
-    let sequence = c .before .sequence in
-    let x = sequence .ensures in
-    let h : v .at + sequence .result ≤ length (a .s .now) = omega arith in
-    (h, v .inv .1 ∙ valid-on (λ n. Valid) _ (v .at) _ (x .0) (c .if4 .left) h)
+    let sequence = c .before in
+    let v = sequence .before .before .before .before .before .before .before .before in
+    let asked = v .before .before in
+    let a = asked .args in
+    let x = sequence .sequence .ensures in
+    let h : v .loop .at + sequence .sequence .result ≤ length (a .s .now) = omega arith in
+    (h, v .loop .inv .1 ∙ valid-on (λ n. Valid) _ (v .loop .at) _ (x .0) (c .if4 .left) h)
 
 returns-2 : tie.Need-returns-2 Inv-loop μ-loop
 returns-2 c = sym (c .before .loop .inv .1 ∙ walk-end lookValid (λ n. Valid) _ _ (c .loop-test .left))

@@ -35,10 +35,11 @@ add-result c = search needs
 
 returns-2 : tie.Need-returns-2
 returns-2 c =
-    let a = c .before .before .before .before .before .before .before .args in
-    let wide = c .before .before .before .before .wide in
-    let six = c .before .six in
-    rw (wide .ensures, six .ensures) (sym (value-two (a .s .now) (a .at) (a .n) (omega arith) (c .if2 .taken)))
+    let six = c .before in
+    let wide = six .before .before .before in
+    let asked = wide .before .before .before in
+    let a = asked .args in
+    rw (wide .wide .ensures, six .six .ensures) (sym (value-two (a .s .now) (a .at) (a .n) (omega arith) (c .if2 .taken)))
 
 add-six-2 : tie.Need-add-six-2
 add-six-2 c = search needs
@@ -63,11 +64,12 @@ add-result-3 c = search needs
 
 returns-3 : tie.Need-returns-3
 returns-3 c =
-    let a = c .before .before .before .before .before .before .before .before .before .before .args in
-    let wide = c .before .before .before .before .before .before .before .wide in
-    let six = c .before .before .before .before .six in
-    let six2 = c .before .six2 in
-    rw (wide .ensures, six .ensures, six2 .ensures) (sym (value-three (a .s .now) (a .at) (a .n) (omega arith) (c .if3 .taken)))
+    let six2 = c .before in
+    let six = six2 .before .before .before in
+    let wide = six .before .before .before in
+    let asked = wide .before .before .before in
+    let a = asked .args in
+    rw (wide .wide .ensures, six .six .ensures, six2 .six2 .ensures) (sym (value-three (a .s .now) (a .at) (a .n) (omega arith) (c .if3 .taken)))
 
 add-six-3 : tie.Need-add-six-3
 add-six-3 c = search needs
@@ -98,11 +100,12 @@ add-result-6 c = search needs
 
 returns-4 : tie.Need-returns-4
 returns-4 c =
-    let a = c .before .before .before .before .before .before .before .before .before .before .before .before .args in
-    let wide = c .before .before .before .before .before .before .before .before .before .wide in
-    let six = c .before .before .before .before .before .before .six in
-    let six2 = c .before .before .before .six2 in
-    rw (wide .ensures, six .ensures, six2 .ensures, c .six3 .ensures) (sym (value-four (a .s .now) (a .at) (a .n) (omega arith) (omega arith)))
+    let six2 = c .before .before .before in
+    let six = six2 .before .before .before in
+    let wide = six .before .before .before in
+    let asked = wide .before .before .before in
+    let a = asked .args in
+    rw (wide .wide .ensures, six .six .ensures, six2 .six2 .ensures, c .six3 .ensures) (sym (value-four (a .s .now) (a .at) (a .n) (omega arith) (omega arith)))
 
 pub value-at-spec : {M : Type 1} → statement M
 value-at-spec =
