@@ -1,6 +1,6 @@
 -- What is seen of a text that stands in a longer one.
 --     see-ahead               a character ends after its place, and inside the text
---     seenUp, see-up          the text moved behind another: what is seen moves with it
+--     see-up                  the text moved behind another: what is seen moves with it
 --     see-front               a text that goes on with no tail shows what it showed
 --     see-cut                 a text cut behind a character still shows it
 --     see-within              what a place inside a character shows ends no later
@@ -18,17 +18,13 @@ use borrow.Author.Tests.{leb-true, leb-false, eqb-true, eqb-false}
 use Rattle.text.specs.Range.{within}
 use Rattle.text.specs.Utf8.{tail, isChar, width}
 use Rattle.text.specs.Scan.{code, rest, seeFrom, see, Inside}
+use Rattle.text.specs.Seeing.{seenUp}
 use Rattle.text.specs.declared.scanner.Seen.{Seen}
 use Rattle.text.specs.declared.scanner.Seen.the-variants.{End, Char}
 use Rattle.text.proofs.sequences.Alternatives.{width-char, char-width}
 use Rattle.text.proofs.sequences.Lengths.{char-further, width-inside, width-tail}
 use Rattle.text.proofs.scanning.Seen.{see-at, see-inside}
 use Rattle.text.proofs.general.Places.{drop-next}
-
--- what is seen, d places on
-abbrev pub seenUp : ℕ → Seen → Seen
-seenUp d End = End
-seenUp d (Char c n) = Char c (n + d)
 
 -- a character ends after its place, and inside the text
 pub see-ahead : (s : List ℕ) (p c n : ℕ) → see s p ≡ Char c n → (p < n) × (n ≤ length s)
