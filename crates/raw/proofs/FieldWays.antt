@@ -8,7 +8,7 @@ use lib.ListN.{length, getD}
 use borrow.Author.Tests.{eq-eqb, ne-eqb}
 use Rattle.text.specs.Class.{isWhitespace, holdsOf}
 use Rattle.text.specs.Scan.{see, skip}
-use Rattle.text.proofs.scanning.Seen.{see-at}
+use Rattle.text.proofs.Seeing.{seeing}
 use Rattle.row.specs.declared.form.Kind.{Kind}
 use Rattle.row.specs.declared.fault.Fault.{Fault}
 use Rattle.row.specs.declared.fault.Reason.the-variants.{UnexpectedEof, ExpectedComma}
@@ -104,7 +104,7 @@ module _ (k : Kind) (s : List ℕ) (i : ℕ) where
   module _ (h : i < length s) {p : ℕ} (w : p ≡ skip isWhitespace s i) where
     at-field : fieldsTurn k 0 s i ≡ sees (is 0x7D) stop (field k then fieldEnd) s p
     unfolding fieldsTurn
-    at-field = rw (see-at s i h) (then-on _ (white-on s i w))
+    at-field = rw (seeing .see-at s i h) (then-on _ (white-on s i w))
 
     pub fields-brace : p < length s → getD s p 0 ≡ 0x7D → fieldsTurn k 0 s i ≡ ok p []
     fields-brace l e = at-field ∙ byte-on (is 0x7D) s p (λ n. ok p []) ((field k then fieldEnd) s p) (narrow-is 0x7D (omega arith)) l (eq-eqb _ _ e)

@@ -17,8 +17,7 @@ use Rattle.text.specs.declared.scanner.Seen.the-variants.{End, Char}
 use Rattle.text.specs.declared.class.Test.the-variants as test
 use Rattle.text.specs.declared.utf8.Validity.{Validity}
 use Rattle.text.specs.declared.utf8.Validity.the-variants as validity
-use Rattle.text.proofs.scanning.Seen.{see-inside}
-use Rattle.text.proofs.scanning.LongerText.{see-front}
+use Rattle.text.proofs.Seeing.{seeing}
 use Rattle.text.proofs.Rfc3629.{rfc3629}
 use Rattle.row.specs.declared.fault.Fault.{Fault}
 use Rattle.row.specs.declared.fault.Reason.the-variants.{TooLong, NotUtf8}
@@ -92,7 +91,7 @@ module _ (s : List ℕ) where
       chain-ends (white s p) _
       (λ q. eaten-holds Ends (is 0x40) (see s q) _ _ (λ k n x. turned-ends (entry s q))
       (eaten-holds Ends (holdsOf test.Percent) (see s q) _ _ (λ k n x. turned-ends (comment s q))
-      (eaten-else Ends any (see s q) _ _ (λ n. tt) (none-left q (see s q) (see-inside s q)))))
+      (eaten-else Ends any (see s q) _ _ (λ n. tt) (none-left q (see s q) (seeing .see-inside s q)))))
 
   more-done : (rs : List Row) (o : Out) → Done o → Done (more rs o)
   more-done rs (ok q ss) h = h
@@ -133,7 +132,7 @@ module _ (s : List ℕ) (p q : ℕ) (rs : List Row) (e : entry s p ≡ ok q rs) 
   entry-longer : (t : List ℕ) → Fresh t → entry (s ++ t) p ≡ ok q rs
   entry-longer t f =
       let a = entry-at in
-      entry-same (s ++ t) (omega (arith, length-append s t)) (λ i h l. sym (see-front s t i f (omega arith)))
+      entry-same (s ++ t) (omega (arith, length-append s t)) (λ i h l. sym (seeing .see-front s t i f (omega arith)))
 
   entry-cut : entry (take q s) p ≡ ok q rs
   entry-cut =

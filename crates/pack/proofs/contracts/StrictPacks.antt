@@ -15,7 +15,7 @@ use Rattle.raw.specs.Reader.{Out, ok, again, bad}
 use Rattle.raw.specs.Read.{strict, readingOut, leftOut, Read}
 use Rattle.raw.proofs.Strict.{strict-reading}
 use Rattle.raw.proofs.StrictSteps.{strict-short, strict-spans, rows-told}
-use Rattle.row.proofs.numbers.Flat.{flat-length}
+use Rattle.row.proofs.Laid.{laid}
 use Rattle.row.specs.declared.fault.Outcome.{Outcome}
 use Rattle.row.specs.declared.fault.Outcome.the-variants.{Count}
 use Rattle.pack.specs.Pack.{isPackable, bytesFor, Pack}
@@ -31,8 +31,8 @@ strictly s q rs e =
 front-packs : (rs : List Row) (c b b′ : List ℕ) (r : Outcome) → isPackable (flat rs) ≡ true
     → Pack (take (length rs * 4) (flat rs ++ drop (length rs * 4) c)) b r b′ → length rs * 7 ≤ length b → r ≡ Count (length rs * 7)
 front-packs rs c b b′ r k p h =
-    let x = take-at (flat rs) (drop (length rs * 4) c) (length rs * 4) (flat-length rs) in
-    let e : bytesFor (length (flat rs)) ≡ length rs * 7 = omega (arith, flat-length rs) in
+    let x = take-at (flat rs) (drop (length rs * 4) c) (length rs * 4) (laid .flat-length rs) in
+    let e : bytesFor (length (flat rs)) ≡ length rs * 7 = omega (arith, laid .flat-length rs) in
     pack-gives (flat rs) b b′ r k (omega (arith, e)) (subst (λ (l : List ℕ). Pack l b r b′) x p) .0 ∙ ap Count e
 
 module _ (s c c′ : List ℕ) (n : ℕ) (b b′ : List ℕ) (r : Outcome) (p : Pack (take (n * 4) c′) b r b′) (h : n * 7 ≤ length b) where

@@ -15,7 +15,7 @@ use lib.ListN.{length}
 use Rattle.text.specs.Scan.{see}
 use Rattle.text.specs.declared.scanner.Seen.{Seen}
 use Rattle.text.specs.declared.scanner.Seen.the-variants.{End, Char}
-use Rattle.text.proofs.scanning.LongerText.{see-ahead}
+use Rattle.text.proofs.Seeing.{seeing}
 use Rattle.row.specs.Row.{Mark}
 use Rattle.row.specs.declared.fault.Reason.{Reason}
 use Rattle.raw.specs.Strict.{Same}
@@ -105,7 +105,7 @@ module _ {P : Type 0} {v w l v₁ w₁ : ℕ} (c : ℕ → Bool) {f g : ReaderOf
   when-advances : (s : List ℕ) (p : ℕ) → Advances v w p (length s) (when c f g s p)
   when-advances s p =
       eaten-holds (Advances v w p (length s)) c (see s p) (f s) (g s p)
-      (λ k n x. let y = see-ahead s p k n x in advances-later v₁ w₁ v w p n (length s) (f s n) (y .0) (y .1) (m .0) (m .1) (F .advances s n))
+      (λ k n x. let y = seeing .see-ahead s p k n x in advances-later v₁ w₁ v w p n (length s) (f s n) (y .0) (y .1) (m .0) (m .1) (F .advances s n))
       (G .advances s p)
 
   when-local : (s t : List ℕ) (p q : ℕ) → Stops (when c f g s p) q → q ≤ length t → Same s t p (q + l) → when c f g t p ≡ when c f g s p
@@ -113,7 +113,7 @@ module _ {P : Type 0} {v w l v₁ w₁ : ℕ} (c : ℕ → Bool) {f g : ReaderOf
       let y = least v w p (length s) q (when c f g s p) (when-advances s p) h l (m .2) (m .3) in
       rw (← e p (omega arith) y)
       (eaten-both (λ o o′. Stops o q → o′ ≡ o) c (see s p) (f s) (f t) (g s p) (g t p)
-      (λ k n x h. let y = see-ahead s p k n x in F .local s t n q h i (λ j a b. e j (omega arith) b)) (λ h. G .local s t p q h i e) h)
+      (λ k n x h. let y = seeing .see-ahead s p k n x in F .local s t n q h i (λ j a b. e j (omega arith) b)) (λ h. G .local s t p q h i e) h)
 
   pub when-kept : Kept v w l (when c f g)
   when-kept = record { advances = when-advances; local = when-local }

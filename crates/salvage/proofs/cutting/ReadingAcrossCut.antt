@@ -13,8 +13,7 @@ use lib.ListN.{length, length-append}
 use Rattle.text.specs.Class.{whiteSpace, isWhitespace}
 use Rattle.text.specs.Scan.{see, Inside}
 use Rattle.text.specs.declared.scanner.Seen.the-variants.{End, Char}
-use Rattle.text.proofs.scanning.Seen.{see-end, see-inside}
-use Rattle.text.proofs.scanning.LongerText.{see-ahead, see-front}
+use Rattle.text.proofs.Seeing.{seeing}
 use Rattle.row.specs.declared.fault.Fault.{Fault}
 use Rattle.row.specs.Row.{Row}
 use Rattle.raw.specs.Reader.{Out, ok, again, bad, more, after}
@@ -72,17 +71,17 @@ pub record Meet (a s : List ℕ) (k : ℕ) : Type 0 where
 
 module _ (a s : List ℕ) (k : ℕ) (m : Meet a s k) where
   same : (i : ℕ) → i < suc k → see a i ≡ see (a ++ s) i
-  same i h = sym (see-front a s i (m .begins) (omega (arith, m .size)))
+  same i h = sym (seeing .see-front a s i (m .begins) (omega (arith, m .size)))
 
   stops : Halts isWhitespace (see (a ++ s) (suc k))
   unfolding isWhitespace whiteSpace
   stops = rw (m .at) refl
 
   ended : see a (suc k) ≡ End
-  ended = see-end a (suc k) (omega (arith, m .size))
+  ended = seeing .see-end a (suc k) (omega (arith, m .size))
 
   clear-end : Clear a (suc k)
-  clear-end i c n e h = omega (arith, m .size, see-ahead a i c n e)
+  clear-end i c n e h = omega (arith, m .size, seeing .see-ahead a i c n e)
 
   longer : suc k ≤ length (a ++ s)
   longer = omega (arith, length-append a s, m .size)
@@ -125,7 +124,7 @@ module _ (a s : List ℕ) (k : ℕ) (m : Meet a s k) where
         let y : Scanned isWhitespace a p (z .0) = z .1 in
         let w = white-found a p (z .0) y in
         let g = item-ok a (z .0) i rs (sym (turn-white a p (z .0) w) ∙ d) in
-        let past : length a ≤ z .0 = subst (Inside a (z .0)) (g .0) (see-inside a (z .0)) in
+        let past : length a ≤ z .0 = subst (Inside a (z .0)) (g .0) (seeing .see-inside a (z .0)) in
         let most : z .0 ≤ suc k = y .least (suc k) h clear-end (rw ended tt) in
         let n : z .0 ≡ suc k = omega (arith, m .size) in
         w ∙ ap (λ (n : ℕ). ok n []) n

@@ -15,7 +15,7 @@ use Rattle.text.specs.Class.{isWhitespace}
 use Rattle.text.specs.Scan.{see}
 use Rattle.text.specs.declared.scanner.Seen.{Seen}
 use Rattle.text.specs.declared.scanner.Seen.the-variants.{End, Char}
-use Rattle.text.proofs.scanning.LongerText.{see-ahead}
+use Rattle.text.proofs.Seeing.{seeing}
 use Rattle.row.specs.Row.{Row}
 use Rattle.raw.specs.Reader.{ok, more, after, eaten, stop, turn, many, scanTurn, scan}
 use Rattle.raw.specs.Grammar.{white}
@@ -68,7 +68,7 @@ module _ (t : ℕ → Bool) (s : List ℕ) where
 
     passed : (q : ℕ) × Scanned t s m q → (q : ℕ) × Scanned t s p q
     passed z =
-        let i = see-ahead s p c m d in
+        let i = seeing .see-ahead s p c m d in
         let y : Scanned t s m (z .0) = z .1 in
         let e₁ = scan-turned p in
         let e₂ : scan {P = Row} t s p ≡ more [] (scan t s m) = rw (d, k) at e₁ in (
@@ -90,7 +90,7 @@ module _ (t : ℕ → Bool) (s : List ℕ) where
         where
           by : (b : Bool) → t c ≡ b → (q : ℕ) × Scanned t s p q
           by false k = stayed p (rw d k)
-          by true k = let i = see-ahead s p c m d in passed p c m d k (ih m (i .0) (i .1))
+          by true k = let i = seeing .see-ahead s p c m d in passed p c m d k (ih m (i .0) (i .1))
 
   scan-by : (n p : ℕ) → length s ≤ p + n → (q : ℕ) × Scanned t s p q
   scan-by zero p h = scan-step p (λ m a b. absurd (omega arith))

@@ -23,7 +23,7 @@ use Rattle.row.specs.Limits.{mostBytes}
 use Rattle.raw.specs.Read.{strict, readingOut, leftOut}
 use Rattle.row.specs.Rules.{clean}
 use Rattle.raw.proofs.Strict.{strict-reading}
-use Rattle.row.proofs.numbers.Overlay.{moved-length}
+use Rattle.row.proofs.Laid.{laid}
 use Rattle.raw.proofs.StrictSteps.{strict-bad, rows-told}
 use Rattle.salvage.specs.Salvage.{Texts, cut, damaged, told, pieces, salvageOf, salvaged, Salvage}
 use Rattle.salvage.specs.Demand3.{lined, fresh, Holds, joined, CauseOf, PieceGives}
@@ -127,7 +127,7 @@ module _ (a s x y b x′ y′ b′ : List ℕ) (m n : ℕ) (r : Reading) (h : li
       let j = call-room s y y′ (reading.Rows n) ls d n refl in
       let p = salvage-append a s h k in
       let z = length-append (salvageOf a) (moved (length a) (salvageOf s)) in
-      let u = moved-length (length a) (salvageOf s) in
+      let u = laid .moved-length (length a) (salvageOf s) in
       let v : length (salvageOf (a ++ s)) ≤ length b / 4 = rw p (omega (arith, i .0, j .0)) in
       let whole = subst (λ (rs : List Row). Holds rs b r b′) p (call-holds (a ++ s) b b′ r l e v) in
       (salvageOf a, salvageOf s, call-holds a x x′ (reading.Rows m) la c (i .1), call-holds s y y′ (reading.Rows n) ls d (j .1), whole)

@@ -21,8 +21,8 @@ use Rattle.raw.specs.Strict.{Rising}
 use Rattle.raw.proofs.readers.Spans.{rising-less}
 use Rattle.raw.proofs.Strict.{strict-reading}
 use Rattle.raw.proofs.StrictSteps.{strict-bad, strict-spans}
-use Rattle.row.proofs.numbers.Spans.{spans-more, spans-append, spans-moved}
-use Rattle.row.proofs.rules.Append.{rows-append, rows-moved}
+use Rattle.row.proofs.Laid.{laid}
+use Rattle.row.proofs.Ruled.{ruled}
 use Rattle.salvage.specs.Salvage.{Texts, cause, damaged, told, pieces}
 use Rattle.salvage.specs.Demand3.{joined}
 use Rattle.salvage.proofs.rows.EachPiece.{told-by}
@@ -44,7 +44,7 @@ pieces-rules p [] h = refl
 pieces-rules p (w ∷ ws) h =
     let l = length-append w (joined ws) in
     let rs = told w (strict w) in
-    rows-append (moved p rs) (pieces (p + length w) ws) (rows-moved p rs ∙ told-rules w (omega arith)) (pieces-rules (p + length w) ws (omega arith))
+    ruled .rows-append (moved p rs) (pieces (p + length w) ws) (ruled .rows-moved p rs ∙ told-rules w (omega arith)) (pieces-rules (p + length w) ws (omega arith))
 
 -- ---- spans
 
@@ -64,9 +64,9 @@ pieces-spans p (w ∷ ws) =
     let l = length-append w (joined ws) in
     let n = p + length (w ++ joined ws) in
     let rs = told w (strict w) in
-    spans-append n (moved p rs) (pieces (p + length w) ws)
-    (spans-more (length w + p) n (moved p rs) (omega arith) (spans-moved p (length w) rs (told-spans w)))
-    (spans-more (p + length w + length (joined ws)) n (pieces (p + length w) ws) (omega arith) (pieces-spans (p + length w) ws))
+    laid .spans-append n (moved p rs) (pieces (p + length w) ws)
+    (laid .spans-more (length w + p) n (moved p rs) (omega arith) (laid .spans-moved p (length w) rs (told-spans w)))
+    (laid .spans-more (p + length w + length (joined ws)) n (pieces (p + length w) ws) (omega arith) (pieces-spans (p + length w) ws))
 
 -- ---- starts
 
@@ -93,5 +93,5 @@ pieces-rising p (w ∷ ws) =
     let rs = told w (strict w) in
     rising-append p (p + length w) (moved p rs) (pieces (p + length w) ws) (omega arith)
     (rising-less p (0 + p) (moved p rs) (omega arith) (rising-moved p 0 rs (told-rising w)))
-    (spans-more (length w + p) (p + length w) (moved p rs) (omega arith) (spans-moved p (length w) rs (told-spans w)))
+    (laid .spans-more (length w + p) (p + length w) (moved p rs) (omega arith) (laid .spans-moved p (length w) rs (told-spans w)))
     (pieces-rising (p + length w) ws)

@@ -5,7 +5,7 @@ use native.Mathlib.Omega.{arith}
 use lib.ListN.{length, drop}
 use borrow.Author.Needs.{needs}
 use Rattle.row.specs.Numbers.{rowsOf}
-use Rattle.row.proofs.numbers.Flat.{rows-next, rows-end}
+use Rattle.row.proofs.Laid.{laid}
 use Rattle.pack.specs.Seven.{spanFits}
 use Rattle.pack.specs.Pack.{isPackable}
 use Rattle.pack.proofs.loops.Judging.{Judging, judge-row, judge-off, judge-end, four-count, four-start}
@@ -79,14 +79,14 @@ loop-again c =
     let l = c .before .before .before .before .before .before .before in
     let step = c .before .step in
     let m = l .loop .inv in
-    (m .0, omega arith, omega arith, judge-row (m .3) (rows-next (a .rows .now) (l .loop .i) (omega arith)) (step .ensures) (c .if2 .taken))
+    (m .0, omega arith, omega arith, judge-row (m .3) (laid .rows-next (a .rows .now) (l .loop .i) (omega arith)) (step .ensures) (c .if2 .taken))
 
 returns-2 : tie.Need-returns-2 Inv-loop μ-loop
 returns-2 c =
     let l = c .before .before .before .before .before .before .before in
     let a = c .before .before .before .before .before .before .before .before .before .before .before .args in
     let m = l .loop .inv in
-    judge-off (m .3) (rows-next (a .rows .now) (l .loop .i) (omega arith)) (c .if2 .left)
+    judge-off (m .3) (laid .rows-next (a .rows .now) (l .loop .i) (omega arith)) (c .if2 .left)
 
 is-whole-requires : tie.Need-is-whole-requires Inv-loop μ-loop
 is-whole-requires c κs = search needs
@@ -95,7 +95,7 @@ returns-3 : tie.Need-returns-3 Inv-loop μ-loop
 returns-3 c =
     let l = c .before .before in
     let a = c .before .before .before .before .before .before .args in
-    judge-end (l .loop .inv .3) (rows-end (a .rows .now) (l .loop .i) (omega arith)) (c .is-whole .ensures)
+    judge-end (l .loop .inv .3) (laid .rows-end (a .rows .now) (l .loop .i) (omega arith)) (c .is-whole .ensures)
 
 pub is-packable-spec : {M : Type 1} → statement M
 is-packable-spec =
