@@ -26,7 +26,8 @@ use Rattle.chunk.proofs.Kept.{High, high-line, high-escape, high-plain,
 -- ---- the last character
 
 code-last : (u w : List ℕ) → isChar w ≡ true → lastCode (u ++ w) ≡ value w
-code-last u w e = ap (λ (n : ℕ). code (drop n (u ++ w))) (last-char u w e) ∙ ap code (drop-append-seam u w ∙ sym (append-nil w)) ∙ shapes .code-char w [] e
+code-last u w e =
+    ap (λ (n : ℕ). code (drop n (u ++ w))) (last-char u w e) ∙ ap code (drop-append-seam u w ∙ sym (append-nil w)) ∙ shapes .code-char w [] e
 
 ends-char : (u w : List ℕ) → isChar w ≡ true → endsWhite (u ++ w) ≡ isWhitespace (value w)
 ends-char u w e = by (u ++ w) (omega (arith, length-append u w, shapes .char-some w e .0)) (code-last u w e)
@@ -39,7 +40,8 @@ ends-code : (u : List ℕ) (c : ℕ) → isScalar c ≡ true → endsWhite (u ++
 ends-code u c e = ends-char u (octets c) (rfc3629 .writes c e) ∙ ap isWhitespace (shapes .reads c e)
 
 white-code : (w : Bool) (u : List ℕ) (c : ℕ) → isScalar c ≡ true → white w (u ++ octets c) ≡ isWhitespace c
-white-code w u c e = by (u ++ octets c) (omega (arith, length-append u (octets c), shapes .char-some (octets c) (rfc3629 .writes c e) .0)) ∙ ends-code u c e
+white-code w u c e =
+    by (u ++ octets c) (omega (arith, length-append u (octets c), shapes .char-some (octets c) (rfc3629 .writes c e) .0)) ∙ ends-code u c e
   where
     by : (t : List ℕ) → 0 < length t → white w t ≡ endsWhite t
     by [] h = absurd (omega arith)

@@ -100,7 +100,8 @@ write-octets : (verb extra : Bool) {cs : List Chunk} → Texts cs → Octets (bi
 unfolding biblatexFrom
 write-octets verb extra texts.none = closing-octets extra
 write-octets verb extra (texts.next {c} o h) =
-    shapes .octets-append (shapes .octets-append (opening-octets extra (c .kind)) (body-octets verb (c .kind) o)) (write-octets verb (extraAfter extra (c .kind)) h)
+    shapes .octets-append (shapes .octets-append (opening-octets extra (c .kind)) (body-octets verb (c .kind) o))
+    (write-octets verb (extraAfter extra (c .kind)) h)
 
 string-octets : (verb : Bool) (cs : List Chunk) → Texts cs → Octets (toBiblatexString verb cs)
 string-octets verb cs h = next (0x7B ∷ []) (ascii 0x7B (omega arith)) (write-octets verb false h)

@@ -22,7 +22,7 @@ use Rattle.pack.proofs.bytes.SevenBytes.{unpacking-length}
 use Rattle.pack.proofs.bytes.Accepted.{packable, packable-seven, unpackable, ends-of-spans, spans-of-ends, flat-packable}
 use Rattle.pack.proofs.bytes.Inverse.{packs-back, packing-length, unpacks-back}
 use Rattle.pack.proofs.contracts.KnownAnswers.{pack-told, pack-gives, unpack-told, unpack-gives}
-use Rattle.pack.proofs.contracts.StrictPacks.{strictly, readings}
+use Rattle.pack.proofs.contracts.StrictPacks.{fitting, strictly, readings}
 
 -- ---- the definitions
 
@@ -93,6 +93,7 @@ round-trip =
       bytes = bytes;
       unpacks = unpacks;
       packs = packs;
+      fitting = fitting;
       strictly = strictly;
       readings = readings;
       edge = edge;

@@ -48,7 +48,8 @@ same-place {a = a} {b} {k} {n} e f = let z : Char a k ≡ Char b n = sym e ∙ f
 -- braces are counted forward
 forward : {s : List ℕ} {p q o c : ℕ} → Braces s p q o c → p ≤ q
 forward none = omega arith
-forward {s} {p} (pair {b = b} {n} {x = x} e f h) = let i = seeing .see-ahead s p 0x5C b e in let j = seeing .see-ahead s b x n f in omega (arith, forward h)
+forward {s} {p} (pair {b = b} {n} {x = x} e f h) =
+    let i = seeing .see-ahead s p 0x5C b e in let j = seeing .see-ahead s b x n f in omega (arith, forward h)
 forward {s} {p} (opens {n = n} e h) = let i = seeing .see-ahead s p 0x7B n e in omega (arith, forward h)
 forward {s} {p} (closes {n = n} e h) = let i = seeing .see-ahead s p 0x7D n e in omega (arith, forward h)
 forward {s} {p} (other {n = n} {x = x} e u v w h) = let i = seeing .see-ahead s p x n e in omega (arith, forward h)

@@ -38,7 +38,7 @@ use Rattle.raw.proofs.Saying.{says-at, said-off}
 use Rattle.raw.proofs.TokenWays.{scan-on, white-on, comment-on}
 use Rattle.raw.proofs.Bytes.{seen-key, seen-other}
 use Rattle.text.proofs.general.Tests.{narrow-is}
-use Rattle.raw.proofs.StrictSteps.{strict-valid, strict-ill, strict-file}
+use Rattle.raw.proofs.Steps.{strict-valid, strict-ill, strict-file}
 
 -- ---- a turn
 

@@ -44,7 +44,9 @@ pass-clear t x s at d one {i} {j} h c r =
 module _ {s : List ℕ} {at d : ℕ} where
   braces-pass : Passes bracedTurn braces s at d
   unfolding inSet
-  braces-pass k r h f = braces-plain r h (told-apart (inSet braces) 0x7B refl f) (told-apart (inSet braces) 0x7D refl f) (told-apart (inSet braces) 0x5C refl f)
+  braces-pass k r h f =
+      braces-plain r h (told-apart (inSet braces) 0x7B refl f) (told-apart (inSet braces) 0x7D refl f)
+      (told-apart (inSet braces) 0x5C refl f)
 
   pub braces-clear : {i j : ℕ} → Reached bracedTurn s at d i → i ≤ length s → Clear braces s i j → Reached bracedTurn s at d j
   braces-clear r h c = pass-clear bracedTurn braces s at d braces-pass h c r

@@ -22,9 +22,9 @@ use Rattle.row.specs.Fault.{numberOf}
 use Rattle.row.specs.Row.{Row, Mark, marked, kindOf}
 use Rattle.raw.specs.Reader.{Out, Reader, stop, turn, refuse, _then_, over, overFrom, put, when, sees, many, scan}
 use Rattle.raw.specs.Grammar.{need}
-use Rattle.raw.specs.Strict.{shifted}
+use Rattle.raw.specs.Strict.{shifted, Stops}
 use Rattle.raw.proofs.readers.Trace.{here, none, Traced, eat-traced, chain-traced, lay-traced}
-use Rattle.raw.proofs.readers.Kept.{Stops, Advances, Kept, stop-kept, turn-kept, refuse-kept, put-kept, eaten-holds, when-kept, sees-kept}
+use Rattle.raw.proofs.readers.Kept.{Advances, Kept, stop-kept, turn-kept, refuse-kept, put-kept, eaten-holds, when-kept, sees-kept}
 use Rattle.raw.proofs.readers.Then.{then-kept, over-kept, from-kept}
 use Rattle.raw.proofs.readers.Loop.{many-kept, loop-traced}
 use Rattle.raw.proofs.readers.Shifts.{Shifts, stop-shifts, turn-shifts, refuse-shifts, when-shifts, sees-shifts, then-shifts, over-shifts}

@@ -1,6 +1,6 @@
 -- What every reader keeps of the text: it goes on, stays inside, and answers the same on a text that shows the same. For parts of
 -- any type.
---     Stops, Advances, Kept           the words
+--     Advances, Kept                  the words
 --     stop-kept, turn-kept, refuse-kept, put-kept       readers without parts
 --     kept-weaker                     smaller numbers
 --     eaten-both, eaten-holds         by what is seen
@@ -18,16 +18,10 @@ use Rattle.text.specs.declared.scanner.Seen.the-variants.{End, Char}
 use Rattle.text.proofs.Seeing.{seeing}
 use Rattle.row.specs.Row.{Mark}
 use Rattle.row.specs.declared.fault.Reason.{Reason}
-use Rattle.raw.specs.Strict.{Same}
+use Rattle.raw.specs.Strict.{Same, Stops}
 use Rattle.raw.specs.Reader.{OutOf, ok, again, bad, ReaderOf, eaten, stop, turn, refuse, put, when, sees}
 
 -- ---- the words
-
--- an answer's place is q
-abbrev pub Stops : {P : Type 0} → OutOf P → ℕ → Type 0
-Stops (ok q′ rs) q = q′ ≡ q
-Stops (again q′ rs a) q = q′ ≡ q
-Stops (bad f) q = ⊥
 
 -- from p a reader went on by w at least, one that says `again` by v at least, and not past n
 abbrev pub Advances : {P : Type 0} → ℕ → ℕ → ℕ → ℕ → OutOf P → Type 0

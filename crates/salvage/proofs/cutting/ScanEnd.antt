@@ -19,8 +19,7 @@ use Rattle.text.proofs.Seeing.{seeing}
 use Rattle.row.specs.Row.{Row}
 use Rattle.raw.specs.Reader.{ok, more, after, eaten, stop, turn, many, scanTurn, scan}
 use Rattle.raw.specs.Grammar.{white}
-use Rattle.raw.proofs.readers.Loop.{many-turn}
-use Rattle.raw.proofs.readers.Scans.{scan-turn-kept}
+use Rattle.raw.proofs.Steps.{steps}
 
 -- a scan of class t stops here
 abbrev pub Halts : (ℕ → Bool) → Seen → Type 0
@@ -46,7 +45,7 @@ ok-place e = cc
 
 module _ (t : ℕ → Bool) (s : List ℕ) where
   scan-turned : (p : ℕ) → scan {P = Row} t s p ≡ after (eaten t (see s p) (turn 0 s) (stop s p)) (λ b q. many (scanTurn t) b s q)
-  scan-turned p = many-turn (scan-turn-kept t) 0 s p
+  scan-turned p = steps .scans t s p
 
   -- a scan that is stopped at once eats nothing
   pub scan-stays : (p : ℕ) → Halts t (see s p) → scan {P = Row} t s p ≡ ok p []

@@ -24,7 +24,7 @@ use Rattle.raw.specs.Read.{strict, readingOut, leftOut}
 use Rattle.row.specs.Rules.{clean}
 use Rattle.raw.proofs.Strict.{strict-reading}
 use Rattle.row.proofs.Laid.{laid}
-use Rattle.raw.proofs.StrictSteps.{strict-bad, rows-told}
+use Rattle.raw.proofs.Steps.{steps}
 use Rattle.salvage.specs.Salvage.{Texts, cut, damaged, told, pieces, salvageOf, salvaged, Salvage}
 use Rattle.salvage.specs.Demand3.{lined, fresh, Holds, joined, CauseOf, PieceGives}
 use Rattle.salvage.proofs.cutting.ScanEnd.{true-not-false}
@@ -66,7 +66,7 @@ module _ (s : List ℕ) (ws : Texts) (w : List ℕ) (vs : Texts) (h : length s �
   piece-cause : (f : Fault) → strict w ≡ bad f → CauseOf w f
   piece-cause f d =
       let r = strict-reading .refuses w f d in
-      record { least = strict-bad w (omega (arith, piece-length)) f d; most = r .number .1; place = r .place; empty = r .empty }
+      record { least = steps .strict-bad w (omega (arith, piece-length)) f d; most = r .number .1; place = r .place; empty = r .empty }
 
   pub each : PieceGives s ws w vs
   each =
@@ -96,7 +96,7 @@ module _ (s b b′ : List ℕ) (r : Reading) (h : length s ≤ mostBytes) (c : S
   -- where rows are answered, there was room
   call-room : (n : ℕ) → r ≡ reading.Rows n → (n ≡ length (salvageOf s)) × (length (salvageOf s) ≤ length b / 4)
   call-room n e =
-      let t = rows-told (length s) (salvageOf s) b (sym e ∙ c .answer ∙ ap (λ (o : Out). readingOut o (length b)) call-is) in
+      let t = steps .rows-told (length s) (salvageOf s) b (sym e ∙ c .answer ∙ ap (λ (o : Out). readingOut o (length b)) call-is) in
       (t .0, t .1)
 
 rows-not-refused : {n : ℕ} {f : Fault} → reading.Rows n ≡ reading.Refused f → ⊥

@@ -23,7 +23,7 @@ use Rattle.raw.specs.Read.{strict}
 use Rattle.row.specs.Rules.{clean}
 use Rattle.raw.specs.Says.{answerOf, Room, Says, Within}
 use Rattle.raw.proofs.Strict.{strict-reading}
-use Rattle.raw.proofs.StrictSteps.{strict-is}
+use Rattle.raw.proofs.Steps.{steps}
 use Rattle.row.proofs.Laid.{laid}
 use Rattle.salvage.specs.Salvage.{damaged, told}
 use Rattle.salvage.specs.Inner.{Puts, PieceToRead, DamageToWrite}
@@ -33,7 +33,7 @@ use Rattle.salvage.specs.declared.piece.Tally.the-variants.{Sound, Damag
 
 module _ (w : List ℕ) (base : ℕ) (b : List ℕ) {valid : Bool} (k : PieceToRead w base valid) where
   pub alone-known : valid ≡ true → {r : Answer} {b′ : List ℕ} → Says base (file w 0) 0 b r b′ → Says base (strict w) 0 b r b′
-  alone-known e {r} {b′} p = subst (λ (o : Out). Says base o 0 b r b′) (sym (strict-is w (omega (arith, k .file)) (k .known e))) p
+  alone-known e {r} {b′} p = subst (λ (o : Out). Says base o 0 b r b′) (sym (steps .strict-is w (omega (arith, k .file)) (k .known e))) p
 
 -- ---- `write_damage`
 
