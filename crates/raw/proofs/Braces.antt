@@ -15,7 +15,6 @@ use Rattle.text.specs.declared.scanner.Seen.the-variants.{End, Char}
 use Rattle.text.proofs.Seeing.{seeing}
 use Rattle.row.specs.declared.fault.Fault.{Fault}
 use Rattle.row.specs.declared.fault.Reason.the-variants.{UnexpectedEof}
-use Rattle.row.specs.Fault.{faultAt}
 use Rattle.raw.specs.Reader.{Out, ok, again, bad, after, many}
 use Rattle.raw.specs.Grammar.{bracedTurn, inBraces}
 use Rattle.raw.specs.Braces.{Braces, none, pair, opens, closes, other, Outnumbers, First, BracedValue}

@@ -17,7 +17,7 @@ use Rattle.text.proofs.Seeing.{seeing}
 use Rattle.row.specs.declared.form.Kind.{Kind}
 use Rattle.row.specs.declared.fault.Reason.the-variants.{ExpectedComma, ExpectedIdentifier}
 use Rattle.row.specs.Fault.{faultAt}
-use Rattle.raw.specs.Reader.{Out, ok, again, bad, Reader, after, loop, many, scanTurn, scan}
+use Rattle.raw.specs.Reader.{Out, ok, again, bad, after, loop, many, scanTurn, scan}
 use Rattle.raw.specs.Grammar.{white, ident, field, fieldEnd, fieldsTurn, fields, commented}
 use Rattle.raw.specs.Comments.{Unclosed, none, other, Closed, brace, end, Begins, Comments}
 use Rattle.raw.proofs.readers.Then.{more-none, then-on}

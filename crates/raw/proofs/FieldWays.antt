@@ -1,8 +1,8 @@
 -- The ways through `field`, `field_end` and `fields_turn`.
 -- Assumes nothing.
-use Prim.Native.Nat.{ℕ, zero, suc, _+_, _≤_, _<_}
-use mathlib.Core.Path.{_≡_, refl, sym, ap, _∙_}
-use mathlib.Core.List.{List, [], _∷_}
+use Prim.Native.Nat.{ℕ, _+_, _≤_, _<_}
+use mathlib.Core.Path.{_≡_, sym, ap, _∙_}
+use mathlib.Core.List.{List, []}
 use native.Mathlib.Omega.{arith}
 use lib.ListN.{length, getD}
 use borrow.Author.Tests.{eq-eqb, ne-eqb}
@@ -20,7 +20,7 @@ use Rattle.raw.specs.declared.answer.Answer.the-variants as answer
 use Rattle.raw.specs.declared.answer.Turn.{Turn}
 use Rattle.raw.specs.declared.answer.Turn.the-variants as turned
 use Rattle.row.specs.Row.{row, putRow}
-use Rattle.raw.specs.Reader.{Out, ok, again, bad, more, andThen, under, eaten, sees, stop, turn, refuse, _then_}
+use Rattle.raw.specs.Reader.{Out, ok, again, bad, under, eaten, sees, stop, turn, refuse, _then_}
 use Rattle.raw.specs.Grammar.{is, any, white, comma, ident, equals, abbrField, comment, field, fieldEnd, fieldsTurn}
 use Rattle.raw.specs.Says.{stepOf, Says, SaysTurn}
 use Rattle.raw.proofs.grammar.Rowless.{rowless-at, rowless-off}

@@ -7,7 +7,7 @@
 --     says-under                        a row over the whole, put last
 --     turn-of, turn-at, turn-done, turn-again, turn-off, turn-more, turn-then      likewise of one turn of a loop
 -- Assumes nothing.
-use Prim.Native.Nat.{ℕ, zero, suc, _+_, _<_}
+use Prim.Native.Nat.{ℕ, suc, _+_}
 use mathlib.Core.Path.{_≡_, refl, sym, ap, _∙_, subst}
 use mathlib.Core.List.{List, [], _∷_, _++_}
 use native.Mathlib.Omega.{arith}
@@ -20,7 +20,7 @@ use Rattle.raw.specs.declared.answer.Answer.the-variants as answer
 use Rattle.raw.specs.declared.answer.Turn.{Turn}
 use Rattle.raw.specs.declared.answer.Turn.the-variants as turn
 use Rattle.row.specs.Row.{Row, row, rowUp, moved, putRow, overlay}
-use Rattle.raw.specs.Reader.{Out, ok, again, bad, Reader, more, andThen, under}
+use Rattle.raw.specs.Reader.{Out, ok, again, bad, more, andThen, under}
 use Rattle.raw.specs.Says.{answerOf, turnOf, Room, Says, SaysTurn}
 use Rattle.row.proofs.Laid.{laid}
 

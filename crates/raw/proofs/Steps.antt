@@ -1,5 +1,5 @@
 -- The steps of strict reading: the length of the text, its UTF-8, and then the grammar. And the proof of specs/Steps.antt: `steps`.
---     strict-checked, strict-valid, strict-ill, strict-is     a text inside the limit, by its UTF-8
+--     strict-valid, strict-ill, strict-is     a text inside the limit, by its UTF-8
 --     strict-short, strict-ok     what an accepted text is
 --     strict-file                 where strict reading does not refuse, it is the grammar's reading
 --     strict-bad                  a text inside the limit is refused with 2 or more
@@ -26,7 +26,7 @@ use Rattle.row.specs.Row.{Row, flat}
 use Rattle.row.specs.Spans.{SpansIn}
 use Rattle.raw.specs.declared.answer.Answer.the-variants as answer
 use Rattle.raw.specs.declared.answer.Reading.the-variants as reading
-use Rattle.raw.specs.Reader.{Out, ok, bad}
+use Rattle.raw.specs.Reader.{ok, bad}
 use Rattle.raw.specs.Grammar.{file}
 use Rattle.raw.specs.Says.{answerOf}
 use Rattle.raw.specs.Read.{checked, strict, readingOut, leftOut}
@@ -83,7 +83,7 @@ module _ (s : List ℕ) (q : ℕ) (rs : List Row) where
           strict-by s (λ o. o ≡ ok q rs → Octets s × (file s 0 ≡ ok q rs)) (λ e. let z : _≡_ {A = ℕ} 0 1 = cc in absurd (omega arith))
           (λ n h e. let z : _≡_ {A = ℕ} 0 1 = cc in absurd (omega arith)) (λ o e. (o, e))
 
--- an answer that is no refusal
+-- where strict reading does not refuse, it is the grammar's reading
 pub strict-file : (s : List ℕ) {p n : ℕ} → answer.Next p n ≡ answerOf (strict s) 0 → file s 0 ≡ strict s
 strict-file s {p} {n} =
     strict-by s (λ o. answer.Next p n ≡ answerOf o 0 → file s 0 ≡ o) (λ e. let z : _≡_ {A = ℕ} 0 1 = cc in absurd (omega arith))

@@ -120,8 +120,8 @@ module _ (s : List ℕ) where
 
 -- ---- an item
 
-item-onward : (s : List ℕ) (p q a : ℕ) (rs : List Row) → fileTurn 0 s p ≡ again q rs a → (p < q) × (q ≤ max p (length s))
-item-onward s p q a rs e =
+item-ahead : (s : List ℕ) (p q a : ℕ) (rs : List Row) → fileTurn 0 s p ≡ again q rs a → (p < q) × (q ≤ max p (length s))
+item-ahead s p q a rs e =
     let y : Advances 1 0 p (length s) (again q rs a) = subst (Advances 1 0 p (length s)) e (file-turn-kept 0 .advances s p) in
     (omega arith, omega arith)
 
@@ -199,7 +199,7 @@ pub strict-reading : Strict
 strict-reading =
     record {
       turns = file-turn;
-      onward = item-onward;
+      ahead = item-ahead;
       entries = entry-same;
       whites = from-start white-laws .core .kept .local;
       comments = from-start comment-laws .core .kept .local;

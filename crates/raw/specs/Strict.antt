@@ -91,7 +91,7 @@ pub record Strict : Type 0 where
   -- the fuel of a loop never runs out: a file is its first item, and then the file
   pub turns : (s : List ℕ) (p : ℕ) → file s p ≡ after (fileTurn 0 s p) (λ a q. file s q)
   -- an item after which the file goes on has eaten something, and ends inside the text
-  pub onward : (s : List ℕ) (p q a : ℕ) (rs : List Row) → fileTurn 0 s p ≡ again q rs a → (p < q) × (q ≤ max p (length s))
+  pub ahead : (s : List ℕ) (p q a : ℕ) (rs : List Row) → fileTurn 0 s p ≡ again q rs a → (p < q) × (q ≤ max p (length s))
   -- an entry is told by what it ate: it is read the same in every text that shows that. White space and a comment are told by what they
   -- ate and by the character after it
   pub entries : (s t : List ℕ) (p q : ℕ) → Stops (entry s p) q → q ≤ length t → Same s t p q → entry t p ≡ entry s p

@@ -4,7 +4,7 @@ use Prim.Native.Nat.{ℕ, _+_, _≤_, _<_}
 use mathlib.Core.Path.{_≡_}
 use mathlib.Core.Bool.{Bool, true, false, _||_}
 use mathlib.Core.List.{List, _∷_, _++_}
-use lib.ListN.{length, getD, take, drop}
+use lib.ListN.{length, getD, drop}
 use lib.Dec.{eqb}
 use Rattle.text.specs.Range.{within}
 use Rattle.text.specs.Utf8.{tail}
@@ -30,13 +30,9 @@ pub record Seeing : Type 0 where
   pub see-inside : (s : List ℕ) (i : ℕ) → Inside s i (see s i)
   pub see-ahead : (s : List ℕ) (p c n : ℕ) → see s p ≡ Char c n → (p < n) × (n ≤ length s)
   pub char-inside : (s : List ℕ) (i : ℕ) {g : Seen} {c n : ℕ} → Inside s i g → g ≡ Char c n → (i < n) × (n ≤ length s)
-  -- every place inside a character shows one that ends no later
-  pub see-within : (s : List ℕ) (p i c n : ℕ) → see s p ≡ Char c n → p ≤ i → i < n →
-      (d : ℕ) × (m : ℕ) × (see s i ≡ Char d m) × (m ≤ n)
-  -- a text shows the same moved behind another, before one that goes on no character of it, and cut behind the character
+  -- a text shows the same moved behind another, and before one that goes on no character of it
   pub see-up : (a s : List ℕ) (p : ℕ) → see (a ++ s) (p + length a) ≡ seenUp (length a) (see s p)
   pub see-front : (s t : List ℕ) (p : ℕ) → within tail (getD t 0 256) ≡ false → p < length s → see (s ++ t) p ≡ see s p
-  pub see-cut : (s : List ℕ) (p q c n : ℕ) → see s p ≡ Char c n → n ≤ q → see (take q s) p ≡ Char c n
   -- a scan ends at the end of the text, goes on past a character that passes the test, and ends at one that does not
   pub skip-end : (p : ℕ → Bool) (s : List ℕ) (i : ℕ) → length s ≤ i → skip p s i ≡ i
   pub skip-on : (p : ℕ → Bool) (s : List ℕ) (i : ℕ) → i < length s → p (code (drop i s)) ≡ true →

@@ -1,25 +1,21 @@
 -- What a trace tells of places and rows.
 --     rising-less                                     starts that never fall, from an earlier place on
 --     reach-order, reach-inside, reach-boundary       of the place that is reached
---     reach-same                                      a text cut there shows the same up to there
 --     trace-rising, trace-spans, trace-clean          of the rows
 -- Assumes nothing.
-use Prim.Native.Nat.{ℕ, _≤_, _<_}
+use Prim.Native.Nat.{ℕ, _≤_}
 use native.Mathlib.Omega.{arith}
-use mathlib.Core.Path.{_≡_, refl, sym, _∙_, subst}
+use mathlib.Core.Path.{_≡_, refl, subst}
 use mathlib.Core.Bool.{Bool, true, false, cond}
 use mathlib.Core.List.{List, [], _∷_, _++_, append-assoc, append-nil}
-use lib.ListN.{length, take}
-use lib.Dec.{eqb, ltb}
-use borrow.Author.Tests.{ltb-true, ltb-false}
+use lib.ListN.{length}
+use lib.Dec.{eqb}
 use Rattle.text.specs.Utf8.{Octets, isBoundary}
-use Rattle.text.specs.Scan.{see}
-use Rattle.text.specs.declared.scanner.Seen.the-variants.{Char}
 use Rattle.text.proofs.Seeing.{seeing}
 use Rattle.text.proofs.Boundaries.{boundaries}
 use Rattle.row.specs.Row.{Row}
 use Rattle.row.specs.Rules.{clean}
-use Rattle.raw.specs.Strict.{Same, Rising, Spans}
+use Rattle.raw.specs.Strict.{Rising, Spans}
 use Rattle.raw.proofs.readers.Trace.{Reach, here, on, Trace, none, eats, joins, lays, trace-reach}
 
 -- ---- of rows
@@ -58,20 +54,6 @@ module _ {s : List ℕ} where
   pub reach-boundary : {p q : ℕ} → Octets s → Reach s p q → isBoundary s p ≡ true → isBoundary s q ≡ true
   reach-boundary o here b = b
   reach-boundary {p} o (on {n = n} {c = c} e x) b = reach-boundary o x (boundaries .sees s p c n o b e .1)
-
-  -- each place before one that is reached shows a character that ends before it
-  reach-seen : {p q : ℕ} (i : ℕ) → Reach s p q → p ≤ i → i < q → (c : ℕ) × (n : ℕ) × (see s i ≡ Char c n) × (n ≤ q)
-  reach-seen i here h l = absurd (omega arith)
-  reach-seen {p} {q} i (on {n = n} {c = c} e x) h l = by (ltb i n) refl (λ y. reach-seen i x y l)
-    where
-      by : (b : Bool) → ltb i n ≡ b → (n ≤ i → (c : ℕ) × (n : ℕ) × (see s i ≡ Char c n) × (n ≤ q))
-          → (c : ℕ) × (n : ℕ) × (see s i ≡ Char c n) × (n ≤ q)
-      by true y ih =
-          let z = seeing .see-within s p i c n e h (ltb-true i n y) in (z .0, z .1, z .2, omega (arith, z .3, reach-order x))
-      by false y ih = ih (ltb-false i n y)
-
-  pub reach-same : {p q : ℕ} → Reach s p q → Same s (take q s) p q
-  reach-same {p} {q} x i h l = let z = reach-seen i x h l in z .2 ∙ sym (seeing .see-cut s i q (z .0) (z .1) (z .2) (z .3))
 
   -- followed by rows that start from q on
   rising-on : {p q : ℕ} {rs : List Row} (n : ℕ) (ss : List Row) → Trace s p rs q → n ≤ p → Rising q ss → Rising n (rs ++ ss)

@@ -30,7 +30,7 @@ use Rattle.raw.proofs.Strict.{strict-reading}
 use Rattle.salvage.specs.Salvage.{head, newline, Texts, push, cut}
 use Rattle.salvage.specs.Demand3.{lined, fresh, Boundary, line, Opens, here, later}
 use Rattle.salvage.proofs.cutting.ScanEnd.{true-not-false, scan-found, ok-place, white-found, white-scanned, white-stays}
-use Rattle.salvage.proofs.cutting.TurnBeforeCut.{turn-white, item-sound}
+use Rattle.salvage.proofs.cutting.TurnBeforeCut.{turn-white, item-ahead}
 use Rattle.salvage.proofs.cutting.ReadingAcrossCut.{Meet, opens-from}
 
 -- ---- the first piece
@@ -152,7 +152,7 @@ pass {s} {p} {m} {e} (here w x) (later t o) h =
     later (turn-white s m m y ∙ sym (turn-white s p m w) ∙ t) o
 pass {s} {p} {m} {e} (later {q = q} {a = a} {rs = rs} t o) (here w′ x′) h =
     let g = sym (turn-white s p e w′) ∙ t in
-    let j = item-sound s e q a rs (white-scanned s p e w′ .halts) g in
+    let j = item-ahead s e q a rs (white-scanned s p e w′ .halts) g in
     let i : q ≤ m = opens-from o in
     absurd (omega arith)
 pass {s} {p} {m} {e} (later t o) (later t′ o′) h =

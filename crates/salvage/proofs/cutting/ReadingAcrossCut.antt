@@ -58,7 +58,7 @@ file-later s p q a rs e = strict-reading .turns s p ∙ ap (λ (o : Out). after 
 
 pub opens-from : {s : List ℕ} {p e : ℕ} → Opens s p e → p ≤ e
 opens-from {s} {p} {e} (here w x) = white-scanned s p e w .from
-opens-from {s} {p} {e} (later {q = q} {a = a} {rs = rs} t o) = omega (arith, opens-from o, strict-reading .onward s p q a rs t)
+opens-from {s} {p} {e} (later {q = q} {a = a} {rs = rs} t o) = omega (arith, opens-from o, strict-reading .ahead s p q a rs t)
 
 -- ---- the two texts
 
@@ -144,7 +144,7 @@ module _ (a s : List ℕ) (k : ℕ) (m : Meet a s k) where
       go : (o : Out) → fileTurn 0 a p ≡ o → after o (λ b i. file a i) ≡ ok q us → Through p us
       go (ok i rs) d f = subst (Through p) (ok-rows f) (last-through p i rs h d)
       go (again i rs b) d f =
-          let j = strict-reading .onward a p i b rs d in
+          let j = strict-reading .ahead a p i b rs d in
           let l : i ≤ suc k = omega (arith, m .size) in
           let t = turn-cut there p i b rs d l in
           let x = more-ok rs (file a i) q us f in

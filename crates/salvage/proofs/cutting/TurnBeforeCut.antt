@@ -1,7 +1,7 @@
 -- One turn of strict reading is white space, and then an item. Two texts may show the same up to and with a newline, where one of them is
 -- cut. A turn that ends there or before answers the same on both.
 --     item, turn-white, item-ok     an item; a turn is the item after the white space; the last item is the end
---     item-sound                    an item after which the file goes on ends inside the text
+--     item-ahead                    an item after which the file goes on ends inside the text
 --     Alike                         the two texts
 --     white-cut, turn-cut           white space, and a turn, on both
 -- Assumes nothing.
@@ -43,8 +43,8 @@ pub turn-white : (s : List ℕ) (p q : ℕ) → white s p ≡ ok q [] → fileTu
 unfolding fileTurn
 turn-white s p q e = ap (λ (o : Out). andThen o (item s)) e ∙ steps .more-none (item s q)
 
-pub item-sound : (s : List ℕ) (p q a : ℕ) (rs : List Row) → Halts isWhitespace (see s p) → item s p ≡ again q rs a → (p < q) × (q ≤ max p (length s))
-item-sound s p q a rs h e = strict-reading .onward s p q a rs (turn-white s p p (white-stays s p h) ∙ e)
+pub item-ahead : (s : List ℕ) (p q a : ℕ) (rs : List Row) → Halts isWhitespace (see s p) → item s p ≡ again q rs a → (p < q) × (q ≤ max p (length s))
+item-ahead s p q a rs h e = strict-reading .ahead s p q a rs (turn-white s p p (white-stays s p h) ∙ e)
 
 turned-not-ok : (q a r : ℕ) (o : Out) (rs : List Row) {X : Type 0} → andThen o (λ p. again p [] a) ≡ ok q rs → X
 turned-not-ok q a r (ok p ss) rs e = let z : _≡_ {A = ℕ} 0 1 = cc in absurd (omega arith)
@@ -159,6 +159,6 @@ module _ {s t : List ℕ} {k : ℕ} (m : Alike s t k) where
       let v : white s p ≡ ok r [] = white-found s p r y in
       let g : item s r ≡ again q rs a = sym (turn-white s p r v) ∙ e in
       let x : Stops (item s r) q = subst (λ (o : Out). Stops o q) (sym g) refl in
-      let i = item-sound s r q a rs (y .halts) g in
+      let i = item-ahead s r q a rs (y .halts) g in
       let w : white t p ≡ ok r [] = white-cut p r v (omega (arith, y .from)) (omega arith) in
       turn-white t p r w ∙ item-cut r q (omega arith) x h ∙ g

@@ -35,10 +35,10 @@ use Rattle.salvage.proofs.cutting.PiecesAppend.{joined-cut, joined-appe
 -- what holds of the rows of an accepted text, and of damage, holds of what a piece gives
 module _ (w : List ℕ) (P : List Row → Type 0) where
   pub told-by : ((q : ℕ) (rs : List Row) → strict w ≡ ok q rs → P rs) → ((f : Fault) → strict w ≡ bad f → P (damaged w f)) → P (told w (strict w))
-  told-by sound off = by (strict w) refl
+  told-by accepted off = by (strict w) refl
     where
       by : (o : Out) → strict w ≡ o → P (told w o)
-      by (ok q rs) e = sound q rs e
+      by (ok q rs) e = accepted q rs e
       by (again q rs a) e = absurd (strict-reading .decides w q a rs e)
       by (bad f) e = off f e
 

@@ -2,13 +2,13 @@
 --     masks           what makes two words the masks of a test
 --     wide, digit, braces     what is not ASCII: for a test that is not narrow, and for those that are
 -- Assumes nothing.
-use mathlib.Core.Path.{_≡_, refl, sym, ap, _∙_, subst}
-use mathlib.Core.Bool.{Bool, true, false, cond, _&&_, _||_, Bool·beq, and-false, or-false, or-assoc}
+use mathlib.Core.Path.{_≡_, sym, ap, subst}
+use mathlib.Core.Bool.{Bool, true, false, _||_, Bool·beq, and-false, or-false, or-assoc}
 use mathlib.Core.List.{[], _∷_}
-use Prim.Native.Nat.{ℕ, _<_, _≤_}
+use Prim.Native.Nat.{ℕ, _≤_}
 use native.Mathlib.Omega.{arith}
-use lib.Dec.{T, eqb, leb}
-use borrow.Author.Tests.{ne-eqb, lt-leb}
+use lib.Dec.{T, leb}
+use borrow.Author.Tests.{lt-leb}
 use Rattle.text.proofs.general.Tests.{narrow-is, beq-eq}
 use Rattle.text.specs.Range.{_–_, within}
 use Rattle.text.specs.Class.{mark, holdsOf}
