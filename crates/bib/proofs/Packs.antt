@@ -1,9 +1,10 @@
 -- What salvage gives packs without refusal.
 -- Assumes nothing.
-use Rattle.pack.proofs.bytes.Accepted.{spans-fit, flat-packable}
+use lib.ListN.{length}
+use Rattle.pack.proofs.RoundTrip.{round-trip}
 use Rattle.salvage.specs.Salvage.{salvageOf}
 use Rattle.salvage.proofs.Demand3.{demand3}
 use Rattle.bib.specs.Packs.{Packs}
 
 pub packs : Packs
-packs s h = flat-packable (salvageOf s) (demand3 .checked s h) (spans-fit _ h (salvageOf s) (demand3 .inside s))
+packs s h = round-trip .fitting (length s) (salvageOf s) h (demand3 .checked s h) (demand3 .inside s)

@@ -12,9 +12,8 @@ use borrow.Author.Tests.{leb-false}
 use Rattle.text.specs.Utf8.{isChar, Octets, none, next, value, isScalar, octets}
 use Rattle.text.specs.Class.{whiteSpace, isWhitespace}
 use Rattle.text.specs.Scan.{code}
-use Rattle.text.proofs.sequences.Lengths.{char-some}
-use Rattle.text.proofs.sequences.ScalarValues.{writes, reads, encodes}
-use Rattle.text.proofs.sequences.CutPlaces.{code-char}
+use Rattle.text.proofs.Shapes.{shapes}
+use Rattle.text.proofs.Rfc3629.{rfc3629}
 use Rattle.chunk.specs.Format.{lastCode, endsWhite, Written, written, before, isLineEnd, white, lines, isEscapable, escaped}
 use Rattle.chunk.specs.Characters.{utf8Of, Scalars, charLines, charEndsWhite, charEscaped, Characters}
 use Rattle.chunk.specs.Inner.{plain}
@@ -27,20 +26,22 @@ use Rattle.chunk.proofs.Kept.{High, high-line, high-escape, high-plain,
 -- ---- the last character
 
 code-last : (u w : List ℕ) → isChar w ≡ true → lastCode (u ++ w) ≡ value w
-code-last u w e = ap (λ (n : ℕ). code (drop n (u ++ w))) (last-char u w e) ∙ ap code (drop-append-seam u w ∙ sym (append-nil w)) ∙ code-char w [] e
+code-last u w e =
+    ap (λ (n : ℕ). code (drop n (u ++ w))) (last-char u w e) ∙ ap code (drop-append-seam u w ∙ sym (append-nil w)) ∙ shapes .code-char w [] e
 
 ends-char : (u w : List ℕ) → isChar w ≡ true → endsWhite (u ++ w) ≡ isWhitespace (value w)
-ends-char u w e = by (u ++ w) (omega (arith, length-append u w, char-some w e .0)) (code-last u w e)
+ends-char u w e = by (u ++ w) (omega (arith, length-append u w, shapes .char-some w e .0)) (code-last u w e)
   where
     by : (t : List ℕ) → 0 < length t → lastCode t ≡ value w → endsWhite t ≡ isWhitespace (value w)
     by [] h q = absurd (omega arith)
     by (b ∷ t) h q = ap isWhitespace q
 
 ends-code : (u : List ℕ) (c : ℕ) → isScalar c ≡ true → endsWhite (u ++ octets c) ≡ isWhitespace c
-ends-code u c e = ends-char u (octets c) (writes c e) ∙ ap isWhitespace (reads c e)
+ends-code u c e = ends-char u (octets c) (rfc3629 .writes c e) ∙ ap isWhitespace (shapes .reads c e)
 
 white-code : (w : Bool) (u : List ℕ) (c : ℕ) → isScalar c ≡ true → white w (u ++ octets c) ≡ isWhitespace c
-white-code w u c e = by (u ++ octets c) (omega (arith, length-append u (octets c), char-some (octets c) (writes c e) .0)) ∙ ends-code u c e
+white-code w u c e =
+    by (u ++ octets c) (omega (arith, length-append u (octets c), shapes .char-some (octets c) (rfc3629 .writes c e) .0)) ∙ ends-code u c e
   where
     by : (t : List ℕ) → 0 < length t → white w t ≡ endsWhite t
     by [] h = absurd (omega arith)
@@ -165,7 +166,7 @@ unfolding utf8Of
 has-chars none = ([], chars.none, refl)
 has-chars (next w {s} e o) =
     let h = has-chars o in
-    let c = encodes w e in
+    let c = rfc3629 .encodes w e in
     (value w ∷ h .0, chars.next (c .0) (h .1), ap₂ _++_ (c .1) (h .2))
 
 pub characters : Characters

@@ -19,7 +19,7 @@ use Rattle.text.specs.Scan.{part, code, seeFrom}
 use Rattle.text.specs.declared.scanner.Seen.{Seen}
 use Rattle.text.specs.declared.scanner.Seen.the-variants.{End, Char}
 use Rattle.text.proofs.general.Places.{boundary-in}
-use Rattle.text.proofs.sequences.Lengths.{char-some, char-first, char-further}
+use Rattle.text.proofs.Shapes.{shapes}
 use Rattle.chunk.specs.Format.{lastFrom, lastAt, lastCode, endsWhite}
 use Rattle.chunk.proofs.Parts.{part-none, part-more, length-part, drop-take, drop-part}
 
@@ -91,9 +91,9 @@ last-tails (b ∷ w) best i h = rw (h 0 (omega arith)) (last-tails w best (suc i
 
 last-one : (w : List ℕ) (best i : ℕ) → isChar w ≡ true → lastFrom best i w ≡ i
 unfolding lastFrom
-last-one [] best i e = absurd (omega (arith, char-some [] e .0))
+last-one [] best i e = absurd (omega (arith, shapes .char-some [] e .0))
 last-one (b ∷ w) best i e =
-    rw (char-first (b ∷ w) [] 0 e) (last-tails w i (suc i) (λ n l. char-further (b ∷ w) (suc n) 0 e (omega arith) (omega arith)))
+    rw (shapes .char-first (b ∷ w) [] 0 e) (last-tails w i (suc i) (λ n l. shapes .char-further (b ∷ w) (suc n) 0 e (omega arith) (omega arith)))
 
 pub last-char : (u w : List ℕ) → isChar w ≡ true → lastAt (u ++ w) ≡ length u
 last-char u w e = last-append u w 0 0 ∙ last-one w (lastAt u) (0 + length u) e ∙ none (length u)

@@ -13,17 +13,17 @@ use borrow.Author.Tests.{ne-eqb, leb-true}
 use Rattle.text.specs.Utf8.{isChar, Octets, isScalar, octets, value, gather}
 use Rattle.text.specs.Class.{mark}
 use Rattle.text.proofs.general.Tests.{both-true}
-use Rattle.text.proofs.sequences.Lengths.{Shape, one, two, three, four, char-shape, shape-char}
-use Rattle.text.proofs.sequences.Octets.{octets-char}
-use Rattle.text.proofs.sequences.ScalarValues.{writes, reads}
+use Rattle.text.specs.Shapes.{Shape, one, two, three, four}
+use Rattle.text.proofs.Shapes.{shapes}
+use Rattle.text.proofs.Rfc3629.{rfc3629}
 use Rattle.chunk.specs.Format.{isLineEnd, alwaysMarks, plainMarks, isEscapable, escaped}
 use Rattle.chunk.specs.Inner.{plain}
 
 pub ascii : (b : ℕ) → b ≤ 0x7F → isChar (b ∷ []) ≡ true
-ascii b h = shape-char (one h)
+ascii b h = shapes .shape-char (one h)
 
 pub ascii-text : (b : ℕ) → b ≤ 0x7F → Octets (b ∷ [])
-ascii-text b h = octets-char (b ∷ []) (ascii b h)
+ascii-text b h = shapes .octets-char (b ∷ []) (ascii b h)
 
 -- octets above ASCII are no line ends, and nothing to escape
 pub high-line : (b : ℕ) → 0x80 ≤ b → isLineEnd b ≡ false
@@ -88,10 +88,10 @@ high-escaped verb (on {b} {w} h k) = rw (high-escape verb b h) (ap (λ (x : List
 -- of a character above ASCII
 pub code-high : (c : ℕ) → isScalar c ≡ true → 0x80 ≤ c → High (octets c)
 unfolding value gather
-code-high c e l = by (kept (char-shape (octets c) (writes c e))) refl
+code-high c e l = by (kept (shapes .char-shape (octets c) (rfc3629 .writes c e))) refl
   where
     by : {w : List ℕ} → Kept w → w ≡ octets c → High (octets c)
-    by (low {b} h) q = let v : b % 128 ≡ c = ap value q ∙ reads c e in absurd (omega (arith, v, h, l))
+    by (low {b} h) q = let v : b % 128 ≡ c = ap value q ∙ shapes .reads c e in absurd (omega (arith, v, h, l))
     by (high h) q = subst High q h
 
 pub differ : true ≡ false → ⊥

@@ -12,9 +12,8 @@ use borrow.Author.Tests.{leb-true}
 use Rattle.text.specs.Utf8.{isChar, Octets, none, next, isBoundary}
 use Rattle.text.specs.Scan.{part}
 use Rattle.text.proofs.general.Tests.{both-true}
-use Rattle.text.proofs.sequences.Lengths.{char-shape}
-use Rattle.text.proofs.sequences.Octets.{accepts, octets-char, octets-append, octets-after}
-use Rattle.text.proofs.sequences.CutPlaces.{boundary}
+use Rattle.text.proofs.Shapes.{shapes}
+use Rattle.text.proofs.Rfc3629.{rfc3629}
 use Rattle.chunk.specs.declared.form.Kind.{Kind}
 use Rattle.chunk.specs.declared.form.Kind.the-variants.{Normal, Verbatim, Math}
 use Rattle.chunk.specs.declared.answer.Checked.the-variants as checked
@@ -49,7 +48,7 @@ line-char b s h ih w u = by (isLineEnd b) (white w u)
 lines-octets : {t : List ℕ} → Octets t → Lined t
 unfolding lines
 lines-octets none w u = none
-lines-octets (next c {s} e o) w u = by (kept (char-shape c e)) e (λ w u. lines-octets o w u) w u
+lines-octets (next c {s} e o) w u = by (kept (shapes .char-shape c e)) e (λ w u. lines-octets o w u) w u
   where
     by : {c : List ℕ} → Kept c → isChar c ≡ true → Lined s → Lined (c ++ s)
     by (low {b} h) e ih w u = line-char b s h ih w u
@@ -59,7 +58,7 @@ escaped-octets : (verb : Bool) {t : List ℕ} → Octets t → Octets (escaped v
 unfolding escaped
 escaped-octets verb none = none
 escaped-octets verb (next c {s} e o) =
-    subst Octets (sym (escaped-append verb c s)) (octets-append (by (kept (char-shape c e)) e) (escaped-octets verb o))
+    subst Octets (sym (escaped-append verb c s)) (shapes .octets-append (by (kept (shapes .char-shape c e)) e) (escaped-octets verb o))
   where
     alone : (b : ℕ) → b ≤ 0x7F → (x : Bool) → Octets (cond x (0x5C ∷ b ∷ []) (b ∷ []))
     alone b h true = next (0x5C ∷ []) (ascii 0x5C (omega arith)) (ascii-text b h)
@@ -67,19 +66,19 @@ escaped-octets verb (next c {s} e o) =
 
     by : {c : List ℕ} → Kept c → isChar c ≡ true → Octets (escaped verb c)
     by (low {b} h) e = alone b h (isEscapable b verb false)
-    by {c} (high h) e = subst Octets (sym (high-escaped verb h)) (octets-char c e)
+    by {c} (high h) e = subst Octets (sym (high-escaped verb h)) (shapes .octets-char c e)
 
 -- ---- and of chunks
 
 one-octets : (w : Bool) (k : Kind) {t : List ℕ} → Octets t → Octets (formatOne w k t .text)
 one-octets w Normal o = lines-octets o w []
 one-octets w Verbatim o = o
-one-octets w Math o = next (0x24 ∷ []) (ascii 0x24 (omega arith)) (octets-append o (ascii-text 0x24 (omega arith)))
+one-octets w Math o = next (0x24 ∷ []) (ascii 0x24 (omega arith)) (shapes .octets-append o (ascii-text 0x24 (omega arith)))
 
 format-octets : (w : Bool) {cs : List Chunk} → Texts cs → Octets (formatFrom w cs)
 unfolding formatFrom
 format-octets w texts.none = none
-format-octets w (texts.next {c} o h) = octets-append (one-octets w (c .kind) o) (format-octets (formatOne w (c .kind) (c .text) .white) h)
+format-octets w (texts.next {c} o h) = shapes .octets-append (one-octets w (c .kind) o) (format-octets (formatOne w (c .kind) (c .text) .white) h)
 
 opening-octets : (extra : Bool) (k : Kind) → Octets (opening extra k)
 opening-octets false Normal = none
@@ -91,7 +90,7 @@ opening-octets extra Math = ascii-text 0x24 (omega arith)
 body-octets : (verb : Bool) (k : Kind) {t : List ℕ} → Octets t → Octets (bodyOf verb k t)
 body-octets verb Normal o = escaped-octets verb o
 body-octets verb Verbatim o = escaped-octets verb o
-body-octets verb Math o = octets-append o (ascii-text 0x24 (omega arith))
+body-octets verb Math o = shapes .octets-append o (ascii-text 0x24 (omega arith))
 
 closing-octets : (extra : Bool) → Octets (closing extra)
 closing-octets false = ascii-text 0x7D (omega arith)
@@ -101,7 +100,8 @@ write-octets : (verb extra : Bool) {cs : List Chunk} → Texts cs → Octets (bi
 unfolding biblatexFrom
 write-octets verb extra texts.none = closing-octets extra
 write-octets verb extra (texts.next {c} o h) =
-    octets-append (octets-append (opening-octets extra (c .kind)) (body-octets verb (c .kind) o)) (write-octets verb (extraAfter extra (c .kind)) h)
+    shapes .octets-append (shapes .octets-append (opening-octets extra (c .kind)) (body-octets verb (c .kind) o))
+    (write-octets verb (extraAfter extra (c .kind)) h)
 
 string-octets : (verb : Bool) (cs : List Chunk) → Texts cs → Octets (toBiblatexString verb cs)
 string-octets verb cs h = next (0x7B ∷ []) (ascii 0x7B (omega arith)) (write-octets verb false h)
@@ -111,10 +111,10 @@ string-octets verb cs h = next (0x7B ∷ []) (ascii 0x7B (omega arith)) (write-o
 -- between two boundaries
 part-octets : (t : List ℕ) (a e : ℕ) → Octets t → a ≤ e → isBoundary t a ≡ true → isBoundary t e ≡ true → Octets (part t a e)
 part-octets t a e o h p q =
-    let x = boundary t a o .0 p in
-    let y = boundary t e o .0 q in
+    let x = rfc3629 .boundary t a o .0 p in
+    let y = rfc3629 .boundary t e o .0 q in
     let n : e ≡ a + (min e (length t) - a) = sum a e (length t) h (y .inside) in
-    octets-after (part t a e) (x .before) (subst Octets (ap (λ (k : ℕ). take k t) n ∙ take-add a (min e (length t) - a) t) (y .before))
+    shapes .octets-after (part t a e) (x .before) (subst Octets (ap (λ (k : ℕ). take k t) n ∙ take-add a (min e (length t) - a) t) (y .before))
   where
     sum : (a e n : ℕ) → a ≤ e → e ≤ n → e ≡ a + (min e n - a)
     sum a e n h l = omega arith
@@ -134,7 +134,7 @@ check-texts : (t l : List ℕ) → checkedOf t l ≡ checked.Sound → Texts (ch
 unfolding areChunks
 check-texts t l e =
     let s = are-chunks t l e in
-    rows-texts t (chunkRows l) (accepts t .0 (s .0)) (both-true (eqb (length l % 5) 0) (everyChunk t (chunkRows l)) (s .1) .1)
+    rows-texts t (chunkRows l) (rfc3629 .accepts t .0 (s .0)) (both-true (eqb (length l % 5) 0) (everyChunk t (chunkRows l)) (s .1) .1)
 
 -- ---- the calls
 

@@ -8,6 +8,9 @@ use mathlib.Core.List.{List, [], _∷_, _++_}
 use lib.ListN.{length, take, drop}
 use Rattle.raw.specs.declared.answer.Reading.the-variants as reading
 use Rattle.row.specs.Row.{Row, flat}
+use Rattle.row.specs.Limits.{mostBytes}
+use Rattle.row.specs.Rules.{isRows}
+use Rattle.row.specs.Spans.{SpansIn}
 use Rattle.raw.specs.Reader.{ok}
 use Rattle.raw.specs.Read.{strict, Read}
 use Rattle.row.specs.Numbers.{rowsOf}
@@ -39,7 +42,9 @@ pub record RoundTrip : Type 0 where
   pub packs : (s c c′ : List ℕ) (n : ℕ) → Bytes s → Unpack s c (Count n) c′
       → (b b′ : List ℕ) (r : Outcome) → Pack (take (n * 4) c′) b r b′ → length s ≤ length b
       → (r ≡ Count (length s)) × (b′ ≡ s ++ drop (length s) b)
-  -- what strict reading gives packs without refusal, of its definition and of its contract
+  -- rows that keep the row rules, with spans that lie in a file, pack without refusal
+  pub fitting : (n : ℕ) (rs : List Row) → n ≤ mostBytes → isRows rs ≡ true → SpansIn n rs → isPackable (flat rs) ≡ true
+  -- so does what strict reading gives, of its definition and of its contract
   pub strictly : (s : List ℕ) (q : ℕ) (rs : List Row) → strict s ≡ ok q rs → isPackable (flat rs) ≡ true
   pub readings : (s c c′ : List ℕ) (n : ℕ) → Read s c (reading.Rows n) c′
       → (b b′ : List ℕ) (r : Outcome) → Pack (take (n * 4) c′) b r b′ → n * 7 ≤ length b → r ≡ Count (n * 7)

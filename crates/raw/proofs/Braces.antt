@@ -12,11 +12,9 @@ use borrow.Author.Tests.{eqb-true, eqb-false}
 use Rattle.text.specs.Scan.{see}
 use Rattle.text.specs.declared.scanner.Seen.{Seen}
 use Rattle.text.specs.declared.scanner.Seen.the-variants.{End, Char}
-use Rattle.text.proofs.scanning.LongerText.{see-ahead}
-use Rattle.text.proofs.scanning.Seen.{see-end}
+use Rattle.text.proofs.Seeing.{seeing}
 use Rattle.row.specs.declared.fault.Fault.{Fault}
 use Rattle.row.specs.declared.fault.Reason.the-variants.{UnexpectedEof}
-use Rattle.row.specs.Fault.{faultAt}
 use Rattle.raw.specs.Reader.{Out, ok, again, bad, after, many}
 use Rattle.raw.specs.Grammar.{bracedTurn, inBraces}
 use Rattle.raw.specs.Braces.{Braces, none, pair, opens, closes, other, Outnumbers, First, BracedValue}
@@ -49,10 +47,11 @@ same-place {a = a} {b} {k} {n} e f = let z : Char a k ≡ Char b n = sym e ∙ f
 -- braces are counted forward
 forward : {s : List ℕ} {p q o c : ℕ} → Braces s p q o c → p ≤ q
 forward none = omega arith
-forward {s} {p} (pair {b = b} {n} {x = x} e f h) = let i = see-ahead s p 0x5C b e in let j = see-ahead s b x n f in omega (arith, forward h)
-forward {s} {p} (opens {n = n} e h) = let i = see-ahead s p 0x7B n e in omega (arith, forward h)
-forward {s} {p} (closes {n = n} e h) = let i = see-ahead s p 0x7D n e in omega (arith, forward h)
-forward {s} {p} (other {n = n} {x = x} e u v w h) = let i = see-ahead s p x n e in omega (arith, forward h)
+forward {s} {p} (pair {b = b} {n} {x = x} e f h) =
+    let i = seeing .see-ahead s p 0x5C b e in let j = seeing .see-ahead s b x n f in omega (arith, forward h)
+forward {s} {p} (opens {n = n} e h) = let i = seeing .see-ahead s p 0x7B n e in omega (arith, forward h)
+forward {s} {p} (closes {n = n} e h) = let i = seeing .see-ahead s p 0x7D n e in omega (arith, forward h)
+forward {s} {p} (other {n = n} {x = x} e u v w h) = let i = seeing .see-ahead s p x n e in omega (arith, forward h)
 
 -- ---- one place on, by what stands there
 
@@ -167,10 +166,10 @@ module _ (s : List ℕ) where
       where
         by : (x : Seen) → see s b ≡ x → Answers d s p (rest d p)
         by End y =
-            by-rest d d b (see-ahead s p 0x5C b z .0) (slash-on d s p b z ∙ rw y) (λ q x. absurd (no-end y x)) (λ q x. absurd (no-pair z y x))
+            by-rest d d b (seeing .see-ahead s p 0x5C b z .0) (slash-on d s p b z ∙ rw y) (λ q x. absurd (no-end y x)) (λ q x. absurd (no-pair z y x))
         by (Char x m) y =
-            let i = see-ahead s p 0x5C b z in
-            let j = see-ahead s b x m y in
+            let i = seeing .see-ahead s p 0x5C b z in
+            let j = seeing .see-ahead s b x m y in
             by-rest d d m (omega arith) (slash-on d s p b z ∙ rw y)
             (λ q o. record { opened = _; closed = _; next = _; counted = pair z y (o .counted); brace = o .brace; outnumbers = o .outnumbers })
             (λ q. after-pair z y)
@@ -180,13 +179,13 @@ module _ (s : List ℕ) where
         subst (Answers zero s p) (sym (by-turn zero p (close-stop zero s p k z refl)))
         (refl, record { opened = _; closed = _; next = k; counted = none; brace = z; outnumbers = omega arith }, λ r y. forward (y .counted))
     at-closing (suc d) k z =
-        by-rest (suc d) d k (see-ahead s p 0x7D k z .0) (close-on (suc d) s p k z (λ i. omega arith) ∙ ap (again k []) (omega arith))
+        by-rest (suc d) d k (seeing .see-ahead s p 0x7D k z .0) (close-on (suc d) s p k z (λ i. omega arith) ∙ ap (again k []) (omega arith))
         (λ q o. record { opened = _; closed = _; next = _; counted = closes z (o .counted); brace = o .brace; outnumbers = omega (arith, o .outnumbers) })
         (λ q. after-close z)
 
     at-opening : (d k : ℕ) → see s p ≡ Char 0x7B k → Answers d s p (rest d p)
     at-opening d k z =
-        by-rest d (suc d) k (see-ahead s p 0x7B k z .0) (open-on d s p k z ∙ ap (again k []) (omega arith))
+        by-rest d (suc d) k (seeing .see-ahead s p 0x7B k z .0) (open-on d s p k z ∙ ap (again k []) (omega arith))
         (λ q o. record { opened = _; closed = _; next = _; counted = opens z (o .counted); brace = o .brace; outnumbers = omega (arith, o .outnumbers) })
         (λ q. after-open z)
 
@@ -195,7 +194,7 @@ module _ (s : List ℕ) where
         let u = eqb-false a 0x5C f in
         let v = eqb-false a 0x7B g in
         let w = eqb-false a 0x7D h in
-        by-rest d d k (see-ahead s p a k z .0) (braces-other d s p a k z g h f)
+        by-rest d d k (seeing .see-ahead s p a k z .0) (braces-other d s p a k z g h f)
         (λ q o. record { opened = _; closed = _; next = _; counted = other z u v w (o .counted); brace = o .brace; outnumbers = o .outnumbers })
         (λ q. after-other z u v w)
 
@@ -216,7 +215,7 @@ module _ (s : List ℕ) where
         by (Char a k) z = at-char d a k z
 
   answers : (n d p : ℕ) → length s ≤ p + n → Answers d s p (rest d p)
-  answers zero d p h = at-end d p (see-end s p (omega arith))
+  answers zero d p h = at-end d p (seeing .see-end s p (omega arith))
   answers (suc n) d p h = at-place p (λ e k l. answers n e k (omega arith)) d
 
 -- ---- the theorem

@@ -16,8 +16,7 @@ use Rattle.text.specs.Class.{holdsOf}
 use Rattle.text.specs.declared.class.Test.the-variants as test
 use Rattle.text.specs.Scan.{see}
 use Rattle.text.specs.declared.scanner.Seen.the-variants.{End, Char}
-use Rattle.text.proofs.sequences.Alternatives.{within-true}
-use Rattle.text.proofs.scanning.Seen.{see-end, see-ascii}
+use Rattle.text.proofs.Seeing.{seeing}
 use Rattle.row.specs.declared.fault.Reason.the-variants.{UnexpectedEof, UnexpectedDecimalPoint}
 use Rattle.row.specs.Fault.{faultAt}
 use Rattle.raw.specs.declared.answer.Step.{Step}
@@ -27,7 +26,7 @@ use Rattle.raw.specs.Grammar.{is, escape, quotedTurn, quoted, numberTurn
 use Rattle.raw.specs.Says.{stepOf, Onward}
 use Rattle.raw.proofs.readers.Loop.{many-turn}
 use Rattle.raw.proofs.grammar.Readers.{quoted-turn-kept, number-turn-kept, braced-turn-kept}
-use Rattle.text.proofs.general.Tests.{narrow-is}
+use Rattle.text.proofs.general.Tests.{narrow-is, within-true}
 use Rattle.raw.proofs.Bytes.{Narrow, seen-key, seen-other, Unrolls, Wide, Reached, on-turn, on-char, on-cut, on-escape, at-stop, at-bad}
 
 -- what a reader without rows is to answer
@@ -49,7 +48,7 @@ quoted-wide a s i c n e h = quoted-other a s i c n e (narrow-is 0x22 (omega arit
 module _ {s : List ℕ} {at i : ℕ} (r : Reached quotedTurn s at 0 i) where
   pub quoted-end : length s ≤ i → Answers quoted s at (step.Refused (faultAt UnexpectedEof i))
   unfolding quotedTurn quoted
-  quoted-end h = at-bad quoted-un r (rw (see-end s i h))
+  quoted-end h = at-bad quoted-un r (rw (seeing .see-end s i h))
 
   module _ (h : i < length s) where
     pub quoted-closed : getD s i 0 ≡ 0x22 → Answers quoted s at (step.At i)
@@ -104,14 +103,14 @@ digit-narrow c h = rw (lt-leb c 0x39 (omega arith), and-false (leb 0x30 c))
 module _ {s : List ℕ} {at i : ℕ} (d : Bool) (r : Reached numberTurn s at (dotted d) i) where
   pub number-end : length s ≤ i → Answers number s at (step.Refused (faultAt UnexpectedEof i))
   unfolding number
-  number-end h = at-bad number-un r (number-cut d s i (see-end s i h))
+  number-end h = at-bad number-un r (number-cut d s i (seeing .see-end s i h))
 
   module _ (h : i < length s) where
     pub number-digit : (leb 0x30 (getD s i 0) && leb (getD s i 0) 0x39) ≡ true → Reached numberTurn s at (dotted d) (i + 1)
     unfolding holdsOf
     number-digit t =
         let b = within-true (0x30 – 0x39) (getD s i 0) t in
-        on-turn number-un r (digit-on d s i (getD s i 0) (i + 1) (see-ascii s i h (omega arith)) t) (omega arith) (omega arith)
+        on-turn number-un r (digit-on d s i (getD s i 0) (i + 1) (seeing .see-ascii s i h (omega arith)) t) (omega arith) (omega arith)
 
     pub number-done : (leb 0x30 (getD s i 0) && leb (getD s i 0) 0x39) ≡ false → (getD s i 0 ≡ 0x2E → ⊥) → Answers number s at (step.At i)
     unfolding number holdsOf
@@ -172,7 +171,7 @@ braces-wide a s i c n e h =
 module _ {s : List ℕ} {at d i : ℕ} (r : Reached bracedTurn s at d i) where
   pub braces-end : length s ≤ i → Answers inBraces s at (step.Refused (faultAt UnexpectedEof i))
   unfolding inBraces
-  braces-end h = at-bad braces-un r (braces-cut-off d s i (see-end s i h))
+  braces-end h = at-bad braces-un r (braces-cut-off d s i (seeing .see-end s i h))
 
   module _ (h : i < length s) where
     pub braces-open : getD s i 0 ≡ 0x7B → Reached bracedTurn s at (d + 1) (i + 1)

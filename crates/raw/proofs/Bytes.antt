@@ -22,11 +22,9 @@ use Rattle.text.specs.Range.{within}
 use Rattle.text.specs.Utf8.{tail, width}
 use Rattle.text.specs.Scan.{code, rest, see, Inside}
 use Rattle.text.specs.declared.scanner.Seen.the-variants.{Char}
-use Rattle.text.proofs.sequences.Alternatives.{width-char}
-use Rattle.text.proofs.sequences.Lengths.{char-further, width-tail}
+use Rattle.text.proofs.Shapes.{shapes}
 use Rattle.text.proofs.general.Places.{drop-next}
-use Rattle.text.proofs.scanning.Seen.{see-end, see-at, see-inside, see-ascii}
-use Rattle.text.proofs.scanning.Skip.{code-wide}
+use Rattle.text.proofs.Seeing.{seeing}
 use Rattle.row.specs.declared.fault.Fault.{Fault}
 use Rattle.raw.specs.declared.answer.Step.the-variants as step
 use Rattle.raw.specs.Reader.{ok, again, bad, Reader, after, many}
@@ -41,7 +39,7 @@ Narrow p = (c : ℕ) → 0x80 ≤ c → p c ≡ false
 
 module _ (s : List ℕ) (i : ℕ) (h : i < length s) where
   pub seen-key : (k : ℕ) → getD s i 0 ≡ k → k < 0x80 → see s i ≡ Char k (i + 1)
-  seen-key k e l = see-ascii s i h (omega arith) ∙ ap (λ (c : ℕ). Char c (i + 1)) e
+  seen-key k e l = seeing .see-ascii s i h (omega arith) ∙ ap (λ (c : ℕ). Char c (i + 1)) e
 
   -- the character at a byte is of no class of ASCII characters that the byte is not of
   pub seen-other : (c : ℕ) × (n : ℕ) × (see s i ≡ Char c n) × ((p : ℕ → Bool) → Narrow p → p (getD s i 0) ≡ false → p c ≡ false)
@@ -49,16 +47,16 @@ module _ (s : List ℕ) (i : ℕ) (h : i < length s) where
     where
       go : (t : Bool) → ltb (getD s i 0) 0x80 ≡ t →
           (c : ℕ) × (n : ℕ) × (see s i ≡ Char c n) × ((p : ℕ → Bool) → Narrow p → p (getD s i 0) ≡ false → p c ≡ false)
-      go true e = (getD s i 0, i + 1, see-ascii s i h (ltb-true _ _ e), λ p a q. q)
+      go true e = (getD s i 0, i + 1, seeing .see-ascii s i h (ltb-true _ _ e), λ p a q. q)
       go false e =
-          let w : 0x80 ≤ code (drop i s) = rw (drop-next s i h) (code-wide (getD s i 0) (drop (i + 1) s) (ltb-false _ _ e)) in
-          (code (drop i s), i + 1 + rest (drop i s), see-at s i h, λ p a q. a _ w)
+          let w : 0x80 ≤ code (drop i s) = rw (drop-next s i h) (seeing .code-wide (getD s i 0) (drop (i + 1) s) (ltb-false _ _ e)) in
+          (code (drop i s), i + 1 + rest (drop i s), seeing .see-at s i h, λ p a q. a _ w)
 
   pub seen-tail : within tail (getD s i 0) ≡ true → see s i ≡ Char 0xFFFD (i + 1)
   unfolding code rest
   seen-tail t =
-      let w : width (drop i s) ≡ 0 = rw (drop-next s i h) (width-tail (getD s i 0) (drop (i + 1) s) t) in
-      see-at s i h ∙ rw w (ap (Char 0xFFFD) (omega arith))
+      let w : width (drop i s) ≡ 0 = rw (drop-next s i h) (shapes .width-tail (getD s i 0) (drop (i + 1) s) t) in
+      seeing .see-at s i h ∙ rw w (ap (Char 0xFFFD) (omega arith))
 
 -- ---- turns
 
@@ -71,9 +69,9 @@ Wide f = (a : ℕ) (s : List ℕ) (i c n : ℕ) → see s i ≡ Char c n → 0x8
 -- the octets behind the first of a character are tails
 tails : (u : List ℕ) (k : ℕ) → width u ≡ suc k → (j : ℕ) → j < k → within tail (getD u (j + 1) 0) ≡ true
 tails u k e j l =
-    let c = width-char u (omega arith) in
+    let c = shapes .width-char u (omega arith) in
     let n = length-take-le (width u) u (c .1) in
-    rw (getD-take (width u) u (j + 1) 0 (omega arith)) at (char-further (take (width u) u) (j + 1) 0 (c .0) (omega arith) (omega arith))
+    rw (getD-take (width u) u (j + 1) 0 (omega arith)) at (shapes .char-further (take (width u) u) (j + 1) 0 (c .0) (omega arith) (omega arith))
 
 module _ (f : ℕ → Reader) (un : Unrolls f) (s : List ℕ) where
   many-on : (a i : ℕ) {j b : ℕ} → f a s i ≡ again j [] b → many f a s i ≡ many f b s j
@@ -92,8 +90,8 @@ module _ (f : ℕ → Reader) (un : Unrolls f) (s : List ℕ) where
     many-char : (i : ℕ) {c n : ℕ} → see s i ≡ Char c n → many f a s n ≡ many f a s (i + 1)
     unfolding rest
     many-char i {c} {n} e =
-        let h = subst (Inside s i) e (see-inside s i) in
-        let q : n ≡ i + 1 + (width (drop i s) - 1) = let x = sym e ∙ see-at s i (omega arith) in cc in
+        let h = subst (Inside s i) e (seeing .see-inside s i) in
+        let q : n ≡ i + 1 + (width (drop i s) - 1) = let x = sym e ∙ seeing .see-at s i (omega arith) in cc in
         go (width (drop i s)) refl h q
       where
         tail-at : (j : ℕ) → within tail (getD (drop i s) (j + 1) 0) ≡ true → within tail (getD s (i + 1 + j) 0) ≡ true
@@ -126,17 +124,17 @@ module _ {f : ℕ → Reader} (un : Unrolls f) {s : List ℕ} {at a i : ℕ} (r 
   at-bad {x} e = let q : many f 0 s at ≡ bad x = r .same ∙ un a s i ∙ rw e in (ap stepOf (sym q), tt)
 
   pub on-cut : length s ≤ i + 1 → i < length s → f a s i ≡ escape a s (i + 1) → Reached f s at a (i + 1)
-  on-cut l h e = on-turn (e ∙ rw (see-end s (i + 1) l)) (omega arith) (omega arith)
+  on-cut l h e = on-turn (e ∙ rw (seeing .see-end s (i + 1) l)) (omega arith) (omega arith)
 
   module _ (w : Wide f) where
     pub on-char : {c n b : ℕ} → see s i ≡ Char c n → f a s i ≡ again n [] b → Reached f s at b (i + 1)
     on-char {b = b} p e =
-        let h = subst (Inside s i) p (see-inside s i) in
+        let h = subst (Inside s i) p (seeing .see-inside s i) in
         record { same = r .same ∙ many-on f un s a i e ∙ many-char f un s w b i p; from = omega arith; to = omega arith }
 
     pub on-escape : i + 1 < length s → f a s i ≡ escape a s (i + 1) → Reached f s at a (i + 1 + 1)
     on-escape h e =
-        let p = see-at s (i + 1) h in
+        let p = seeing .see-at s (i + 1) h in
         record {
           same = r .same ∙ many-on f un s a i (e ∙ rw p) ∙ many-char f un s w a (i + 1) p;
           from = omega arith;

@@ -13,12 +13,11 @@ use Rattle.text.specs.Scan.{see, fails}
 use Rattle.text.specs.declared.class.Test.the-variants as test
 use Rattle.text.specs.declared.scanner.Seen.{Seen}
 use Rattle.text.specs.declared.scanner.Seen.the-variants.{End, Char}
-use Rattle.text.proofs.scanning.LongerText.{see-ahead}
-use Rattle.text.proofs.scanning.Seen.{see-end}
+use Rattle.text.proofs.Seeing.{seeing}
 use Rattle.row.specs.declared.form.Kind.{Kind}
 use Rattle.row.specs.declared.fault.Reason.the-variants.{ExpectedComma, ExpectedIdentifier}
 use Rattle.row.specs.Fault.{faultAt}
-use Rattle.raw.specs.Reader.{Out, ok, again, bad, Reader, after, loop, many, scanTurn, scan}
+use Rattle.raw.specs.Reader.{Out, ok, again, bad, after, loop, many, scanTurn, scan}
 use Rattle.raw.specs.Grammar.{white, ident, field, fieldEnd, fieldsTurn, fields, commented}
 use Rattle.raw.specs.Comments.{Unclosed, none, other, Closed, brace, end, Begins, Comments}
 use Rattle.raw.proofs.readers.Then.{more-none, then-on}
@@ -74,14 +73,14 @@ module _ (s : List ℕ) where
       by-test c n true z e = rw (scan-stop no-brace s p c n z (brace-fails c e)) (none, brace (rw (eqb-true c 0x7D e) at z))
       by-test c n false z e =
           rw (scan-on no-brace s p c n z (other-passes c e))
-          (ends-on p n (scanned no-brace s n) (λ q u. other z (eqb-false c 0x7D e) u) (go n (see-ahead s p c n z .0)))
+          (ends-on p n (scanned no-brace s n) (λ q u. other z (eqb-false c 0x7D e) u) (go n (seeing .see-ahead s p c n z .0)))
 
       by : (x : Seen) → see s p ≡ x → Ends p (scanned no-brace s p)
       by End z = rw (scan-end no-brace s p z) (none, end z)
       by (Char c n) z = by-test c n (eqb c 0x7D) z refl
 
   ends : (n p : ℕ) → length s ≤ p + n → Ends p (scanned no-brace s p)
-  ends zero p h = let z = see-end s p (omega arith) in rw (scan-end no-brace s p z) (none, end z)
+  ends zero p h = let z = seeing .see-end s p (omega arith) in rw (scan-end no-brace s p z) (none, end z)
   ends (suc n) p h = ends-here p (λ k l. ends n k (omega arith))
 
   -- and nowhere else

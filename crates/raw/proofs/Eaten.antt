@@ -3,20 +3,19 @@
 --     byte-on, byte-off, byte-end    by the byte, where only ASCII passes the test: `narrow-is`, `narrow-or`
 --     need-end, need-other, need-byte    the readers that want one character
 -- Assumes nothing.
-use Prim.Native.Nat.{ℕ, zero, suc, _+_, _≤_, _<_, max}
-use mathlib.Core.Path.{_≡_, refl, sym, ap, _∙_, subst}
-use mathlib.Core.Bool.{Bool, true, false, cond, _||_, false≢true}
+use Prim.Native.Nat.{ℕ, _+_, _≤_, _<_, max}
+use mathlib.Core.Path.{_≡_, refl, sym, ap, _∙_}
+use mathlib.Core.Bool.{Bool, true, false, cond, false≢true}
 use mathlib.Core.List.{List, []}
 use native.Mathlib.Omega.{arith}
 use lib.ListN.{length, getD, drop}
 use lib.Dec.{eqb, ltb}
-use borrow.Author.Tests.{ne-eqb, eqb-true, eqb-false, ltb-true, ltb-false}
-use Rattle.text.specs.Scan.{see, code, rest, pastOne, Ahead, Inside}
+use borrow.Author.Tests.{eqb-true, eqb-false, ltb-true, ltb-false}
+use Rattle.text.specs.Scan.{see, code, pastOne, Inside}
 use Rattle.text.specs.declared.scanner.Seen.{Seen}
 use Rattle.text.specs.declared.scanner.Seen.the-variants.{End, Char}
 use Rattle.text.proofs.general.Places.{drop-next}
-use Rattle.text.proofs.scanning.Seen.{see-inside, see-end, see-at, see-ascii}
-use Rattle.text.proofs.scanning.Skip.{code-wide}
+use Rattle.text.proofs.Seeing.{seeing}
 use Rattle.row.specs.declared.fault.Reason.{Reason}
 use Rattle.row.specs.Fault.{faultAt}
 use Rattle.raw.specs.declared.answer.Step.the-variants as step
@@ -35,7 +34,7 @@ not-at {i} {r} l h = go (eqb r i) refl
 
 module _ (t : ℕ → Bool) (s : List ℕ) (i : ℕ) (f : ℕ → Out) (o : Out) {r : ℕ} (e : r ≡ pastOne t i (see s i)) where
   pub eaten-off : r ≡ i → eaten t (see s i) f o ≡ o
-  eaten-off h = go (see s i) (see-inside s i) (sym e ∙ h)
+  eaten-off h = go (see s i) (seeing .see-inside s i) (sym e ∙ h)
     where
       by : (b : Bool) (n : ℕ) → i < n → cond b n i ≡ i → cond b (f n) o ≡ o
       by true n l q = absurd (omega arith)
@@ -60,24 +59,24 @@ module _ (t : ℕ → Bool) (s : List ℕ) (i : ℕ) (f : ℕ → Out) (o : Out)
 
 module _ (t : ℕ → Bool) (s : List ℕ) (i : ℕ) (f : ℕ → Out) (o : Out) where
   pub byte-end : length s ≤ i → eaten t (see s i) f o ≡ o
-  byte-end h = rw (see-end s i h)
+  byte-end h = rw (seeing .see-end s i h)
 
   module _ (narrow : (c : ℕ) → 0x80 ≤ c → t c ≡ false) (h : i < length s) where
     pub byte-on : t (getD s i 0) ≡ true → eaten t (see s i) f o ≡ f (i + 1)
     byte-on q = go (ltb (getD s i 0) 0x80) refl
       where
         go : (b : Bool) → ltb (getD s i 0) 0x80 ≡ b → eaten t (see s i) f o ≡ f (i + 1)
-        go true a = rw (see-ascii s i h (ltb-true _ _ a), q)
+        go true a = rw (seeing .see-ascii s i h (ltb-true _ _ a), q)
         go false a = absurd (false≢true (sym (narrow _ (ltb-false _ _ a)) ∙ q))
 
     pub byte-off : t (getD s i 0) ≡ false → eaten t (see s i) f o ≡ o
     byte-off q = go (ltb (getD s i 0) 0x80) refl
       where
         go : (b : Bool) → ltb (getD s i 0) 0x80 ≡ b → eaten t (see s i) f o ≡ o
-        go true a = rw (see-ascii s i h (ltb-true _ _ a), q)
+        go true a = rw (seeing .see-ascii s i h (ltb-true _ _ a), q)
         go false a =
-            let w : 0x80 ≤ code (drop i s) = rw (drop-next s i h) (code-wide (getD s i 0) (drop (i + 1) s) (ltb-false _ _ a)) in
-            rw (see-at s i h, narrow (code (drop i s)) w)
+            let w : 0x80 ≤ code (drop i s) = rw (drop-next s i h) (seeing .code-wide (getD s i 0) (drop (i + 1) s) (ltb-false _ _ a)) in
+            rw (seeing .see-at s i h, narrow (code (drop i s)) w)
 
 -- ---- one character, or a refusal
 

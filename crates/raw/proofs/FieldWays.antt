@@ -1,14 +1,14 @@
 -- The ways through `field`, `field_end` and `fields_turn`.
 -- Assumes nothing.
-use Prim.Native.Nat.{ℕ, zero, suc, _+_, _≤_, _<_}
-use mathlib.Core.Path.{_≡_, refl, sym, ap, _∙_}
-use mathlib.Core.List.{List, [], _∷_}
+use Prim.Native.Nat.{ℕ, _+_, _≤_, _<_}
+use mathlib.Core.Path.{_≡_, sym, ap, _∙_}
+use mathlib.Core.List.{List, []}
 use native.Mathlib.Omega.{arith}
 use lib.ListN.{length, getD}
 use borrow.Author.Tests.{eq-eqb, ne-eqb}
 use Rattle.text.specs.Class.{isWhitespace, holdsOf}
 use Rattle.text.specs.Scan.{see, skip}
-use Rattle.text.proofs.scanning.Seen.{see-at}
+use Rattle.text.proofs.Seeing.{seeing}
 use Rattle.row.specs.declared.form.Kind.{Kind}
 use Rattle.row.specs.declared.fault.Fault.{Fault}
 use Rattle.row.specs.declared.fault.Reason.the-variants.{UnexpectedEof, ExpectedComma}
@@ -20,7 +20,7 @@ use Rattle.raw.specs.declared.answer.Answer.the-variants as answer
 use Rattle.raw.specs.declared.answer.Turn.{Turn}
 use Rattle.raw.specs.declared.answer.Turn.the-variants as turned
 use Rattle.row.specs.Row.{row, putRow}
-use Rattle.raw.specs.Reader.{Out, ok, again, bad, more, andThen, under, eaten, sees, stop, turn, refuse, _then_}
+use Rattle.raw.specs.Reader.{Out, ok, again, bad, under, eaten, sees, stop, turn, refuse, _then_}
 use Rattle.raw.specs.Grammar.{is, any, white, comma, ident, equals, abbrField, comment, field, fieldEnd, fieldsTurn}
 use Rattle.raw.specs.Says.{stepOf, Says, SaysTurn}
 use Rattle.raw.proofs.grammar.Rowless.{rowless-at, rowless-off}
@@ -106,7 +106,7 @@ module _ (k : Kind) (s : List ℕ) (i : ℕ) where
   module _ (h : i < length s) {p : ℕ} (w : p ≡ skip isWhitespace s i) where
     at-field : fieldsTurn k 0 s i ≡ sees (is 0x7D) stop (field k then fieldEnd) s p
     unfolding fieldsTurn
-    at-field = rw (see-at s i h) (then-on _ (white-on s i w))
+    at-field = rw (seeing .see-at s i h) (then-on _ (white-on s i w))
 
     pub fields-brace : p < length s → getD s p 0 ≡ 0x7D → fieldsTurn k 0 s i ≡ ok p []
     fields-brace l e = at-field ∙ byte-on (is 0x7D) s p (λ n. ok p []) ((field k then fieldEnd) s p) (narrow-is 0x7D (omega arith)) l (eq-eqb _ _ e)

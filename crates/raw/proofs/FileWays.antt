@@ -18,8 +18,7 @@ use Rattle.text.specs.Utf8.{validityOf}
 use Rattle.text.specs.declared.class.Test.the-variants as test
 use Rattle.text.specs.declared.utf8.Validity.{Validity}
 use Rattle.text.specs.declared.utf8.Validity.the-variants as validity
-use Rattle.text.proofs.scanning.Seen.{see-end, see-inside}
-use Rattle.text.proofs.scanning.Skip.{skip-ahead}
+use Rattle.text.proofs.Seeing.{seeing}
 use Rattle.row.specs.declared.fault.Fault.{Fault}
 use Rattle.row.specs.declared.fault.Reason.the-variants.{TooLong, NotUtf8, NoRoom}
 use Rattle.row.specs.Fault.{faultAt, nowhere}
@@ -33,20 +32,20 @@ use Rattle.raw.specs.Grammar.{is, comment, entry, fileTurn, file}
 use Rattle.raw.specs.Says.{stepOf, answerOf, Room, Says}
 use Rattle.row.specs.Limits.{mostBytes}
 use Rattle.raw.specs.Read.{strict, readingOut, leftOut, Read}
-use Rattle.row.proofs.numbers.Overlay.{moved-none, overlay-fits}
+use Rattle.row.proofs.Laid.{laid}
 use Rattle.raw.proofs.readers.Then.{then-on}
 use Rattle.raw.proofs.Saying.{says-at, said-off}
 use Rattle.raw.proofs.TokenWays.{scan-on, white-on, comment-on}
 use Rattle.raw.proofs.Bytes.{seen-key, seen-other}
 use Rattle.text.proofs.general.Tests.{narrow-is}
-use Rattle.raw.proofs.StrictSteps.{strict-valid, strict-ill, strict-file}
+use Rattle.raw.proofs.Steps.{strict-valid, strict-ill, strict-file}
 
 -- ---- a turn
 
 module _ (s : List ℕ) (at : ℕ) {p : ℕ} (e : p ≡ skip isWhitespace s at) where
   pub file-end : length s ≤ p → fileTurn 0 s at ≡ ok p []
   unfolding fileTurn
-  file-end h = then-on _ (white-on s at e) ∙ rw (see-end s p h)
+  file-end h = then-on _ (white-on s at e) ∙ rw (seeing .see-end s p h)
 
   module _ (h : p < length s) where
     pub file-entry : getD s p 0 ≡ 0x40 → fileTurn 0 s at ≡ andThen (entry s p) (λ q. again q [] 0)
@@ -62,7 +61,7 @@ module _ (s : List ℕ) (at : ℕ) {p : ℕ} (e : p ≡ skip isWhitespace s at) 
     file-other {r} x y d =
         let o = seen-other s p h in
         let n : r ≡ o .1 = d ∙ ap (nextOf p) (o .2) in
-        let i = subst (Inside s p) (o .2) (see-inside s p) in
+        let i = subst (Inside s p) (o .2) (seeing .see-inside s p) in
         let a = o .3 (is 0x40) (narrow-is 0x40 (omega arith)) (ne-eqb _ _ x) in
         let b = o .3 (is 0x25) (narrow-is 0x25 (omega arith)) (ne-eqb _ _ y) in
         (then-on _ (white-on s at e) ∙ rw (o .2, a, b, n), omega arith)
@@ -73,7 +72,7 @@ unfolding comment holdsOf
 comment-further s p {r} h q d =
     let t : comment s p ≡ ok (skip (fails test.Newline) s (p + 1)) [] = rw (seen-key s p h 0x25 q (omega arith)) (scan-on (fails test.Newline) s (p + 1) refl) in
     let n : r ≡ skip (fails test.Newline) s (p + 1) = let x = d ∙ ap stepOf t in cc in
-    omega (arith, skip-ahead (fails test.Newline) s (p + 1) .from)
+    omega (arith, seeing .skip-ahead (fails test.Newline) s (p + 1) .from)
 
 -- ---- `parse_bytes`
 
@@ -104,7 +103,7 @@ fits-rows b b′ {n = n} p rs e l r =
     let k : n ≡ 0 + length rs = cc in
     let h : length rs ≤ length b / 4 = omega arith in
     let t = le-leb (length rs) (length b / 4) h in
-    (rw t (ap reading.Rows (omega arith)), rw t (r ∙ ap (overlay b 0) (moved-none rs) ∙ overlay-fits rs b h))
+    (rw t (ap reading.Rows (omega arith)), rw t (r ∙ ap (overlay b 0) (laid .moved-none rs) ∙ laid .overlay-fits rs b h))
 
 fits : (o : Out) (b : List ℕ) {b′ : List ℕ} (q n : ℕ) → answer.Next q n ≡ answerOf o 0 → n ≤ length b / 4 → Room 0 o 0 b b′ →
     (reading.Rows n ≡ readingOut o (length b)) × (b′ ≡ leftOut o b)

@@ -2,7 +2,7 @@ pub mod readers
 pub mod grammar
 pub mod Worked
 pub mod Strict
-pub mod StrictSteps
+pub mod Steps
 pub mod Refusals
 pub mod Bounds
 pub mod ByteTurns

@@ -1,9 +1,8 @@
--- Which refusals strict reading can answer, and their places: `refusals`.
+-- Which refusals strict reading can answer, and their places: `refusals`. When a call answers 16: `sixteen`.
 -- Assumes nothing.
 use Prim.Native.Nat.{ℕ, _*_, _/_, _≤_, _<_}
 use native.Mathlib.Omega.{arith}
 use mathlib.Core.Path.{_≡_, refl, sym, ap, _∙_, subst}
-use mathlib.Core.Logic.{_↔_}
 use mathlib.Core.Bool.{Bool, true, false, cond}
 use mathlib.Core.List.{List}
 use lib.ListN.{length, replicate, length-replicate}
@@ -18,7 +17,7 @@ use Rattle.raw.specs.declared.answer.Reading.the-variants as reading
 use Rattle.raw.specs.Reader.{Out, ok, again, bad}
 use Rattle.raw.specs.Grammar.{file}
 use Rattle.raw.specs.Read.{strict, readingOut, leftOut, Read}
-use Rattle.raw.specs.Refusals.{ReadFault, long, met, full, Full, Refusals}
+use Rattle.raw.specs.Refusals.{ReadFault, long, met, full, Sixteen, Refusals}
 use Rattle.raw.proofs.readers.Trace.{Refused, Traced}
 use Rattle.raw.proofs.grammar.Readers.{from-start}
 use Rattle.raw.proofs.grammar.Files.{file-laws}
@@ -99,10 +98,8 @@ enough (again q rs a) other x e = (length rs, room (length rs), rows-enough rs, 
 enough (bad f) other x e = let z : f ≡ nowhere NoRoom = cc in absurd (other (ap bad z))
 
 -- of a call whose answer and rows are those of o
-pub full-of : (o : Out) → (o ≡ bad (nowhere NoRoom) → ⊥) → (call : List ℕ → Reading → List ℕ → Type 0) →
-    ((b b′ : List ℕ) (r : Reading) → call b r b′ → r ≡ readingOut o (length b)) →
-    ((b : List ℕ) → call b (readingOut o (length b)) (leftOut o b)) → Full call
-full-of o other call told make b b′ r p = (
+pub sixteen : Sixteen
+sixteen o other call told make b b′ r p = (
   λ e.
       let t = enough o other (length b) (sym (told b b′ r p) ∙ e) in
       (t .0, (t .1, leftOut o (t .1), subst (λ (x : Reading). call (t .1) x (leftOut o (t .1))) (sym (t .2)) (make (t .1))), t .3),
@@ -110,7 +107,7 @@ full-of o other call told make b b′ r p = (
 )
 
 -- a refusal of another number
-pub not-sixteen : {f : Fault} → f ≡ nowhere NoRoom → numberOf (f .reason) < 16 → ⊥
+not-sixteen : {f : Fault} → f ≡ nowhere NoRoom → numberOf (f .reason) < 16 → ⊥
 not-sixteen e h = let n = ap (λ (f : Fault). numberOf (f .reason)) e in omega arith
 
 -- strict reading refuses with no 16 of its own
@@ -125,5 +122,5 @@ pub refusals : Refusals
 refusals =
     record {
       reads = λ s b b′ f r. out-fault s f (strict s) (length b) refl (r .answer);
-      no-room = λ s. full-of (strict s) (strict-not-full s) (Read s) (λ b b′ r p. p .answer) (λ b. record { answer = refl; rows = refl });
+      no-room = λ s. sixteen (strict s) (strict-not-full s) (Read s) (λ b b′ r p. p .answer) (λ b. record { answer = refl; rows = refl });
     }

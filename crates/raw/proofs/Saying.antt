@@ -7,7 +7,7 @@
 --     says-under                        a row over the whole, put last
 --     turn-of, turn-at, turn-done, turn-again, turn-off, turn-more, turn-then      likewise of one turn of a loop
 -- Assumes nothing.
-use Prim.Native.Nat.{ℕ, zero, suc, _+_, _<_}
+use Prim.Native.Nat.{ℕ, suc, _+_}
 use mathlib.Core.Path.{_≡_, refl, sym, ap, _∙_, subst}
 use mathlib.Core.List.{List, [], _∷_, _++_}
 use native.Mathlib.Omega.{arith}
@@ -20,9 +20,9 @@ use Rattle.raw.specs.declared.answer.Answer.the-variants as answer
 use Rattle.raw.specs.declared.answer.Turn.{Turn}
 use Rattle.raw.specs.declared.answer.Turn.the-variants as turn
 use Rattle.row.specs.Row.{Row, row, rowUp, moved, putRow, overlay}
-use Rattle.raw.specs.Reader.{Out, ok, again, bad, Reader, more, andThen, under}
+use Rattle.raw.specs.Reader.{Out, ok, again, bad, more, andThen, under}
 use Rattle.raw.specs.Says.{answerOf, turnOf, Room, Says, SaysTurn}
-use Rattle.row.proofs.numbers.Overlay.{moved-append, put-overlay, overlay-append, moved-length, row-up}
+use Rattle.row.proofs.Laid.{laid}
 
 -- ---- answers that differ
 
@@ -45,9 +45,9 @@ module _ (base : ℕ) (rs : List Row) (n : ℕ) where
   over-more : (ss : List Row) (b : List ℕ) →
       overlay (overlay b n (moved base rs)) (n + length rs) (moved base ss) ≡ overlay b n (moved base (rs ++ ss))
   over-more ss b =
-      ap (λ (k : ℕ). overlay (overlay b n (moved base rs)) (n + k) (moved base ss)) (sym (moved-length base rs))
-      ∙ sym (overlay-append (moved base rs) (moved base ss) b n)
-      ∙ ap (overlay b n) (sym (moved-append base rs ss))
+      ap (λ (k : ℕ). overlay (overlay b n (moved base rs)) (n + k) (moved base ss)) (sym (laid .moved-length base rs))
+      ∙ sym (laid .overlay-append (moved base rs) (moved base ss) b n)
+      ∙ ap (overlay b n) (sym (laid .moved-append base rs ss))
 
   room-more : (o : Out) (b b′ : List ℕ) → Room base o (n + length rs) (overlay b n (moved base rs)) b′ → Room base (more rs o) n b b′
   room-more (ok q ss) b b′ h = h ∙ over-more ss b
@@ -146,7 +146,7 @@ module _ {base : ℕ} {o : Out} (g : ℕ → Out) {n : ℕ} {b : List ℕ} {p m 
 -- in front of what follows, and put before it
 row-first : (base : ℕ) (k : Kind) (a e n : ℕ) (b : List ℕ) → overlay b n (moved base (row k a e ∷ [])) ≡ putRow b n (row k (base + a) (base + e))
 unfolding overlay moved
-row-first base k a e n b = ap (putRow b n) (sym (row-up base k a e))
+row-first base k a e n b = ap (putRow b n) (sym (laid .row-up base k a e))
 
 module _ {base : ℕ} (k : Kind) (a e : ℕ) {o : Out} {n : ℕ} {b b′ : List ℕ} where
   pub says-row : {r : Answer} → Says base o (n + 1) (putRow b n (row k (base + a) (base + e))) r b′ → Says base (more (row k a e ∷ []) o) n b r b′
@@ -167,7 +167,7 @@ module _ {base : ℕ} (k : Kind) (a : ℕ) {n : ℕ} {b c : List ℕ} where
       let e : q ≡ p = cc in
       record {
         told = t ∙ ap (answer.Next p) (omega arith);
-        room = rw (e, row-up base k a p, h, add-one n) (put-overlay (moved base rs) b n (suc n) (rowUp base (row k a p)) (omega arith));
+        room = rw (e, laid .row-up base k a p, h, add-one n) (laid .put-overlay (moved base rs) b n (suc n) (rowUp base (row k a p)) (omega arith));
       }
 
   pub says-under : {o : Out} {q m : ℕ} → Says base o (n + 1) b (answer.Next q m) c →

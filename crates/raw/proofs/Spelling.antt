@@ -14,7 +14,7 @@ use Rattle.text.proofs.general.Places.{drop-next}
 use lib.Dec.{T, ltb, leb, eqb, ltb→lt}
 use borrow.Author.Tests.{lt-ltb, le-ltb, ltb-true, ltb-false, eq-eqb, ne-eqb, eqb-true, eqb-false}
 use Rattle.text.proofs.general.Below.{below, each}
-use Rattle.text.proofs.scanning.Seen.{see-ascii}
+use Rattle.text.proofs.Seeing.{seeing}
 use Rattle.raw.specs.Grammar.{lower, spells}
 use Rattle.raw.specs.Says.{Ascii}
 use Rattle.raw.proofs.Bytes.{Narrow, seen-other}
@@ -36,7 +36,7 @@ module _ (w : ℕ) (word s : List ℕ) (a e : ℕ) (l : a < e) (h : a < length s
   unfolding spells
   letter-on q =
       let b : getD s a 0 < 0x80 = omega (arith, lower-least (getD s a 0)) in
-      rw (lt-ltb a e l, see-ascii s a h b, eq-eqb (lower (getD s a 0)) w q)
+      rw (lt-ltb a e l, seeing .see-ascii s a h b, eq-eqb (lower (getD s a 0)) w q)
 
   letter-off : (lower (getD s a 0) ≡ w → ⊥) → spells (w ∷ word) s a e ≡ false
   unfolding spells

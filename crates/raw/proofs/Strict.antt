@@ -2,12 +2,12 @@
 --     file-turn       a file is its first item, and then the file
 --     file-ends       an accepted text is read to its end
 -- Assumes nothing.
-use Prim.Native.Nat.{ℕ, zero, suc, _+_, _≤_, _<_}
+use Prim.Native.Nat.{ℕ, zero, suc, _≤_, _<_, max}
 use native.Mathlib.Omega.{arith}
 use mathlib.Core.Path.{_≡_, refl, sym, ap, _∙_, subst}
 use mathlib.Core.Bool.{Bool, true, false, cond}
-use mathlib.Core.List.{List, _++_}
-use lib.ListN.{length, take, length-append, length-take}
+use mathlib.Core.List.{List}
+use lib.ListN.{length}
 use lib.Dec.{leb}
 use Rattle.text.specs.Class.{holdsOf}
 use Rattle.text.specs.Utf8.{Octets, none, validityOf, isBoundary}
@@ -17,8 +17,7 @@ use Rattle.text.specs.declared.scanner.Seen.the-variants.{End, Char}
 use Rattle.text.specs.declared.class.Test.the-variants as test
 use Rattle.text.specs.declared.utf8.Validity.{Validity}
 use Rattle.text.specs.declared.utf8.Validity.the-variants as validity
-use Rattle.text.proofs.scanning.Seen.{see-inside}
-use Rattle.text.proofs.scanning.LongerText.{see-front}
+use Rattle.text.proofs.Seeing.{seeing}
 use Rattle.text.proofs.Rfc3629.{rfc3629}
 use Rattle.row.specs.declared.fault.Fault.{Fault}
 use Rattle.row.specs.declared.fault.Reason.the-variants.{TooLong, NotUtf8}
@@ -29,16 +28,16 @@ use Rattle.raw.specs.Reader.{Out, ok, again, bad, more, andThen, after, 
 use Rattle.raw.specs.Grammar.{is, any, white, comment, entry, fileTurn, file}
 use Rattle.row.specs.Limits.{mostBytes}
 use Rattle.raw.specs.Read.{checked, strict}
-use Rattle.raw.specs.Strict.{Same, Fresh, Accepted, Refusal, Strict}
-use Rattle.raw.proofs.readers.Trace.{Trace, Refused, Traced, trace-reach}
-use Rattle.raw.proofs.readers.Spans.{reach-inside, reach-same, trace-rising, trace-spans, trace-clean}
-use Rattle.raw.proofs.readers.Kept.{Stops, Advances, eaten-holds}
+use Rattle.raw.specs.Strict.{Same, Stops, Accepted, Refusal, Strict}
+use Rattle.raw.proofs.readers.Trace.{Trace, Refused, Traced}
+use Rattle.raw.proofs.readers.Spans.{reach-inside, trace-rising, trace-spans, trace-clean}
+use Rattle.raw.proofs.readers.Kept.{Advances, eaten-holds}
 use Rattle.raw.proofs.readers.Then.{bad-is}
 use Rattle.raw.proofs.readers.Loop.{many-turn}
 use Rattle.raw.proofs.grammar.Early.{hits, eaten-else}
-use Rattle.raw.proofs.grammar.Readers.{from-start}
-use Rattle.raw.proofs.grammar.Entries.{entry-kept, entry-laws}
-use Rattle.raw.proofs.grammar.Files.{file-turn-kept, file-laws, file-rules, file-few, file-early}
+use Rattle.raw.proofs.grammar.Readers.{from-start, white-laws, comment-laws}
+use Rattle.raw.proofs.grammar.Entries.{entry-kept}
+use Rattle.raw.proofs.grammar.Files.{file-turn-kept, file-turn-laws, file-laws, file-rules, file-few, file-early}
 
 -- ---- no fuel
 
@@ -46,7 +45,7 @@ file-any : (a : ℕ) (s : List ℕ) (p : ℕ) → many fileTurn a s p ≡ file s
 unfolding fileTurn file
 file-any a s p = many-turn file-turn-kept a s p ∙ sym (many-turn file-turn-kept 0 s p)
 
-pub file-turn : (s : List ℕ) (p : ℕ) → file s p ≡ after (fileTurn 0 s p) (λ a q. file s q)
+file-turn : (s : List ℕ) (p : ℕ) → file s p ≡ after (fileTurn 0 s p) (λ a q. file s q)
 file-turn s p = sym (file-any 0 s p) ∙ many-turn file-turn-kept 0 s p ∙ by (fileTurn 0 s p)
   where
     by : (o : Out) → after o (λ a q. many fileTurn a s q) ≡ after o (λ a q. file s q)
@@ -92,7 +91,7 @@ module _ (s : List ℕ) where
       chain-ends (white s p) _
       (λ q. eaten-holds Ends (is 0x40) (see s q) _ _ (λ k n x. turned-ends (entry s q))
       (eaten-holds Ends (holdsOf test.Percent) (see s q) _ _ (λ k n x. turned-ends (comment s q))
-      (eaten-else Ends any (see s q) _ _ (λ n. tt) (none-left q (see s q) (see-inside s q)))))
+      (eaten-else Ends any (see s q) _ _ (λ n. tt) (none-left q (see s q) (seeing .see-inside s q)))))
 
   more-done : (rs : List Row) (o : Out) → Done o → Done (more rs o)
   more-done rs (ok q ss) h = h
@@ -113,37 +112,21 @@ module _ (s : List ℕ) where
   unfolding file many
   file-done p = loop-done (suc (length s)) 0 p
 
-  pub file-ends : (p q : ℕ) (rs : List Row) → file s p ≡ ok q rs → p ≤ length s → q ≡ length s
+  file-ends : (p q : ℕ) (rs : List Row) → file s p ≡ ok q rs → p ≤ length s → q ≡ length s
   file-ends p q rs e h =
       let x : length s ≤ q = subst Done e (file-done p) in
       let y : Advances 0 0 p (length s) (ok q rs) = subst (Advances 0 0 p (length s)) e (from-start file-laws .core .kept .advances s p) in
       omega arith
 
--- ---- what is looked at
+-- ---- an item
 
-module _ (s : List ℕ) (p q : ℕ) (rs : List Row) (e : entry s p ≡ ok q rs) where
-  entry-at : (p < q) × (q ≤ length s)
-  entry-at =
-      let y : Advances 1 1 p (length s) (ok q rs) = subst (Advances 1 1 p (length s)) e (entry-kept .advances s p) in
-      (omega arith, omega arith)
+item-ahead : (s : List ℕ) (p q a : ℕ) (rs : List Row) → fileTurn 0 s p ≡ again q rs a → (p < q) × (q ≤ max p (length s))
+item-ahead s p q a rs e =
+    let y : Advances 1 0 p (length s) (again q rs a) = subst (Advances 1 0 p (length s)) e (file-turn-kept 0 .advances s p) in
+    (omega arith, omega arith)
 
-  entry-same : (t : List ℕ) → q ≤ length t → Same s t p q → entry t p ≡ ok q rs
-  entry-same t h x = entry-kept .local s t p q (subst (λ (o : Out). Stops o q) (sym e) refl) h (λ i a b. x i a (omega arith)) ∙ e
-
-  entry-longer : (t : List ℕ) → Fresh t → entry (s ++ t) p ≡ ok q rs
-  entry-longer t f =
-      let a = entry-at in
-      entry-same (s ++ t) (omega (arith, length-append s t)) (λ i h l. sym (see-front s t i f (omega arith)))
-
-  entry-cut : entry (take q s) p ≡ ok q rs
-  entry-cut =
-      let a = entry-at in
-      let t : Trace s p rs q = subst (Traced s p) e (from-start entry-laws .traced s p) in
-      entry-same (take q s) (omega (arith, length-take q s)) (reach-same (trace-reach t))
-
-item-same : (a b : ℕ) (s t : List ℕ) (p q : ℕ) (rs : List Row) → fileTurn a s p ≡ again q rs b → q ≤ length t → Same s t p (q + 1)
-    → fileTurn a t p ≡ again q rs b
-item-same a b s t p q rs e h x = file-turn-kept a .local s t p q (subst (λ (o : Out). Stops o q) (sym e) refl) h x ∙ e
+entry-same : (s t : List ℕ) (p q : ℕ) → Stops (entry s p) q → q ≤ length t → Same s t p q → entry t p ≡ entry s p
+entry-same s t p q e h x = entry-kept .local s t p q e h (λ i a b. x i a (omega arith))
 
 -- ---- strict reading
 
@@ -216,10 +199,12 @@ pub strict-reading : Strict
 strict-reading =
     record {
       turns = file-turn;
-      entries = λ s t p q rs e. entry-same s p q rs e t;
-      longer = λ s t p q rs e. entry-longer s p q rs e t;
-      cut = entry-cut;
-      items = item-same;
+      ahead = item-ahead;
+      entries = entry-same;
+      whites = from-start white-laws .core .kept .local;
+      comments = from-start comment-laws .core .kept .local;
+      moves-white = λ a. from-start white-laws .shift a .moves;
+      moves-turn = λ a. file-turn-laws {e = 0} {n = 0} 0 .shift a .moves;
       moves = λ a. from-start file-laws .shift a .moves;
       accepts = accepts;
       refuses = refuses;

@@ -13,7 +13,7 @@ use Rattle.text.specs.Class.{isWhitespace, isKey, isIdStart, isIdContinue, hold
 use Rattle.text.specs.Scan.{see, skip, pastOne, fails, Ahead}
 use Rattle.text.specs.Inner.{Letters}
 use Rattle.text.specs.declared.class.Test.the-variants as test
-use Rattle.text.proofs.scanning.AsciiLoops.{letters-id}
+use Rattle.text.proofs.Seeing.{seeing}
 use Rattle.row.specs.declared.fault.Reason.the-variants.{ExpectedIdentifier}
 use Rattle.row.specs.Fault.{faultAt}
 use Rattle.row.specs.Row.{Row}
@@ -78,5 +78,5 @@ module _ (s : List ℕ) (i : ℕ) where
   pub ident-letters : {r : ℕ} → Letters s i r → i < r → r < length s → (eqb (getD s r 0) 0x20 || eqb (getD s r 0) 0x3D) ≡ true
       → (step.At r ≡ stepOf (ident s i)) × Onward (length s) 1 i (step.At r)
   ident-letters {r} a p q t =
-      let x = letters-id a p q t in
+      let x = seeing .letters-id a p q t in
       ident-line (x .0) (λ z. omega arith) (record { from = omega arith; to = omega arith }) (x .1) (record { from = omega arith; to = omega arith })

@@ -10,12 +10,12 @@ use native.Mathlib.Omega.{arith}
 use native.Mathlib.Nat.{add-zero, add-suc}
 use native.Mathlib.Numerals.{add-one}
 use mathlib.Core.Path.{_≡_, refl, sym, ap, _∙_, subst}
-use mathlib.Core.Bool.{Bool, true, false}
+use mathlib.Core.Bool.{false}
 use mathlib.Core.List.{List}
 use lib.ListN.{length, getD}
 use Rattle.text.specs.declared.block.Set.{Set}
 use Rattle.text.specs.Block.{inSet, braces, quotes, Clear}
-use Rattle.text.proofs.scanning.Blocks.{clear-not}
+use Rattle.text.proofs.general.Tests.{told-apart}
 use Rattle.row.specs.declared.fault.Reason.the-variants.{UnexpectedEof}
 use Rattle.row.specs.Fault.{faultAt}
 use Rattle.raw.specs.declared.answer.Step.{Step}
@@ -46,7 +46,9 @@ pass-clear t x s at d one {i} {j} h c r =
 module _ {s : List ℕ} {at d : ℕ} where
   braces-pass : Passes bracedTurn braces s at d
   unfolding inSet
-  braces-pass k r h f = braces-plain r h (clear-not braces 0x7B refl f) (clear-not braces 0x7D refl f) (clear-not braces 0x5C refl f)
+  braces-pass k r h f =
+      braces-plain r h (told-apart (inSet braces) 0x7B refl f) (told-apart (inSet braces) 0x7D refl f)
+      (told-apart (inSet braces) 0x5C refl f)
 
   pub braces-clear : {i j : ℕ} → Reached bracedTurn s at d i → i ≤ length s → Clear braces s i j → Reached bracedTurn s at d j
   braces-clear r h c = pass-clear bracedTurn braces s at d braces-pass h c r
@@ -62,7 +64,7 @@ module _ {s : List ℕ} {at d : ℕ} where
 module _ {s : List ℕ} {at : ℕ} where
   quoted-pass : Passes quotedTurn quotes s at 0
   unfolding inSet
-  quoted-pass k r h f = quoted-plain r h (clear-not quotes 0x22 refl f) (clear-not quotes 0x5C refl f)
+  quoted-pass k r h f = quoted-plain r h (told-apart (inSet quotes) 0x22 refl f) (told-apart (inSet quotes) 0x5C refl f)
 
   pub quoted-clear : {i j : ℕ} → Reached quotedTurn s at 0 i → i ≤ length s → Clear quotes s i j → Reached quotedTurn s at 0 j
   quoted-clear r h c = pass-clear quotedTurn quotes s at 0 quoted-pass h c r

@@ -3,6 +3,7 @@ pub mod Grammar
 pub mod Says
 pub mod Read
 pub mod Strict
+pub mod Steps
 pub mod Refusals
 pub mod Worked
 pub mod Braces

@@ -1,4 +1,5 @@
--- Which refusals strict reading can answer [01:Numbers a caller can get], and their places. The proof is `refusals` of proofs/Refusals.antt.
+-- Which refusals strict reading can answer [01:Numbers a caller can get], and their places. The proofs are
+-- `sixteen` and `refusals` of proofs/Refusals.antt.
 -- Assumes nothing.
 use Prim.Native.Nat.{ℕ, _/_, _≤_, _<_}
 use mathlib.Core.Path.{_≡_}
@@ -11,7 +12,8 @@ use Rattle.row.specs.declared.fault.Fault.{Fault}
 use Rattle.row.specs.Fault.{numberOf, faultAt, nowhere}
 use Rattle.raw.specs.declared.answer.Reading.{Reading}
 use Rattle.raw.specs.declared.answer.Reading.the-variants.{Rows, Refused}
-use Rattle.raw.specs.Read.{Read}
+use Rattle.raw.specs.Reader.{Out, bad}
+use Rattle.raw.specs.Read.{readingOut, leftOut, Read}
 
 -- 1 and 16 at 0..0, and 2 to 10 at an empty place of the file s
 pub data ReadFault (s : List ℕ) : Fault → Type 0 where
@@ -26,6 +28,13 @@ Answered call n = (c : List ℕ) × (c′ : List ℕ) × call c (Rows n) c′
 -- "then 16 exactly if an answer exists and needs more rows or bytes than a lent output has"
 abbrev pub Full : (List ℕ → Reading → List ℕ → Type 0) → Type 0
 Full call = (b b′ : List ℕ) (r : Reading) → call b r b′ → (r ≡ Refused (nowhere NoRoom)) ↔ ((n : ℕ) × Answered call n × (length b / 4 < n))
+
+-- a call whose answer and rows are those of a reading that refuses with no 16 by itself answers 16 just so
+abbrev pub Sixteen : Type 1
+Sixteen =
+    (o : Out) → (o ≡ bad (nowhere NoRoom) → ⊥) → (call : List ℕ → Reading → List ℕ → Type 0) →
+    ((b b′ : List ℕ) (r : Reading) → call b r b′ → r ≡ readingOut o (length b)) →
+    ((b : List ℕ) → call b (readingOut o (length b)) (leftOut o b)) → Full call
 
 pub record Refusals : Type 0 where
   -- `read` answers no others

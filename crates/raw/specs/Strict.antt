@@ -1,11 +1,11 @@
 -- What the definitions of `Reader` and `Grammar` settle: theorems of strict reading, the proof of which is `strict-reading` of
 -- proofs/Strict.antt. Texts are compared by what they show: `Same`.
 -- Assumes nothing.
-use Prim.Native.Nat.{ℕ, _+_, _≤_, _<_}
+use Prim.Native.Nat.{ℕ, _+_, _≤_, _<_, max}
 use mathlib.Core.Path.{_≡_}
 use mathlib.Core.Bool.{Bool, true, false, _||_}
 use mathlib.Core.List.{List, [], _∷_, _++_}
-use lib.ListN.{length, getD, take}
+use lib.ListN.{length, getD}
 use Rattle.text.specs.Range.{within}
 use Rattle.text.specs.Utf8.{tail, isBoundary}
 use Rattle.text.specs.Class.{isIdStart, holdsOf}
@@ -16,8 +16,8 @@ use Rattle.text.specs.declared.class.Test.the-variants as test
 use Rattle.row.specs.declared.fault.Fault.{Fault}
 use Rattle.row.specs.Fault.{numberOf}
 use Rattle.row.specs.Row.{Row, moved}
-use Rattle.raw.specs.Reader.{Out, ok, again, bad, after}
-use Rattle.raw.specs.Grammar.{is, entry, fileTurn, file}
+use Rattle.raw.specs.Reader.{OutOf, Out, ok, again, bad, after}
+use Rattle.raw.specs.Grammar.{is, white, comment, entry, fileTurn, file}
 use Rattle.raw.specs.Read.{strict}
 use Rattle.row.specs.Rules.{isRows, clean}
 
@@ -26,6 +26,12 @@ use Rattle.row.specs.Rules.{isRows, clean}
 -- the texts show the same from p up to e
 abbrev pub Same : List ℕ → List ℕ → ℕ → ℕ → Type 0
 Same s t p e = (i : ℕ) → p ≤ i → i < e → see s i ≡ see t i
+
+-- an answer's place is q
+abbrev pub Stops : {P : Type 0} → OutOf P → ℕ → Type 0
+Stops (ok q′ rs) q = q′ ≡ q
+Stops (again q′ rs a) q = q′ ≡ q
+Stops (bad f) q = ⊥
 
 -- a refusal, and an answer, d places on
 abbrev pub faultUp : ℕ → Fault → Fault
@@ -84,13 +90,16 @@ pub record Refusal (s : List ℕ) (f : Fault) : Type 0 where
 pub record Strict : Type 0 where
   -- the fuel of a loop never runs out: a file is its first item, and then the file
   pub turns : (s : List ℕ) (p : ℕ) → file s p ≡ after (fileTurn 0 s p) (λ a q. file s q)
-  -- an entry is told by what it ate: it is read the same in every text that shows that, in one that goes on, and in one cut behind it
-  pub entries : (s t : List ℕ) (p q : ℕ) (rs : List Row) → entry s p ≡ ok q rs → q ≤ length t → Same s t p q → entry t p ≡ ok q rs
-  pub longer : (s t : List ℕ) (p q : ℕ) (rs : List Row) → entry s p ≡ ok q rs → Fresh t → entry (s ++ t) p ≡ ok q rs
-  pub cut : (s : List ℕ) (p q : ℕ) (rs : List Row) → entry s p ≡ ok q rs → entry (take q s) p ≡ ok q rs
-  -- any item of a file is told by what it ate and by the character after it
-  pub items : (a b : ℕ) (s t : List ℕ) (p q : ℕ) (rs : List Row) → fileTurn a s p ≡ again q rs b → q ≤ length t → Same s t p (q + 1) → fileTurn a t p ≡ again q rs b
-  -- a text behind another is read as by itself, moved
+  -- an item after which the file goes on has eaten something, and ends inside the text
+  pub ahead : (s : List ℕ) (p q a : ℕ) (rs : List Row) → fileTurn 0 s p ≡ again q rs a → (p < q) × (q ≤ max p (length s))
+  -- an entry is told by what it ate: it is read the same in every text that shows that. White space and a comment are told by what they
+  -- ate and by the character after it
+  pub entries : (s t : List ℕ) (p q : ℕ) → Stops (entry s p) q → q ≤ length t → Same s t p q → entry t p ≡ entry s p
+  pub whites : (s t : List ℕ) (p q : ℕ) → Stops (white s p) q → q ≤ length t → Same s t p (q + 1) → white t p ≡ white s p
+  pub comments : (s t : List ℕ) (p q : ℕ) → Stops (comment s p) q → q ≤ length t → Same s t p (q + 1) → comment t p ≡ comment s p
+  -- white space, an item and a file that stand behind another text are read as by themselves, moved
+  pub moves-white : (a s : List ℕ) (p : ℕ) → white (a ++ s) (p + length a) ≡ shifted (length a) (white s p)
+  pub moves-turn : (a s : List ℕ) (p : ℕ) → fileTurn 0 (a ++ s) (p + length a) ≡ shifted (length a) (fileTurn 0 s p)
   pub moves : (a s : List ℕ) (p : ℕ) → file (a ++ s) (p + length a) ≡ shifted (length a) (file s p)
   -- strict reading accepts or refuses
   pub accepts : (s : List ℕ) (q : ℕ) (rs : List Row) → strict s ≡ ok q rs → Accepted s q rs

@@ -6,3 +6,5 @@ pub mod Rules
 pub mod Numbers
 pub mod Masks
 pub mod Sequence
+pub mod Laid
+pub mod Ruled

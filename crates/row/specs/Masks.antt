@@ -1,7 +1,7 @@
 -- The row rules by masks: a mask is a number with a bit for each kind that may come next. And what the functions of `mask` answer.
 --     mayOf, moreOf, masksOf                 the masks of what is awaited by `Rules`
 --     takenOf, afterOf, stepOf, endsOf       whether a row may come; the masks after it; whether the sequence may end
--- That the second follow the first is `masks-step` and `masks-whole` of proofs/Masks.antt.
+-- That the second follow the first is `masks-step` and `masks-whole` of specs/Ruled.antt.
 -- Assumes nothing.
 use Prim.Native.Nat.{ℕ, _/_, _%_, _^_}
 use mathlib.Core.Bool.{Bool, true, false, cond, _&&_, _||_}

@@ -10,5 +10,9 @@ pub mod scanning
 pub mod Rfc3629
 -- the proof of specs/Boundaries.antt
 pub mod Boundaries
+-- the proof of specs/Seeing.antt: what the scanner sees, for the crates above
+pub mod Seeing
+-- the proof of specs/Shapes.antt: sequences and texts of them, for the crates above
+pub mod Shapes
 -- any two outcomes that a public contract allows are the same
 pub mod Unique

@@ -1,6 +1,6 @@
 -- Laws of lists, numbers and texts that every crate may cite.
 
--- what tests say: both of two, and tests that only ASCII passes
+-- what tests say: of two, of a range, of two numbers; and tests that only ASCII passes
 pub mod Tests
 -- a fact of every number below a bound, by one test that the checker computes at each
 pub mod Below

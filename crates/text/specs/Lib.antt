@@ -7,3 +7,5 @@ pub mod Rfc3629
 pub mod Boundaries
 pub mod Block
 pub mod Inner
+pub mod Seeing
+pub mod Shapes

@@ -21,8 +21,10 @@ use Rattle.row.specs.Spans.{SpansIn}
 use Rattle.row.specs.Limits.{mostBytes}
 use Rattle.row.specs.Rules.{isRows}
 use Rattle.row.specs.Numbers.{rowsOf, isSound}
-use Rattle.row.proofs.numbers.Flat.{rows-flat, flat-length, rowAt, rows-next}
-use Rattle.row.proofs.rules.SmallKinds.{AllSmall, rules-small}
+use Rattle.row.proofs.Laid.{laid}
+use Rattle.row.specs.Laid.{rowAt}
+use Rattle.row.specs.Ruled.{AllSmall}
+use Rattle.row.proofs.Ruled.{ruled}
 use Rattle.pack.specs.Seven.{unpackRow, unpacking, endFits, spanFits, every, InSeven}
 use Rattle.pack.specs.Pack.{isPackable}
 use Rattle.pack.specs.Unpack.{isUnpackable}
@@ -56,11 +58,11 @@ all-seven (r ∷ rs) a e =
     (record { kind = a .0 .kind; detail = a .0 .detail; order = o; end = h }, all-seven rs (a .1) (x .1))
 
 pub packable-seven : (l : List ℕ) → Packable l → AllInSeven (rowsOf l)
-packable-seven l p = all-seven (rowsOf l) (rules-small (rowsOf l) (p .rules)) (p .spans)
+packable-seven l p = all-seven (rowsOf l) (ruled .rules-small (rowsOf l) (p .rules)) (p .spans)
 
 pub seven-next : (l : List ℕ) (i : ℕ) → i + 4 ≤ length l → AllInSeven (rowsOf (drop i l)) → InSeven (rowAt l i) × AllInSeven (rowsOf (drop (i + 4) l))
 unfolding AllInSeven
-seven-next l i h a = rw (rows-next l i h) at a
+seven-next l i h a = rw (laid .rows-next l i h) at a
 
 -- ---- unpackable bytes
 
@@ -109,5 +111,5 @@ spans-of-ends (g ∷ a ∷ b ∷ c ∷ d ∷ e ∷ f ∷ s) h =
 pub flat-packable : (rs : List Row) → isRows rs ≡ true → every spanFits rs ≡ true → isPackable (flat rs) ≡ true
 unfolding isPackable isSound
 flat-packable rs p q =
-    let e : length (flat rs) % 4 ≡ 0 = omega (arith, flat-length rs) in
-    rw (e, rows-flat rs, p) q
+    let e : length (flat rs) % 4 ≡ 0 = omega (arith, laid .flat-length rs) in
+    rw (e, laid .rows-flat rs, p) q

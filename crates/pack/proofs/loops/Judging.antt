@@ -15,8 +15,8 @@ use Rattle.row.specs.Row.{Row}
 use Rattle.row.specs.Rules.{Await, part, run, whole, isRows}
 use Rattle.row.specs.Numbers.{rowsOf, isSound}
 use Rattle.row.specs.Masks.{masksOf, stepOf, endsOf}
-use Rattle.row.proofs.rules.Append.{afterRow}
-use Rattle.row.proofs.rules.Masks.{masks-step, masks-whole}
+use Rattle.row.specs.Ruled.{afterRow}
+use Rattle.row.proofs.Ruled.{ruled}
 use Rattle.pack.specs.Seven.{unpacking, endFits, spanFits, every}
 use Rattle.pack.specs.Pack.{isPackable}
 use Rattle.pack.specs.Unpack.{isUnpackable}
@@ -38,7 +38,7 @@ module _ {t : Row → Bool} {x : Bool} {m : Masks} {rs : List Row} (o : Judging 
     judge-row p f =
         record {
           await = afterRow (o .await) (r .kind) (r .detail);
-          stand = p ∙ ap (λ (k : Masks). stepOf k (r .kind) (r .detail)) (o .stand) ∙ masks-step (o .await) (r .kind) (r .detail);
+          stand = p ∙ ap (λ (k : Masks). stepOf k (r .kind) (r .detail)) (o .stand) ∙ ruled .masks-step (o .await) (r .kind) (r .detail);
           left = o .left ∙ rw (e, f);
         }
 
@@ -48,7 +48,7 @@ module _ {t : Row → Bool} {x : Bool} {m : Masks} {rs : List Row} (o : Judging 
 
   pub judge-end : {w : Bool} → rs ≡ [] → w ≡ endsOf m → w ≡ x
   unfolding run every
-  judge-end e p = p ∙ ap endsOf (o .stand) ∙ masks-whole (o .await) ∙ sym (o .left ∙ rw e (and-true (whole (o .await))))
+  judge-end e p = p ∙ ap endsOf (o .stand) ∙ ruled .masks-whole (o .await) ∙ sym (o .left ∙ rw e (and-true (whole (o .await))))
 
 -- ---- the check of `pack`
 

@@ -9,8 +9,8 @@ use mathlib.Core.List.{List, _++_}
 use lib.ListN.{length, take, drop}
 use Rattle.row.specs.Row.{Row, flat, putRow, overlay}
 use Rattle.row.specs.Numbers.{rowsOf}
-use Rattle.row.proofs.numbers.Overlay.{overlay-fits}
-use Rattle.row.proofs.numbers.Flat.{rowAt, rows-next, rows-end}
+use Rattle.row.proofs.Laid.{laid}
+use Rattle.row.specs.Laid.{rowAt}
 use Rattle.pack.specs.Digits.{digits}
 use Rattle.pack.specs.Seven.{packRow, packing, unpacking, unpackAt}
 use Rattle.pack.proofs.loops.ListWriting.{Written, go-on, at-last}
@@ -30,11 +30,11 @@ module _ (l b : List ℕ) (i p : ℕ) where
   unfolding packing
   pack-turn out out′ h e o =
       let r = rowAt l i in
-      go-on (packing (rowsOf l)) b p (packRow r) (packing (rowsOf (drop (i + 4) l))) out out′ 7 (rw (rows-next l i h) at o) (row-size r) e
+      go-on (packing (rowsOf l)) b p (packRow r) (packing (rowsOf (drop (i + 4) l))) out out′ 7 (rw (laid .rows-next l i h) at o) (row-size r) e
 
   pub pack-end : (out : List ℕ) (n : ℕ) → length l ≤ i → p ≡ n → Packing l b i p out → out ≡ packing (rowsOf l) ++ drop n b
   unfolding packing
-  pack-end out n h e o = rw e at (at-last (rw (rows-end l i (omega arith)) at o))
+  pack-end out n h e o = rw e at (at-last (rw (laid .rows-end l i (omega arith)) at o))
 
 -- the rows from byte p on are still to be laid over the lent numbers from row n on
 abbrev pub Unpacking : List ℕ → List ℕ → ℕ → ℕ → List ℕ → Type 0
@@ -53,5 +53,5 @@ module _ (s b : List ℕ) (p n : ℕ) where
   unfolding overlay
   unpack-end out h m o =
       sym (rw (sevens-end s p h) at o)
-      ∙ overlay-fits (unpacking s) b (omega (arith, unpacking-length s))
+      ∙ laid .overlay-fits (unpacking s) b (omega (arith, unpacking-length s))
       ∙ ap (λ (k : ℕ). flat (unpacking s) ++ drop (k * 4) b) (unpacking-length s)

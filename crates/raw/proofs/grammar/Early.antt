@@ -15,7 +15,7 @@ use Rattle.text.specs.Scan.{see}
 use Rattle.text.specs.declared.scanner.Seen.{Seen}
 use Rattle.text.specs.declared.scanner.Seen.the-variants.{End, Char}
 use Rattle.text.specs.declared.class.Test.the-variants as test
-use Rattle.text.proofs.scanning.Seen.{see-end}
+use Rattle.text.proofs.Seeing.{seeing}
 use Rattle.row.specs.declared.fault.Reason.the-variants.{UnexpectedEof}
 use Rattle.row.specs.Fault.{numberOf, faultAt}
 use Rattle.row.specs.Row.{Row}
@@ -87,6 +87,6 @@ module _ {w l : ℕ} {f : ℕ → Reader} (K : (a : ℕ) → Kept 1 w l (f a)) (
 
   pub loop-early : (s : List ℕ) (n a p : ℕ) → length s ≤ p + n → EarlyOut s (loop f n a s p)
   unfolding loop
-  loop-early s zero a p h = let e = see-end s p (omega arith) in λ x. rw e
+  loop-early s zero a p h = let e = seeing .see-end s p (omega arith) in λ x. rw e
   loop-early s (suc n) a p h =
       after-early s p n (f a s p) (λ b q. loop f n b s q) (K a .advances s p) (F a s p) h (loop-early s n)

@@ -10,7 +10,7 @@ use lib.ListN.{length}
 use Rattle.row.specs.declared.form.Kind.the-variants as kind
 use Rattle.row.specs.Row.{plain}
 use Rattle.row.specs.Rules as awaits
-use Rattle.row.proofs.rules.Append.{Free}
+use Rattle.row.specs.Ruled.{Free}
 use Rattle.raw.specs.declared.entry.Form.{Form}
 use Rattle.raw.specs.declared.entry.Form.the-variants.{Strings, Preambles, Comments, Other}
 use Rattle.row.specs.declared.fault.Reason.the-variants.{ExpectedClosingBrace}

@@ -18,7 +18,8 @@ use Rattle.row.specs.declared.fault.Fault.{Fault}
 use Rattle.row.specs.Fault.{numberOf}
 use Rattle.row.specs.Row.{Row}
 use Rattle.row.specs.Rules.{part, isRows}
-use Rattle.row.proofs.rules.Append.{Free, none, free-whole}
+use Rattle.row.specs.Ruled.{Free, none}
+use Rattle.row.proofs.Ruled.{ruled}
 use Rattle.raw.specs.Reader.{ok, bad, Reader, andThen, eaten, _then_, when, sees, turn, scan}
 use Rattle.raw.specs.Grammar.{is, any, comment, fileTurn, file}
 use Rattle.raw.specs.Strict.{beginsValue}
@@ -79,7 +80,7 @@ module _ (s : List ℕ) (p q : ℕ) (rs : List Row) (e : file s p ≡ ok q rs) w
   -- they pass the row rules
   pub file-rules : isRows rs ≡ true
   unfolding isRows
-  file-rules = free-whole _ (file-route .follows (part false) (none false))
+  file-rules = ruled .free-whole _ (file-route .follows (part false) (none false))
 
   -- and are at most as many as the bytes
   pub file-few : length rs + p ≤ q

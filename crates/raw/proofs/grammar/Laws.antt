@@ -16,15 +16,15 @@ use mathlib.Core.List.{List, _++_}
 use lib.ListN.{length}
 use lib.Dec.{eqb}
 use Rattle.text.specs.Scan.{see}
-use Rattle.text.proofs.scanning.LongerText.{see-ahead}
+use Rattle.text.proofs.Seeing.{seeing}
 use Rattle.row.specs.declared.fault.Reason.{Reason}
 use Rattle.row.specs.Fault.{numberOf}
 use Rattle.row.specs.Row.{Row, Mark, marked, kindOf}
 use Rattle.raw.specs.Reader.{Out, Reader, stop, turn, refuse, _then_, over, overFrom, put, when, sees, many, scan}
 use Rattle.raw.specs.Grammar.{need}
-use Rattle.raw.specs.Strict.{shifted}
+use Rattle.raw.specs.Strict.{shifted, Stops}
 use Rattle.raw.proofs.readers.Trace.{here, none, Traced, eat-traced, chain-traced, lay-traced}
-use Rattle.raw.proofs.readers.Kept.{Stops, Advances, Kept, stop-kept, turn-kept, refuse-kept, put-kept, eaten-holds, when-kept, sees-kept}
+use Rattle.raw.proofs.readers.Kept.{Advances, Kept, stop-kept, turn-kept, refuse-kept, put-kept, eaten-holds, when-kept, sees-kept}
 use Rattle.raw.proofs.readers.Then.{then-kept, over-kept, from-kept}
 use Rattle.raw.proofs.readers.Loop.{many-kept, loop-traced}
 use Rattle.raw.proofs.readers.Shifts.{Shifts, stop-shifts, turn-shifts, refuse-shifts, when-shifts, sees-shifts, then-shifts, over-shifts}
@@ -113,7 +113,7 @@ module _ {O : Order Row} {σ α ω : Point O} where
           kept = when-kept t (F .core .kept) (G .core .kept) (omega arith);
           route = λ s p.
               eaten-holds (RouteOut σ α ω p) t (see s p) (f s) (g s p)
-              (λ k n x. eat-route (see-ahead s p k n x .0) (F .core .route s n)) (G .core .route s p);
+              (λ k n x. eat-route (seeing .see-ahead s p k n x .0) (F .core .route s n)) (G .core .route s p);
           early = λ s p. eaten-holds (EarlyOut s) t (see s p) (f s) (g s p) (λ k n x. F .core .early s n) (G .core .early s p);
         };
         traced = λ s p. eaten-holds (Traced s p) t (see s p) (f s) (g s p) (λ k n x. eat-traced s p k n (f s n) x (F .traced s n)) (G .traced s p);

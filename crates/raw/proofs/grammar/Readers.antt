@@ -27,7 +27,7 @@ use Rattle.raw.proofs.grammar.RowOrder.{rules, awaiting, start, Is, is-
 use Rattle.raw.proofs.grammar.RowOrder.{value-takes, field-takes, definition-takes, preamble-takes, key-takes}
 use Rattle.row.specs.Rules.{Await, value, chunks}
 use Rattle.row.specs.Rules as awaits
-use Rattle.row.proofs.rules.Append.{Free, one}
+use Rattle.row.specs.Ruled.{Free, one}
 use Rattle.raw.proofs.grammar.Laws.{Laws, going, stop-laws, turn-laws, refuse-laws, when-laws, sees-laws, _then-laws_}
 use Rattle.raw.proofs.grammar.Laws.{over-laws, many-laws, less-laws, need-laws, scan-laws}
 use Rattle.raw.proofs.grammar.UnexpectedEof.{when-any, sees-any, value-laws}

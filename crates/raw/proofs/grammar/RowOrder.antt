@@ -12,7 +12,8 @@ use Rattle.row.specs.declared.form.Kind.the-variants as kind
 use Rattle.row.specs.Row.{Row, plain, kindOf}
 use Rattle.row.specs.Rules.{Await, part, type, value, chunk, chunks, next, isDetail, run}
 use Rattle.row.specs.Rules as awaits
-use Rattle.row.proofs.rules.Append.{run-append, Free, none, one}
+use Rattle.row.proofs.Ruled.{ruled}
+use Rattle.row.specs.Ruled.{Free, none, one}
 use Rattle.raw.proofs.readers.Points.{Order, Point, at, Takes}
 
 pub run-none : (a : Await) → run a [] ≡ a
@@ -20,7 +21,7 @@ unfolding run
 run-none a = refl
 
 abbrev pub rules : Order Row
-rules = record { State = Await; run = run; run-none = run-none; run-append = run-append }
+rules = record { State = Await; run = run; run-none = run-none; run-append = ruled .run-append }
 
 -- a point with e bytes eaten, n of them not taken, where P is awaited
 abbrev pub awaiting : ℕ → ℕ → (Await → Type 0) → Point rules

@@ -13,7 +13,8 @@ use borrow.Author.Tests.{ltb-true, ltb-false, eqb-true, eqb-false, lt-ltb, le-lt
 use Rattle.text.specs.Scan.{see}
 use Rattle.text.specs.declared.scanner.Seen.{Seen}
 use Rattle.text.specs.declared.scanner.Seen.the-variants.{End, Char}
-use Rattle.text.proofs.scanning.LongerText.{see-ahead, seenUp, see-up}
+use Rattle.text.proofs.Seeing.{seeing}
+use Rattle.text.specs.Seeing.{seenUp}
 use Rattle.raw.specs.Grammar.{lower, spells, formOf}
 use Rattle.raw.specs.Strict.{Same}
 
@@ -52,7 +53,7 @@ spells-same (w ∷ word) s t a e h = spells-by w word t a e ∙ by (ltb a e) ref
         let l = ltb-true a e q in
         ap (led w (λ n. spells word t n e)) (sym (h a (omega arith) l))
         ∙ led-same w (λ n. spells word t n e) (λ n. spells word s n e) (see s a)
-        (λ c n x. let y = see-ahead s a c n x in ih n (λ i j k. h i (omega arith) k))
+        (λ c n x. let y = seeing .see-ahead s a c n x in ih n (λ i j k. h i (omega arith) k))
 
 ltb-up : (a e d : ℕ) → ltb (a + d) (e + d) ≡ ltb a e
 ltb-up a e d = by (ltb a e) refl
@@ -73,7 +74,7 @@ unfolding spells
 spells-up [] x s a e = eqb-up a e (length x)
 spells-up (w ∷ word) x s a e =
     spells-by w word (x ++ s) (a + length x) (e + length x)
-    ∙ rw (ltb-up a e (length x), see-up x s a)
+    ∙ rw (ltb-up a e (length x), seeing .see-up x s a)
     (ap (λ (b : Bool). cond (ltb a e) b false)
     (led-up w (length x) (λ n. spells word s n e) (λ n. spells word (x ++ s) n (e + length x)) (see s a) (λ n. spells-up word x s n e)))
     ∙ sym (spells-by w word s a e)

@@ -10,7 +10,7 @@ use mathlib.Core.List.{List}
 use Rattle.text.specs.Class.{isIdStart, holdsOf}
 use Rattle.text.specs.Scan.{see}
 use Rattle.text.specs.declared.class.Test.the-variants as test
-use Rattle.text.proofs.scanning.LongerText.{see-ahead}
+use Rattle.text.proofs.Seeing.{seeing}
 use Rattle.row.specs.declared.fault.Reason.the-variants.{UnexpectedEof}
 use Rattle.row.specs.Fault.{faultAt}
 use Rattle.row.specs.Row.{Row}
@@ -35,7 +35,7 @@ module _ {O : Order Row} {σ α ω : Point O} where
           kept = when-kept any (F .core .kept) (refuse-kept UnexpectedEof) (omega arith);
           route = λ s p.
               eaten-holds (RouteOut σ α ω p) any (see s p) (f s) (bad (faultAt UnexpectedEof p))
-              (λ k n x. eat-route (see-ahead s p k n x .0) (F .core .route s n)) refuses;
+              (λ k n x. eat-route (seeing .see-ahead s p k n x .0) (F .core .route s n)) refuses;
           early = λ s p. any-early s p (f s) (F .core .early s);
         };
         traced = λ s p.

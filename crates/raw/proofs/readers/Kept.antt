@@ -1,6 +1,6 @@
 -- What every reader keeps of the text: it goes on, stays inside, and answers the same on a text that shows the same. For parts of
 -- any type.
---     Stops, Advances, Kept           the words
+--     Advances, Kept                  the words
 --     stop-kept, turn-kept, refuse-kept, put-kept       readers without parts
 --     kept-weaker                     smaller numbers
 --     eaten-both, eaten-holds         by what is seen
@@ -15,19 +15,13 @@ use lib.ListN.{length}
 use Rattle.text.specs.Scan.{see}
 use Rattle.text.specs.declared.scanner.Seen.{Seen}
 use Rattle.text.specs.declared.scanner.Seen.the-variants.{End, Char}
-use Rattle.text.proofs.scanning.LongerText.{see-ahead}
+use Rattle.text.proofs.Seeing.{seeing}
 use Rattle.row.specs.Row.{Mark}
 use Rattle.row.specs.declared.fault.Reason.{Reason}
-use Rattle.raw.specs.Strict.{Same}
+use Rattle.raw.specs.Strict.{Same, Stops}
 use Rattle.raw.specs.Reader.{OutOf, ok, again, bad, ReaderOf, eaten, stop, turn, refuse, put, when, sees}
 
 -- ---- the words
-
--- an answer's place is q
-abbrev pub Stops : {P : Type 0} → OutOf P → ℕ → Type 0
-Stops (ok q′ rs) q = q′ ≡ q
-Stops (again q′ rs a) q = q′ ≡ q
-Stops (bad f) q = ⊥
 
 -- from p a reader went on by w at least, one that says `again` by v at least, and not past n
 abbrev pub Advances : {P : Type 0} → ℕ → ℕ → ℕ → ℕ → OutOf P → Type 0
@@ -105,7 +99,7 @@ module _ {P : Type 0} {v w l v₁ w₁ : ℕ} (c : ℕ → Bool) {f g : ReaderOf
   when-advances : (s : List ℕ) (p : ℕ) → Advances v w p (length s) (when c f g s p)
   when-advances s p =
       eaten-holds (Advances v w p (length s)) c (see s p) (f s) (g s p)
-      (λ k n x. let y = see-ahead s p k n x in advances-later v₁ w₁ v w p n (length s) (f s n) (y .0) (y .1) (m .0) (m .1) (F .advances s n))
+      (λ k n x. let y = seeing .see-ahead s p k n x in advances-later v₁ w₁ v w p n (length s) (f s n) (y .0) (y .1) (m .0) (m .1) (F .advances s n))
       (G .advances s p)
 
   when-local : (s t : List ℕ) (p q : ℕ) → Stops (when c f g s p) q → q ≤ length t → Same s t p (q + l) → when c f g t p ≡ when c f g s p
@@ -113,7 +107,7 @@ module _ {P : Type 0} {v w l v₁ w₁ : ℕ} (c : ℕ → Bool) {f g : ReaderOf
       let y = least v w p (length s) q (when c f g s p) (when-advances s p) h l (m .2) (m .3) in
       rw (← e p (omega arith) y)
       (eaten-both (λ o o′. Stops o q → o′ ≡ o) c (see s p) (f s) (f t) (g s p) (g t p)
-      (λ k n x h. let y = see-ahead s p k n x in F .local s t n q h i (λ j a b. e j (omega arith) b)) (λ h. G .local s t p q h i e) h)
+      (λ k n x h. let y = seeing .see-ahead s p k n x in F .local s t n q h i (λ j a b. e j (omega arith) b)) (λ h. G .local s t p q h i e) h)
 
   pub when-kept : Kept v w l (when c f g)
   when-kept = record { advances = when-advances; local = when-local }

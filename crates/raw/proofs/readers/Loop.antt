@@ -11,8 +11,8 @@ use mathlib.Core.List.{List}
 use lib.ListN.{length}
 use Rattle.raw.specs.Reader.{OutOf, ok, again, bad, ReaderOf, Reader, more, after, loop, many}
 use Rattle.raw.proofs.readers.Trace.{here, Traced, after-traced}
-use Rattle.raw.specs.Strict.{Same}
-use Rattle.raw.proofs.readers.Kept.{Stops, Advances, Kept}
+use Rattle.raw.specs.Strict.{Same, Stops}
+use Rattle.raw.proofs.readers.Kept.{Advances, Kept}
 use Rattle.raw.proofs.readers.Then.{more-stops, more-advances, advances-from, least-from}
 
 -- the rest of a loop with the fuel n

@@ -9,8 +9,7 @@ use lib.ListN.{length, drop}
 use lib.Dec.{ltb}
 use borrow.Author.Tests.{ltb-true, ltb-false}
 use Rattle.text.specs.Scan.{code, rest, skip}
-use Rattle.text.proofs.scanning.Seen.{see-end, see-at}
-use Rattle.text.proofs.scanning.Skip.{skip-end, skip-on, skip-stop}
+use Rattle.text.proofs.Seeing.{seeing}
 use Rattle.raw.specs.Reader.{ok, scanTurn, scan, many}
 use Rattle.raw.proofs.readers.Loop.{many-turn}
 use Rattle.raw.proofs.readers.Kept.{Kept, stop-kept, turn-kept, when-kept}
@@ -21,14 +20,14 @@ scan-turn-kept t a = when-kept t (turn-kept {w = 0} a) stop-kept (omega arith)
 module _ {P : Type 0} (t : ℕ → Bool) (s : List ℕ) where
   -- one turn, by what is seen
   scan-end : (a p : ℕ) → length s ≤ p → many {P = P} (scanTurn t) a s p ≡ ok (skip t s p) []
-  scan-end a p h = many-turn (scan-turn-kept t) a s p ∙ rw (see-end s p h, skip-end t s p h)
+  scan-end a p h = many-turn (scan-turn-kept t) a s p ∙ rw (seeing .see-end s p h, seeing .skip-end t s p h)
 
   scan-stop : (a p : ℕ) → p < length s → t (code (drop p s)) ≡ false → many {P = P} (scanTurn t) a s p ≡ ok (skip t s p) []
-  scan-stop a p h q = many-turn (scan-turn-kept t) a s p ∙ rw (see-at s p h, q, skip-stop t s p h q)
+  scan-stop a p h q = many-turn (scan-turn-kept t) a s p ∙ rw (seeing .see-at s p h, q, seeing .skip-stop t s p h q)
 
   scan-eats : (a p n : ℕ) → p < length s → t (code (drop p s)) ≡ true → p + 1 + rest (drop p s) ≡ n
       → many {P = P} (scanTurn t) a s n ≡ ok (skip t s n) [] → many {P = P} (scanTurn t) a s p ≡ ok (skip t s p) []
-  scan-eats a p n h q d e = many-turn (scan-turn-kept t) a s p ∙ rw (see-at s p h, q, d, e, skip-on t s p h q, d)
+  scan-eats a p n h q d e = many-turn (scan-turn-kept t) a s p ∙ rw (seeing .see-at s p h, q, d, e, seeing .skip-on t s p h q, d)
 
   -- with k octets at most to go
   scan-by : (k a p : ℕ) → length s ≤ p + k → many {P = P} (scanTurn t) a s p ≡ ok (skip t s p) []

@@ -12,10 +12,11 @@ use lib.ListN.{length, length-append}
 use Rattle.text.specs.Scan.{see}
 use Rattle.text.specs.declared.scanner.Seen.{Seen}
 use Rattle.text.specs.declared.scanner.Seen.the-variants.{End, Char}
-use Rattle.text.proofs.scanning.LongerText.{seenUp, see-up}
+use Rattle.text.specs.Seeing.{seenUp}
+use Rattle.text.proofs.Seeing.{seeing}
 use Rattle.row.specs.Row.{Row, Mark, marked, moved}
 use Rattle.row.specs.declared.fault.Reason.{Reason}
-use Rattle.row.proofs.numbers.Overlay.{moved-append}
+use Rattle.row.proofs.Laid.{laid}
 use Rattle.raw.specs.Reader.{Out, ok, again, bad, Reader, more, andThen, after, eaten, under, stop, turn, refuse, put, _then_, over, overFrom}
 use Rattle.raw.specs.Reader.{when, sees, loop, many}
 use Rattle.raw.specs.Strict.{shifted}
@@ -60,7 +61,7 @@ module _ (a : List ℕ) (c : ℕ → Bool) {f f′ g g′ : Reader} (F : Shifts 
   when-shifts =
       record {
         moves = λ s p.
-            rw (see-up a s p)
+            rw (seeing .see-up a s p)
             (eaten-up (length a) c (see s p) (f s) (f′ (a ++ s)) (g s p) (g′ (a ++ s) (p + length a)) (F .moves s) (G .moves s p));
       }
 
@@ -68,7 +69,7 @@ module _ (a : List ℕ) (c : ℕ → Bool) {f f′ g g′ : Reader} (F : Shifts 
   sees-shifts =
       record {
         moves = λ s p.
-            rw (see-up a s p)
+            rw (seeing .see-up a s p)
             (eaten-up (length a) c (see s p) (λ n. f s p) (λ n. f′ (a ++ s) (p + length a)) (g s p) (g′ (a ++ s) (p + length a))
             (λ n. F .moves s p) (G .moves s p));
       }
@@ -76,8 +77,8 @@ module _ (a : List ℕ) (c : ℕ → Bool) {f f′ g g′ : Reader} (F : Shifts 
 -- ---- one after the other
 
 pub more-up : (d : ℕ) (rs : List Row) (o : Out) → more (moved d rs) (shifted d o) ≡ shifted d (more rs o)
-more-up d rs (ok q ss) = rw moved-append
-more-up d rs (again q ss a) = rw moved-append
+more-up d rs (ok q ss) = rw (laid .moved-append)
+more-up d rs (again q ss a) = rw (laid .moved-append)
 more-up d rs (bad f) = refl
 
 pub chain-up : (d : ℕ) (g h : ℕ → Out) (o : Out) → ((r : ℕ) → h (r + d) ≡ shifted d (g r)) → andThen (shifted d o) h ≡ shifted d (andThen o g)

@@ -1,25 +1,21 @@
 -- What a trace tells of places and rows.
 --     rising-less                                     starts that never fall, from an earlier place on
 --     reach-order, reach-inside, reach-boundary       of the place that is reached
---     reach-same                                      a text cut there shows the same up to there
 --     trace-rising, trace-spans, trace-clean          of the rows
 -- Assumes nothing.
-use Prim.Native.Nat.{ℕ, _≤_, _<_}
+use Prim.Native.Nat.{ℕ, _≤_}
 use native.Mathlib.Omega.{arith}
-use mathlib.Core.Path.{_≡_, refl, sym, _∙_, subst}
+use mathlib.Core.Path.{_≡_, refl, subst}
 use mathlib.Core.Bool.{Bool, true, false, cond}
 use mathlib.Core.List.{List, [], _∷_, _++_, append-assoc, append-nil}
-use lib.ListN.{length, take}
-use lib.Dec.{eqb, ltb}
-use borrow.Author.Tests.{ltb-true, ltb-false}
+use lib.ListN.{length}
+use lib.Dec.{eqb}
 use Rattle.text.specs.Utf8.{Octets, isBoundary}
-use Rattle.text.specs.Scan.{see}
-use Rattle.text.specs.declared.scanner.Seen.the-variants.{Char}
-use Rattle.text.proofs.scanning.LongerText.{see-ahead, see-within, see-cut}
+use Rattle.text.proofs.Seeing.{seeing}
 use Rattle.text.proofs.Boundaries.{boundaries}
 use Rattle.row.specs.Row.{Row}
 use Rattle.row.specs.Rules.{clean}
-use Rattle.raw.specs.Strict.{Same, Rising, Spans}
+use Rattle.raw.specs.Strict.{Rising, Spans}
 use Rattle.raw.proofs.readers.Trace.{Reach, here, on, Trace, none, eats, joins, lays, trace-reach}
 
 -- ---- of rows
@@ -49,35 +45,21 @@ clean-append (r ∷ rs) ss h k = by (eqb (r .kind) 9) h (clean-append rs ss)
 module _ {s : List ℕ} where
   pub reach-order : {p q : ℕ} → Reach s p q → p ≤ q
   reach-order here = omega arith
-  reach-order {p} (on {n = n} {c = c} e x) = omega (arith, see-ahead s p c n e, reach-order x)
+  reach-order {p} (on {n = n} {c = c} e x) = omega (arith, seeing .see-ahead s p c n e, reach-order x)
 
   pub reach-inside : {p q : ℕ} → Reach s p q → p ≤ length s → q ≤ length s
   reach-inside here h = h
-  reach-inside {p} (on {n = n} {c = c} e x) h = reach-inside x (see-ahead s p c n e .1)
+  reach-inside {p} (on {n = n} {c = c} e x) h = reach-inside x (seeing .see-ahead s p c n e .1)
 
   pub reach-boundary : {p q : ℕ} → Octets s → Reach s p q → isBoundary s p ≡ true → isBoundary s q ≡ true
   reach-boundary o here b = b
   reach-boundary {p} o (on {n = n} {c = c} e x) b = reach-boundary o x (boundaries .sees s p c n o b e .1)
 
-  -- each place before one that is reached shows a character that ends before it
-  reach-seen : {p q : ℕ} (i : ℕ) → Reach s p q → p ≤ i → i < q → (c : ℕ) × (n : ℕ) × (see s i ≡ Char c n) × (n ≤ q)
-  reach-seen i here h l = absurd (omega arith)
-  reach-seen {p} {q} i (on {n = n} {c = c} e x) h l = by (ltb i n) refl (λ y. reach-seen i x y l)
-    where
-      by : (b : Bool) → ltb i n ≡ b → (n ≤ i → (c : ℕ) × (n : ℕ) × (see s i ≡ Char c n) × (n ≤ q))
-          → (c : ℕ) × (n : ℕ) × (see s i ≡ Char c n) × (n ≤ q)
-      by true y ih =
-          let z = see-within s p i c n e h (ltb-true i n y) in (z .0, z .1, z .2, omega (arith, z .3, reach-order x))
-      by false y ih = ih (ltb-false i n y)
-
-  pub reach-same : {p q : ℕ} → Reach s p q → Same s (take q s) p q
-  reach-same {p} {q} x i h l = let z = reach-seen i x h l in z .2 ∙ sym (see-cut s i q (z .0) (z .1) (z .2) (z .3))
-
   -- followed by rows that start from q on
   rising-on : {p q : ℕ} {rs : List Row} (n : ℕ) (ss : List Row) → Trace s p rs q → n ≤ p → Rising q ss → Rising n (rs ++ ss)
   unfolding Rising
   rising-on {p} n ss none h x = rising-less n p ss h x
-  rising-on {p} n ss (eats {n = m} {c = c} e t) h x = rising-on n ss t (omega (arith, see-ahead s p c m e)) x
+  rising-on {p} n ss (eats {n = m} {c = c} e t) h x = rising-on n ss t (omega (arith, seeing .see-ahead s p c m e)) x
   rising-on n ss (joins {q = m} {rs = rs} {ss = us} t u) h x =
       rw (append-assoc rs us ss) (rising-on n (us ++ ss) t h (rising-on m ss u (omega arith) x))
   rising-on {p} n ss (lays k d t) h x = (h, rising-on p ss t (omega arith) x)
@@ -89,7 +71,7 @@ module _ {s : List ℕ} where
   pub trace-spans : {p q : ℕ} {rs : List Row} → Octets s → Trace s p rs q → p ≤ length s → isBoundary s p ≡ true → Spans s rs
   unfolding Spans
   trace-spans o none h b = tt
-  trace-spans {p} o (eats {n = n} {c = c} e t) h b = trace-spans o t (see-ahead s p c n e .1) (boundaries .sees s p c n o b e .1)
+  trace-spans {p} o (eats {n = n} {c = c} e t) h b = trace-spans o t (seeing .see-ahead s p c n e .1) (boundaries .sees s p c n o b e .1)
   trace-spans o (joins {rs = rs} {ss = ss} t u) h b =
       let x = trace-reach t in
       spans-append s rs ss (trace-spans o t h b) (trace-spans o u (reach-inside x h) (reach-boundary o x b))

@@ -11,8 +11,8 @@ use lib.ListN.{length}
 use Rattle.row.specs.declared.fault.Fault.{Fault}
 use Rattle.row.specs.Row.{Row, Mark, marked}
 use Rattle.raw.specs.Reader.{OutOf, ok, again, bad, ReaderOf, Out, Reader, more, andThen, under, _then_, over, overFrom}
-use Rattle.raw.specs.Strict.{Same}
-use Rattle.raw.proofs.readers.Kept.{Stops, Advances, Kept}
+use Rattle.raw.specs.Strict.{Same, Stops}
+use Rattle.raw.proofs.readers.Kept.{Advances, Kept}
 
 -- ---- rows in front
 

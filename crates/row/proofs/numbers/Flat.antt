@@ -2,16 +2,17 @@
 --     flat-length, flat-append      the numbers of rows
 --     rows-flat, flat-rows          from rows to numbers and back, and from numbers to rows and back
 --     rows-length                   how many rows numbers are
---     rowAt, rows-next, rows-end    the row at a number; the rows from a number on
+--     rows-next, rows-end           the rows from a number on
 -- Assumes nothing.
 use Prim.Native.Nat.{ℕ, _+_, _*_, _/_, _%_, _≤_, _<_}
 use native.Mathlib.Omega.{arith}
 use mathlib.Core.Path.{_≡_, refl, ap}
 use mathlib.Core.List.{List, [], _∷_, _++_}
-use lib.ListN.{length, getD, drop, length-drop}
+use lib.ListN.{length, drop, length-drop}
 use Rattle.text.proofs.general.Places.{drop-next, drop-more}
-use Rattle.row.specs.Row.{Row, rowOf, flat}
+use Rattle.row.specs.Row.{Row, flat}
 use Rattle.row.specs.Numbers.{rowsOf}
+use Rattle.row.specs.Laid.{rowAt}
 
 abbrev pub four : ℕ → ℕ → ℕ → ℕ → List ℕ → List ℕ
 four a b c d l = a ∷ b ∷ c ∷ d ∷ l
@@ -50,10 +51,6 @@ rows-length (a ∷ b ∷ c ∷ []) = refl
 rows-length (a ∷ b ∷ c ∷ d ∷ l) = let e = rows-length l in omega arith
 
 -- ---- by index
-
--- the row from number i on
-abbrev pub rowAt : List ℕ → ℕ → Row
-rowAt l i = rowOf (getD l i 0) (getD l (i + 1) 0) (getD l (i + 2) 0) (getD l (i + 3) 0)
 
 pub rows-next : (l : List ℕ) (i : ℕ) → i + 4 ≤ length l → rowsOf (drop i l) ≡ rowAt l i ∷ rowsOf (drop (i + 4) l)
 unfolding rowsOf

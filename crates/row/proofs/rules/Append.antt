@@ -1,7 +1,6 @@
 -- The row rules, and damage, of rows that are put together or moved on.
---     afterRow                      what may come after one row
 --     run-append, run-wrong         the rules over two lists; once broken, they stay broken
---     Free                          where a part of the sequence may begin, and the sequence may end
+--     free-whole                    where a part of the sequence may begin, the sequence may end
 --     rows-append, rows-moved       two lists that keep the rules keep them together; rows moved on keep them as before
 --     clean-append, clean-moved     the same of damage
 -- Assumes nothing.
@@ -15,10 +14,7 @@ use borrow.Author.Tests.{eqb-true}
 use Rattle.row.specs.Row.{Row, moved}
 use Rattle.row.specs.Rules.{Await, part, type, key, value, chunk, chunks, cause, wrong, begun, orChunk, next}
 use Rattle.row.specs.Rules.{isDetail, run, whole, isRows, clean}
-
--- what may come after a row of kind k with detail d, where a may come before it
-abbrev pub afterRow : Await → ℕ → ℕ → Await
-afterRow a k d = cond (isDetail k d) (next a k) wrong
+use Rattle.row.specs.Ruled.{Free, none, one}
 
 pub run-append : (a : Await) (rs ss : List Row) → run a (rs ++ ss) ≡ run (run a rs) ss
 unfolding run
@@ -33,11 +29,6 @@ run-wrong (r ∷ rs) = by (isDetail (r .kind) (r .detail)) (run-wrong rs)
     by : (b : Bool) → run wrong rs ≡ wrong → run (cond b wrong wrong) rs ≡ wrong
     by true e = e
     by false e = e
-
--- here a part of the sequence may begin, and the sequence may end
-pub data Free : Await → Type 0 where
-  none : (f : Bool) → Free (part f)
-  one : (f : Bool) → Free (chunks f)
 
 pub free-whole : (a : Await) → Free a → whole a ≡ true
 free-whole a (none f) = refl

@@ -21,8 +21,10 @@ use Rattle.row.specs.declared.check.Checked.the-variants as checked
 use Rattle.row.specs.Row.{Row}
 use Rattle.row.specs.Rules.{Await, part, type, key, value, chunk, chunks, cause, wrong, isDetail, begun, next, run, whole, isRows}
 use Rattle.row.specs.Numbers.{rowsOf, isSound, checkOf, awaitOf, stateOf, wholeOf, orWrong, foundOf}
-use Rattle.row.proofs.numbers.Flat.{rowAt, rows-next, rows-end}
-use Rattle.row.proofs.rules.Append.{afterRow, run-wrong}
+use Rattle.row.specs.Laid.{rowAt}
+use Rattle.row.specs.Ruled.{afterRow}
+use Rattle.row.proofs.numbers.Flat.{rows-next, rows-end}
+use Rattle.row.proofs.rules.Append.{run-wrong}
 
 -- ---- the code's words
 

@@ -1,25 +1,18 @@
 -- Rows that keep the row rules have kinds and details of at most 10, so that half a byte holds each.
 --     next-large                       after a kind above 10 nothing may come
---     Small, AllSmall, rules-small     the bounds, of one row and of all; rows that keep the rules are within them
+--     rules-small                      rows that keep the rules are small
 -- Assumes nothing.
 use Prim.Native.Nat.{ℕ, _≤_, _<_}
 use native.Mathlib.Omega.{arith}
-use mathlib.Core.Path.{_≡_, refl, sym, ap, _∙_}
+use mathlib.Core.Path.{_≡_, refl, ap}
 use mathlib.Core.Bool.{Bool, true, false, cond, _&&_}
 use mathlib.Core.List.{List, [], _∷_}
 use lib.Dec.{eqb, leb}
 use borrow.Author.Tests.{leb-true, leb-false, eqb-true, ne-eqb}
 use Rattle.row.specs.Row.{Row}
 use Rattle.row.specs.Rules.{Await, part, type, key, value, chunk, chunks, cause, wrong, isDetail, begun, next, run, whole, isRows}
-use Rattle.row.proofs.rules.Append.{afterRow, run-wrong}
-
-pub record Small (r : Row) : Type 0 where
-  pub kind : r .kind ≤ 10
-  pub detail : r .detail ≤ 10
-
-unfoldable pub AllSmall : List Row → Type 0
-AllSmall [] = Unit {0}
-AllSmall (r ∷ rs) = Small r × AllSmall rs
+use Rattle.row.specs.Ruled.{AllSmall}
+use Rattle.row.proofs.rules.Append.{run-wrong}
 
 -- ---- kinds
 

@@ -19,15 +19,14 @@ use Rattle.text.specs.Class.{whiteSpace, isWhitespace}
 use Rattle.text.specs.Scan.{see}
 use Rattle.text.specs.declared.scanner.Seen.{Seen}
 use Rattle.text.specs.declared.scanner.Seen.the-variants.{End, Char}
-use Rattle.text.proofs.scanning.Seen.{see-ascii}
+use Rattle.text.proofs.Seeing.{seeing}
 use Rattle.text.proofs.general.Tests.{both-true}
-use Rattle.text.proofs.scanning.LongerText.{see-ahead, see-front, seenUp, see-up}
+use Rattle.text.specs.Seeing.{seenUp}
 use Rattle.row.specs.Row.{Row, moved}
 use Rattle.raw.specs.Reader.{Out, ok, again, bad}
 use Rattle.raw.specs.Grammar.{white, fileTurn, file}
 use Rattle.raw.specs.Strict.{Fresh, shifted}
-use Rattle.raw.proofs.grammar.Readers.{from-start, white-laws}
-use Rattle.raw.proofs.grammar.Files.{file-turn-laws, file-laws}
+use Rattle.raw.proofs.Strict.{strict-reading}
 use Rattle.salvage.specs.Salvage.{head, newline, Texts, push, cut}
 use Rattle.salvage.specs.Demand3.{lined, fresh, Boundary, line, Opens, here, later}
 use Rattle.salvage.proofs.cutting.ScanEnd.{true-not-false, scan-found, ok-place, white-found, white-scanned, white-stays}
@@ -86,19 +85,19 @@ head-fresh r h = rw (head-byte r 256 h .0) refl
 head-seen : (r : List ℕ) → head r ≡ true → see r 0 ≡ Char 0x40 1
 head-seen r h =
     let y = head-byte r 0 h in
-    see-ascii r 0 (y .1) (rw (y .0) (omega arith)) ∙ rw (y .0) refl
+    seeing .see-ascii r 0 (y .1) (rw (y .0) (omega arith)) ∙ rw (y .0) refl
 
 newline-seen : (b : ℕ) (xs : List ℕ) → lined (b ∷ xs) ≡ true → see (b ∷ xs) (length xs) ≡ Char 0x0A (suc (length xs))
 newline-seen b xs h =
     let y = sym (ap (λ (l : List ℕ). getD l (length xs) 0) (append-nil (b ∷ xs))) ∙ last-byte b xs [] 0 h in
-    see-ascii (b ∷ xs) (length xs) (omega arith) (rw y (omega arith)) ∙ rw y (ap (Char 0x0A) (omega arith))
+    seeing .see-ascii (b ∷ xs) (length xs) (omega arith) (rw y (omega arith)) ∙ rw y (ap (Char 0x0A) (omega arith))
 
 newline-clear : (b : ℕ) (xs : List ℕ) → lined (b ∷ xs) ≡ true → (i c n : ℕ) → see (b ∷ xs) i ≡ Char c n → i < length xs → n ≤ length xs
 newline-clear b xs h i c n e l =
     let z = last-split b xs h in
-    let f = see-front (z .0) (0x0A ∷ []) i refl (omega (arith, z .2)) in
+    let f = seeing .see-front (z .0) (0x0A ∷ []) i refl (omega (arith, z .2)) in
     let k : see (z .0) i ≡ Char c n = sym f ∙ sym (ap (λ (t : List ℕ). see t i) (z .1)) ∙ e in
-    omega (arith, see-ahead (z .0) i c n k, z .2)
+    omega (arith, seeing .see-ahead (z .0) i c n k, z .2)
 
 pub meet : (b : ℕ) (xs r : List ℕ) → lined (b ∷ xs) ≡ true → head r ≡ true → Meet (b ∷ xs) r (length xs)
 meet b xs r h k =
@@ -109,7 +108,8 @@ meet b xs r h k =
       clear = newline-clear b xs h;
       begins = head-fresh r k;
       at =
-          ap (see ((b ∷ xs) ++ r)) (sym x) ∙ see-up (b ∷ xs) r 0 ∙ ap (seenUp (suc (length xs))) (head-seen r k) ∙ ap (Char 0x40) (omega arith);
+          ap (see ((b ∷ xs) ++ r)) (sym x) ∙ seeing .see-up (b ∷ xs) r 0
+          ∙ ap (seenUp (suc (length xs))) (head-seen r k) ∙ ap (Char 0x40) (omega arith);
     }
 
 -- ---- boundaries
@@ -176,19 +176,19 @@ seen-back d c n (Char k m) e = let z : k ≡ c = cc in (m, ap (λ (i : ℕ). Cha
 
 pub file-back : (a s : List ℕ) (p q : ℕ) (rs : List Row) → file (a ++ s) (p + length a) ≡ ok q rs
     → (r : ℕ) × (ss : List Row) × (file s p ≡ ok r ss) × (q ≡ r + length a) × (rs ≡ moved (length a) ss)
-file-back a s p q rs e = shifted-ok (length a) q rs (file s p) (sym (from-start file-laws .shift a .moves s p) ∙ e)
+file-back a s p q rs e = shifted-ok (length a) q rs (file s p) (sym (strict-reading .moves a s p) ∙ e)
 
 pub opens-back : (a s : List ℕ) {i j : ℕ} (p e : ℕ) → Opens (a ++ s) i j → i ≡ p + length a → j ≡ e + length a → Opens s p e
 unfolding moved
 opens-back a s {i} {j} p e (here {n = n} w x) hi hj =
     let z = scan-found isWhitespace s p in
     let y = white-found s p (z .0) (z .1) in
-    let v = ap (white (a ++ s)) hi ∙ from-start white-laws .shift a .moves s p ∙ ap (shifted (length a)) y in
+    let v = ap (white (a ++ s)) hi ∙ strict-reading .moves-white a s p ∙ ap (shifted (length a)) y in
     let u : j ≡ z .0 + length a = ok-place (sym w ∙ v) in
     let t : z .0 ≡ e = omega arith in
-    let k = seen-back (length a) 0x40 n (see s e) (sym (see-up a s e) ∙ ap (see (a ++ s)) (sym hj) ∙ x) in
+    let k = seen-back (length a) 0x40 n (see s e) (sym (seeing .see-up a s e) ∙ ap (see (a ++ s)) (sym hj) ∙ x) in
     here (y ∙ ap (λ (m : ℕ). ok m []) t) (k .1)
 opens-back a s {i} {j} p e (later {q = q} {a = b} {rs = rs} t o) hi hj =
-    let y = sym (file-turn-laws {e = 0} {n = 0} 0 .shift a .moves s p) ∙ ap (fileTurn 0 (a ++ s)) (sym hi) ∙ t in
+    let y = sym (strict-reading .moves-turn a s p) ∙ ap (fileTurn 0 (a ++ s)) (sym hi) ∙ t in
     let z = shifted-again (length a) q b rs (fileTurn 0 s p) y in
     later (z .2) (opens-back a s (z .0) e o (z .3) hj)

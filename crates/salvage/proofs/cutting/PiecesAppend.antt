@@ -13,7 +13,7 @@ use mathlib.Core.List.{List, [], _∷_, _++_, append-assoc}
 use lib.ListN.{length, length-append}
 use Rattle.row.specs.Row.{Row, rowUp, moved}
 use Rattle.raw.specs.Read.{strict}
-use Rattle.row.proofs.numbers.Overlay.{moved-append}
+use Rattle.row.proofs.Laid.{laid}
 use Rattle.salvage.specs.Salvage.{head, newline, Texts, push, cut, told, pieces, salvageOf}
 use Rattle.salvage.specs.Demand3.{lined, fresh, joined}
 
@@ -97,7 +97,7 @@ moved-moved d e (r ∷ rs) =
     rw (x, y) (ap (λ (l : List Row). rowUp e (rowUp d r) ∷ l) (moved-moved d e rs))
 
 moved-front : (p d : ℕ) (rs ss : List Row) → moved (p + d) rs ++ moved d ss ≡ moved d (moved p rs ++ ss)
-moved-front p d rs ss = ap (λ (l : List Row). l ++ moved d ss) (moved-moved p d rs) ∙ sym (moved-append d (moved p rs) ss)
+moved-front p d rs ss = ap (λ (l : List Row). l ++ moved d ss) (moved-moved p d rs) ∙ sym (laid .moved-append d (moved p rs) ss)
 
 pub pieces-move : (p d : ℕ) (ws : Texts) → pieces (p + d) ws ≡ moved d (pieces p ws)
 unfolding pieces moved

@@ -13,18 +13,17 @@ use lib.ListN.{length, length-append}
 use Rattle.text.specs.Class.{whiteSpace, isWhitespace}
 use Rattle.text.specs.Scan.{see, Inside}
 use Rattle.text.specs.declared.scanner.Seen.the-variants.{End, Char}
-use Rattle.text.proofs.scanning.Seen.{see-end, see-inside}
-use Rattle.text.proofs.scanning.LongerText.{see-ahead, see-front}
+use Rattle.text.proofs.Seeing.{seeing}
 use Rattle.row.specs.declared.fault.Fault.{Fault}
 use Rattle.row.specs.Row.{Row}
 use Rattle.raw.specs.Reader.{Out, ok, again, bad, more, after}
 use Rattle.raw.specs.Grammar.{white, fileTurn, file}
 use Rattle.raw.specs.Strict.{Fresh}
-use Rattle.raw.proofs.readers.Then.{more-none}
-use Rattle.raw.proofs.Strict.{file-turn}
+use Rattle.raw.proofs.Strict.{strict-reading}
+use Rattle.raw.proofs.Steps.{steps}
 use Rattle.salvage.specs.Demand3.{Opens, here, later}
 use Rattle.salvage.proofs.cutting.ScanEnd.{Halts, Clear, Scanned, ok-place, scan-found, white-found, white-scanned, white-stays}
-use Rattle.salvage.proofs.cutting.TurnBeforeCut.{item, turn-white, turn-ahead, item-ok, Alike, white-cut, turn-cut}
+use Rattle.salvage.proofs.cutting.TurnBeforeCut.{item, turn-white, item-ok, Alike, white-cut, turn-cut}
 
 -- ---- answers
 
@@ -52,14 +51,14 @@ more-ok rs (bad f) q us e = bad-not-ok q us f e
 file-here : (s : List ℕ) (p q : ℕ) → white s p ≡ ok q [] → file s p ≡ file s q
 file-here s p q e =
     let w : white s q ≡ ok q [] = white-stays s q (white-scanned s p q e .halts) in
-    file-turn s p ∙ ap (λ (o : Out). after o (λ a q. file s q)) (turn-white s p q e ∙ sym (turn-white s q q w)) ∙ sym (file-turn s q)
+    strict-reading .turns s p ∙ ap (λ (o : Out). after o (λ a q. file s q)) (turn-white s p q e ∙ sym (turn-white s q q w)) ∙ sym (strict-reading .turns s q)
 
 file-later : (s : List ℕ) (p q a : ℕ) (rs : List Row) → fileTurn 0 s p ≡ again q rs a → file s p ≡ more rs (file s q)
-file-later s p q a rs e = file-turn s p ∙ ap (λ (o : Out). after o (λ c q. file s q)) e
+file-later s p q a rs e = strict-reading .turns s p ∙ ap (λ (o : Out). after o (λ c q. file s q)) e
 
 pub opens-from : {s : List ℕ} {p e : ℕ} → Opens s p e → p ≤ e
 opens-from {s} {p} {e} (here w x) = white-scanned s p e w .from
-opens-from {s} {p} {e} (later {q = q} {a = a} {rs = rs} t o) = omega (arith, opens-from o, turn-ahead s p q a rs t)
+opens-from {s} {p} {e} (later {q = q} {a = a} {rs = rs} t o) = omega (arith, opens-from o, strict-reading .ahead s p q a rs t)
 
 -- ---- the two texts
 
@@ -72,17 +71,17 @@ pub record Meet (a s : List ℕ) (k : ℕ) : Type 0 where
 
 module _ (a s : List ℕ) (k : ℕ) (m : Meet a s k) where
   same : (i : ℕ) → i < suc k → see a i ≡ see (a ++ s) i
-  same i h = sym (see-front a s i (m .begins) (omega (arith, m .size)))
+  same i h = sym (seeing .see-front a s i (m .begins) (omega (arith, m .size)))
 
   stops : Halts isWhitespace (see (a ++ s) (suc k))
   unfolding isWhitespace whiteSpace
   stops = rw (m .at) refl
 
   ended : see a (suc k) ≡ End
-  ended = see-end a (suc k) (omega (arith, m .size))
+  ended = seeing .see-end a (suc k) (omega (arith, m .size))
 
   clear-end : Clear a (suc k)
-  clear-end i c n e h = omega (arith, m .size, see-ahead a i c n e)
+  clear-end i c n e h = omega (arith, m .size, seeing .see-ahead a i c n e)
 
   longer : suc k ≤ length (a ++ s)
   longer = omega (arith, length-append a s, m .size)
@@ -125,7 +124,7 @@ module _ (a s : List ℕ) (k : ℕ) (m : Meet a s k) where
         let y : Scanned isWhitespace a p (z .0) = z .1 in
         let w = white-found a p (z .0) y in
         let g = item-ok a (z .0) i rs (sym (turn-white a p (z .0) w) ∙ d) in
-        let past : length a ≤ z .0 = subst (Inside a (z .0)) (g .0) (see-inside a (z .0)) in
+        let past : length a ≤ z .0 = subst (Inside a (z .0)) (g .0) (seeing .see-inside a (z .0)) in
         let most : z .0 ≤ suc k = y .least (suc k) h clear-end (rw ended tt) in
         let n : z .0 ≡ suc k = omega (arith, m .size) in
         w ∙ ap (λ (n : ℕ). ok n []) n
@@ -136,16 +135,16 @@ module _ (a s : List ℕ) (k : ℕ) (m : Meet a s k) where
     last-through : Through p rs
     last-through =
         let v = white-cut there p (suc k) last-white h (omega arith) in
-        (rw last-rows (file-here (a ++ s) p (suc k) v ∙ sym (more-none (file (a ++ s) (suc k)))), here v (m .at))
+        (rw last-rows (file-here (a ++ s) p (suc k) v ∙ sym (steps .more-none (file (a ++ s) (suc k)))), here v (m .at))
 
   through-step : (p q : ℕ) (us : List Row) → p ≤ suc k → file a p ≡ ok q us
       → ((i : ℕ) (ss : List Row) → p < i → i ≤ suc k → file a i ≡ ok q ss → Through i ss) → Through p us
-  through-step p q us h e ih = go (fileTurn 0 a p) refl (sym (file-turn a p) ∙ e)
+  through-step p q us h e ih = go (fileTurn 0 a p) refl (sym (strict-reading .turns a p) ∙ e)
     where
       go : (o : Out) → fileTurn 0 a p ≡ o → after o (λ b i. file a i) ≡ ok q us → Through p us
       go (ok i rs) d f = subst (Through p) (ok-rows f) (last-through p i rs h d)
       go (again i rs b) d f =
-          let j = turn-ahead a p i b rs d in
+          let j = strict-reading .ahead a p i b rs d in
           let l : i ≤ suc k = omega (arith, m .size) in
           let t = turn-cut there p i b rs d l in
           let x = more-ok rs (file a i) q us f in
@@ -174,7 +173,7 @@ module _ (a s : List ℕ) (k : ℕ) (m : Meet a s k) where
   split-by {p} {e} q us (here w x) c f =
       let v : white (a ++ s) p ≡ ok (suc k) [] = w ∙ ap (λ (n : ℕ). ok n []) c in
       let y = white-cut back p (suc k) v (white-scanned (a ++ s) p (suc k) v .from) (omega arith) in
-      let z = file-turn a p ∙ ap (λ (o : Out). after o (λ c q. file a q)) (turn-white a p (suc k) y ∙ item-end) in
+      let z = strict-reading .turns a p ∙ ap (λ (o : Out). after o (λ c q. file a q)) (turn-white a p (suc k) y ∙ item-end) in
       ([], us, z, sym (file-here (a ++ s) p (suc k) v) ∙ f, refl)
   split-by {p} {e} q us (later {q = i} {a = b} {rs = rs} t o) c f =
       let l : i ≤ e = opens-from o in

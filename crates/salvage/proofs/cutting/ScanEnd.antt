@@ -15,12 +15,11 @@ use Rattle.text.specs.Class.{isWhitespace}
 use Rattle.text.specs.Scan.{see}
 use Rattle.text.specs.declared.scanner.Seen.{Seen}
 use Rattle.text.specs.declared.scanner.Seen.the-variants.{End, Char}
-use Rattle.text.proofs.scanning.LongerText.{see-ahead}
+use Rattle.text.proofs.Seeing.{seeing}
 use Rattle.row.specs.Row.{Row}
 use Rattle.raw.specs.Reader.{ok, more, after, eaten, stop, turn, many, scanTurn, scan}
 use Rattle.raw.specs.Grammar.{white}
-use Rattle.raw.proofs.readers.Loop.{many-turn}
-use Rattle.raw.proofs.readers.Scans.{scan-turn-kept}
+use Rattle.raw.proofs.Steps.{steps}
 
 -- a scan of class t stops here
 abbrev pub Halts : (ℕ → Bool) → Seen → Type 0
@@ -46,7 +45,7 @@ ok-place e = cc
 
 module _ (t : ℕ → Bool) (s : List ℕ) where
   scan-turned : (p : ℕ) → scan {P = Row} t s p ≡ after (eaten t (see s p) (turn 0 s) (stop s p)) (λ b q. many (scanTurn t) b s q)
-  scan-turned p = many-turn (scan-turn-kept t) 0 s p
+  scan-turned p = steps .scans t s p
 
   -- a scan that is stopped at once eats nothing
   pub scan-stays : (p : ℕ) → Halts t (see s p) → scan {P = Row} t s p ≡ ok p []
@@ -68,7 +67,7 @@ module _ (t : ℕ → Bool) (s : List ℕ) where
 
     passed : (q : ℕ) × Scanned t s m q → (q : ℕ) × Scanned t s p q
     passed z =
-        let i = see-ahead s p c m d in
+        let i = seeing .see-ahead s p c m d in
         let y : Scanned t s m (z .0) = z .1 in
         let e₁ = scan-turned p in
         let e₂ : scan {P = Row} t s p ≡ more [] (scan t s m) = rw (d, k) at e₁ in (
@@ -90,7 +89,7 @@ module _ (t : ℕ → Bool) (s : List ℕ) where
         where
           by : (b : Bool) → t c ≡ b → (q : ℕ) × Scanned t s p q
           by false k = stayed p (rw d k)
-          by true k = let i = see-ahead s p c m d in passed p c m d k (ih m (i .0) (i .1))
+          by true k = let i = seeing .see-ahead s p c m d in passed p c m d k (ih m (i .0) (i .1))
 
   scan-by : (n p : ℕ) → length s ≤ p + n → (q : ℕ) × Scanned t s p q
   scan-by zero p h = scan-step p (λ m a b. absurd (omega arith))

@@ -1,7 +1,7 @@
 -- One turn of strict reading is white space, and then an item. Two texts may show the same up to and with a newline, where one of them is
 -- cut. A turn that ends there or before answers the same on both.
 --     item, turn-white, item-ok     an item; a turn is the item after the white space; the last item is the end
---     turn-ahead, item-ahead        a turn that goes on goes on inside the text
+--     item-ahead                    an item after which the file goes on ends inside the text
 --     Alike                         the two texts
 --     white-cut, turn-cut           white space, and a turn, on both
 -- Assumes nothing.
@@ -22,12 +22,9 @@ use Rattle.text.specs.declared.class.Test.the-variants as test
 use Rattle.row.specs.Row.{Row}
 use Rattle.raw.specs.Reader.{Out, ok, again, bad, Reader, andThen, eaten, stop, turn}
 use Rattle.raw.specs.Grammar.{is, any, white, comment, entry, fileTurn}
-use Rattle.raw.specs.Strict.{Same}
-use Rattle.raw.proofs.readers.Kept.{Stops, Advances}
-use Rattle.raw.proofs.readers.Then.{more-none}
-use Rattle.raw.proofs.grammar.Readers.{from-start, white-laws, comment-laws}
-use Rattle.raw.proofs.grammar.Entries.{entry-kept}
-use Rattle.raw.proofs.grammar.Files.{file-turn-kept}
+use Rattle.raw.specs.Strict.{Same, Stops}
+use Rattle.raw.proofs.Strict.{strict-reading}
+use Rattle.raw.proofs.Steps.{steps}
 use Rattle.salvage.proofs.cutting.ScanEnd.{Halts, Clear, Scanned, true-not-false, ok-place, scan-found, white-found, white-stays}
 
 -- ---- after the white space
@@ -44,16 +41,10 @@ item s p = itemBy s p (see s p)
 
 pub turn-white : (s : List ℕ) (p q : ℕ) → white s p ≡ ok q [] → fileTurn 0 s p ≡ item s q
 unfolding fileTurn
-turn-white s p q e = ap (λ (o : Out). andThen o (item s)) e ∙ more-none (item s q)
-
--- a turn that is not the last goes on, inside the text
-pub turn-ahead : (s : List ℕ) (p q a : ℕ) (rs : List Row) → fileTurn 0 s p ≡ again q rs a → (p < q) × (q ≤ max p (length s))
-turn-ahead s p q a rs e =
-    let y : Advances 1 0 p (length s) (again q rs a) = subst (Advances 1 0 p (length s)) e (file-turn-kept 0 .advances s p) in
-    (omega arith, omega arith)
+turn-white s p q e = ap (λ (o : Out). andThen o (item s)) e ∙ steps .more-none (item s q)
 
 pub item-ahead : (s : List ℕ) (p q a : ℕ) (rs : List Row) → Halts isWhitespace (see s p) → item s p ≡ again q rs a → (p < q) × (q ≤ max p (length s))
-item-ahead s p q a rs h e = turn-ahead s p q a rs (turn-white s p p (white-stays s p h) ∙ e)
+item-ahead s p q a rs h e = strict-reading .ahead s p q a rs (turn-white s p p (white-stays s p h) ∙ e)
 
 turned-not-ok : (q a r : ℕ) (o : Out) (rs : List Row) {X : Type 0} → andThen o (λ p. again p [] a) ≡ ok q rs → X
 turned-not-ok q a r (ok p ss) rs e = let z : _≡_ {A = ℕ} 0 1 = cc in absurd (omega arith)
@@ -112,13 +103,13 @@ module _ {s t : List ℕ} {k : ℕ} (m : Alike s t k) where
       w = white-found t p r (z .1)
 
       by : (q ≡ suc k) ⊎ (q < suc k) → white t p ≡ ok q []
-      by (inr l) = from-start white-laws .core .kept .local s t p q (ends (white s p) q a) (omega (arith, m .second)) (λ i u v. m .same i (omega arith)) ∙ a
+      by (inr l) = strict-reading .whites s t p q (ends (white s p) q a) (omega (arith, m .second)) (λ i u v. m .same i (omega arith)) ∙ a
       by (inl e) = w ∙ ap (λ (n : ℕ). ok n []) (at-end (eq-or-lt-of-le (z .1 .least (suc k) g (m .clear) (m .halts))))
         where
           at-end : (r ≡ suc k) ⊎ (r < suc k) → r ≡ q
           at-end (inl d) = omega arith
           at-end (inr d) =
-              let b = from-start white-laws .core .kept .local t s p r (ends (white t p) r w) (omega (arith, m .first)) (λ i u v. sym (m .same i (omega arith))) in
+              let b = strict-reading .whites t s p r (ends (white t p) r w) (omega (arith, m .first)) (λ i u v. sym (m .same i (omega arith))) in
               ok-place (sym (b ∙ w) ∙ a)
 
   -- a comment ends before the newline
@@ -139,7 +130,7 @@ module _ {s t : List ℕ} {k : ℕ} (m : Alike s t k) where
   pub item-cut : (p q : ℕ) → p < suc k → Stops (item s p) q → q ≤ suc k → item t p ≡ item s p
   item-cut p q h x y = rw (← m .same p h) (go (see s p) refl x)
     where
-      inside : Same s t p (q + 0)
+      inside : Same s t p q
       inside i a b = m .same i (omega arith)
 
       go : (z : Seen) → see s p ≡ z → Stops (itemBy s p z) q → itemBy t p z ≡ itemBy s p z
@@ -152,12 +143,12 @@ module _ {s t : List ℕ} {k : ℕ} (m : Alike s t k) where
           by : (b b′ : Bool) → holdsOf test.Percent c ≡ b′ → Stops (on s b b′) q → on t b b′ ≡ on s b b′
           by true b′ e x =
               let x′ = turned-stops (entry s p) 0 q x in
-              ap (λ (o : Out). andThen o (turn 0 s)) (entry-kept .local s t p q x′ (omega (arith, m .second)) inside)
+              ap (λ (o : Out). andThen o (turn 0 s)) (strict-reading .entries s t p q x′ (omega (arith, m .second)) inside)
           by false true e x =
               let x′ = turned-stops (comment s p) 0 q x in
               let l : q ≤ k = comment-cut p q c n d e h x′ in
               let same : Same s t p (q + 1) = λ i a b. m .same i (omega arith) in
-              ap (λ (o : Out). andThen o (turn 0 s)) (from-start comment-laws .core .kept .local s t p q x′ (omega (arith, m .second)) same)
+              ap (λ (o : Out). andThen o (turn 0 s)) (strict-reading .comments s t p q x′ (omega (arith, m .second)) same)
           by false false e x = refl
 
   pub turn-cut : (p q a : ℕ) (rs : List Row) → fileTurn 0 s p ≡ again q rs a → q ≤ suc k → fileTurn 0 t p ≡ again q rs a

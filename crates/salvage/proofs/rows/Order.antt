@@ -18,11 +18,10 @@ use Rattle.row.specs.Limits.{mostBytes}
 use Rattle.raw.specs.Read.{strict}
 use Rattle.row.specs.Rules.{isRows, run, next}
 use Rattle.raw.specs.Strict.{Rising}
-use Rattle.raw.proofs.readers.Spans.{rising-less}
+use Rattle.raw.proofs.Steps.{steps}
 use Rattle.raw.proofs.Strict.{strict-reading}
-use Rattle.raw.proofs.StrictSteps.{strict-bad, strict-spans}
-use Rattle.row.proofs.numbers.Spans.{spans-more, spans-append, spans-moved}
-use Rattle.row.proofs.rules.Append.{rows-append, rows-moved}
+use Rattle.row.proofs.Laid.{laid}
+use Rattle.row.proofs.Ruled.{ruled}
 use Rattle.salvage.specs.Salvage.{Texts, cause, damaged, told, pieces}
 use Rattle.salvage.specs.Demand3.{joined}
 use Rattle.salvage.proofs.rows.EachPiece.{told-by}
@@ -36,7 +35,7 @@ damaged-rules w f h k = rw (le-leb 2 (numberOf (f .reason)) h, le-leb (numberOf 
 told-rules : (w : List ℕ) → length w ≤ mostBytes → isRows (told w (strict w)) ≡ true
 told-rules w h =
     told-by w (λ rs. isRows rs ≡ true) (λ q rs e. strict-reading .accepts w q rs e .rules)
-    (λ f e. damaged-rules w f (strict-bad w h f e) (strict-reading .refuses w f e .number .1))
+    (λ f e. damaged-rules w f (steps .strict-bad w h f e) (strict-reading .refuses w f e .number .1))
 
 pub pieces-rules : (p : ℕ) (ws : Texts) → length (joined ws) ≤ mostBytes → isRows (pieces p ws) ≡ true
 unfolding pieces joined isRows run
@@ -44,14 +43,15 @@ pieces-rules p [] h = refl
 pieces-rules p (w ∷ ws) h =
     let l = length-append w (joined ws) in
     let rs = told w (strict w) in
-    rows-append (moved p rs) (pieces (p + length w) ws) (rows-moved p rs ∙ told-rules w (omega arith)) (pieces-rules (p + length w) ws (omega arith))
+    ruled .rows-append (moved p rs) (pieces (p + length w) ws) (ruled .rows-moved p rs ∙ told-rules w (omega arith))
+    (pieces-rules (p + length w) ws (omega arith))
 
 -- ---- spans
 
 told-spans : (w : List ℕ) → SpansIn (length w) (told w (strict w))
 unfolding SpansIn
 told-spans w =
-    told-by w (SpansIn (length w)) (strict-spans w)
+    told-by w (SpansIn (length w)) (steps .strict-spans w)
     (λ f e.
     let r = strict-reading .refuses w f e in
     let c : SpanIn (length w) (cause f) = record { order = omega (arith, r .empty); inside = omega (arith, r .place, r .empty) } in
@@ -64,9 +64,9 @@ pieces-spans p (w ∷ ws) =
     let l = length-append w (joined ws) in
     let n = p + length (w ++ joined ws) in
     let rs = told w (strict w) in
-    spans-append n (moved p rs) (pieces (p + length w) ws)
-    (spans-more (length w + p) n (moved p rs) (omega arith) (spans-moved p (length w) rs (told-spans w)))
-    (spans-more (p + length w + length (joined ws)) n (pieces (p + length w) ws) (omega arith) (pieces-spans (p + length w) ws))
+    laid .spans-append n (moved p rs) (pieces (p + length w) ws)
+    (laid .spans-more (length w + p) n (moved p rs) (omega arith) (laid .spans-moved p (length w) rs (told-spans w)))
+    (laid .spans-more (p + length w + length (joined ws)) n (pieces (p + length w) ws) (omega arith) (pieces-spans (p + length w) ws))
 
 -- ---- starts
 
@@ -78,7 +78,7 @@ rising-moved d n (r ∷ rs) x = (omega (arith, x .0), rising-moved d (r .start) 
 -- rows that lie before m, and then rows that start from m on
 rising-append : (n m : ℕ) (rs ss : List Row) → n ≤ m → Rising n rs → SpansIn m rs → Rising m ss → Rising n (rs ++ ss)
 unfolding Rising SpansIn
-rising-append n m [] ss h x y z = rising-less n m ss h z
+rising-append n m [] ss h x y z = steps .rising-less n m ss h z
 rising-append n m (r ∷ rs) ss h x y z =
     (x .0, rising-append (r .start) m rs ss (omega (arith, y .0 .order, y .0 .inside)) (x .1) (y .1) z)
 
@@ -92,6 +92,6 @@ pieces-rising p [] = tt
 pieces-rising p (w ∷ ws) =
     let rs = told w (strict w) in
     rising-append p (p + length w) (moved p rs) (pieces (p + length w) ws) (omega arith)
-    (rising-less p (0 + p) (moved p rs) (omega arith) (rising-moved p 0 rs (told-rising w)))
-    (spans-more (length w + p) (p + length w) (moved p rs) (omega arith) (spans-moved p (length w) rs (told-spans w)))
+    (steps .rising-less p (0 + p) (moved p rs) (omega arith) (rising-moved p 0 rs (told-rising w)))
+    (laid .spans-more (length w + p) (p + length w) (moved p rs) (omega arith) (laid .spans-moved p (length w) rs (told-spans w)))
     (pieces-rising (p + length w) ws)

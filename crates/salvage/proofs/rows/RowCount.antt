@@ -19,7 +19,7 @@ use Rattle.raw.specs.Reader.{ok, bad, loop, many}
 use Rattle.raw.specs.Grammar.{white, fileTurn, file}
 use Rattle.raw.specs.Read.{strict}
 use Rattle.raw.proofs.Strict.{strict-reading}
-use Rattle.row.proofs.numbers.Overlay.{moved-length}
+use Rattle.row.proofs.Laid.{laid}
 use Rattle.salvage.specs.Salvage.{head, newline, Texts, push, cut, told, pieces, salvageOf}
 use Rattle.salvage.specs.Demand3.{joined}
 use Rattle.salvage.proofs.cutting.PiecesAppend.{joined-cut}
@@ -85,12 +85,12 @@ pieces-few p (last b w) =
     let v = b ∷ w in
     let rs = told v (strict v) in
     let l = told-few v (suc (length v)) (omega arith) (λ f e. omega arith) in
-    omega (arith, moved-length p rs, length-append (moved p rs) [], length-append v [])
+    omega (arith, laid .moved-length p rs, length-append (moved p rs) [], length-append v [])
 pieces-few p (more {w} {ws} x l) =
     let rs = told w (strict w) in
     let h = line-few x in
     let k = pieces-few (p + length w) l in
-    omega (arith, moved-length p rs, length-append (moved p rs) (pieces (p + length w) ws), length-append w (joined ws))
+    omega (arith, laid .moved-length p rs, length-append (moved p rs) (pieces (p + length w) ws), length-append w (joined ws))
 
 pub salvage-few : (s : List ℕ) → length (salvageOf s) ≤ suc (length s)
 unfolding salvageOf

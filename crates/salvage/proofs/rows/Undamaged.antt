@@ -13,7 +13,7 @@ use Rattle.text.specs.Walk.{walkFrom}
 use Rattle.text.specs.Utf8.{Octets, validityOf}
 use Rattle.text.specs.Scan.{seeFrom}
 use Rattle.text.proofs.general.Tests.{both-true}
-use Rattle.text.proofs.sequences.Octets.{octets-append}
+use Rattle.text.proofs.Shapes.{shapes}
 use Rattle.row.specs.Row.{Row, moved}
 use Rattle.raw.specs.Reader.{ok, more, loop, many}
 use Rattle.raw.specs.Grammar.{white, fileTurn, file}
@@ -21,12 +21,10 @@ use Rattle.row.specs.Limits.{mostBytes}
 use Rattle.raw.specs.Read.{strict}
 use Rattle.row.specs.Rules.{clean}
 use Rattle.raw.specs.Strict.{shifted}
-use Rattle.raw.proofs.grammar.Readers.{from-start}
-use Rattle.raw.proofs.grammar.Files.{file-laws}
 use Rattle.raw.proofs.Strict.{strict-reading}
-use Rattle.raw.proofs.StrictSteps.{strict-ok, strict-is}
-use Rattle.row.proofs.numbers.Overlay.{moved-none}
-use Rattle.row.proofs.rules.Append.{clean-append, clean-moved}
+use Rattle.raw.proofs.Steps.{steps}
+use Rattle.row.proofs.Laid.{laid}
+use Rattle.row.proofs.Ruled.{ruled}
 use Rattle.salvage.specs.Salvage.{head, cut, told, pieces, salvageOf}
 use Rattle.salvage.specs.Demand3.{lined, Boundary, first, line, Opens, Whole}
 use Rattle.salvage.proofs.cutting.ScanEnd.{true-not-false}
@@ -45,7 +43,7 @@ told-ok w = told-by w (λ rs. clean rs ≡ true → (q : ℕ) × (strict w ≡ o
 
 salvage-front : (s w r : List ℕ) → cut s ≡ w ∷ cut r → salvageOf s ≡ told w (strict w) ++ moved (length w) (salvageOf r)
 unfolding salvageOf pieces
-salvage-front s w r e = rw e (ap₂ (λ (x y : List Row). x ++ y) (moved-none (told w (strict w))) (pieces-move 0 (length w) (cut r)))
+salvage-front s w r e = rw e (ap₂ (λ (x y : List Row). x ++ y) (laid .moved-none (told w (strict w))) (pieces-move 0 (length w) (cut r)))
 
 salvage-none : (r : List ℕ) (d : ℕ) → r ≡ [] → moved d (salvageOf r) ≡ []
 unfolding salvageOf pieces cut moved
@@ -53,7 +51,7 @@ salvage-none r d e = ap (λ (l : List ℕ). moved d (salvageOf l)) e
 
 -- reading two texts from the second on is reading the second, moved
 rest : (a s : List ℕ) (k : ℕ) → length a ≡ suc k → file (a ++ s) (suc k) ≡ shifted (length a) (file s 0)
-rest a s k e = let x : suc k ≡ 0 + length a = omega arith in ap (file (a ++ s)) x ∙ from-start file-laws .shift a .moves s 0
+rest a s k e = let x : suc k ≡ 0 + length a = omega arith in ap (file (a ++ s)) x ∙ strict-reading .moves a s 0
 
 empty : strict [] ≡ ok 0 (salvageOf [])
 unfolding strict validityOf walkFrom file loop many fileTurn white seeFrom salvageOf pieces cut
@@ -101,13 +99,13 @@ module _ (b : ℕ) (s : List ℕ) where
   both-accepted : length (b ∷ s) ≤ mostBytes → (lined w ≡ true) × (head r ≡ true)
       → Accepts w (told w (strict w)) → Accepts r (salvageOf r) → Accepts (b ∷ s) (salvageOf (b ∷ s))
   both-accepted h m x y =
-      let u = strict-ok w (x .0) (told w (strict w)) (x .1) in
-      let v = strict-ok r (y .0) (salvageOf r) (y .1) in
-      let o : Octets (b ∷ s) = subst Octets (sym whole) (octets-append (u .1) (v .1)) in
+      let u = steps .strict-ok w (x .0) (told w (strict w)) (x .1) in
+      let v = steps .strict-ok r (y .0) (salvageOf r) (y .1) in
+      let o : Octets (b ∷ s) = subst Octets (sym whole) (shapes .octets-append (u .1) (v .1)) in
       let t = through w r (length (f .0)) (meet b (f .0) r (m .0) (m .1)) (x .0) (told w (strict w)) (u .2) in
       let g = rest w r (length (f .0)) refl ∙ ap (shifted (length w)) (v .2) in
       let z = t .0 ∙ ap (more (told w (strict w))) g ∙ ap (ok (y .0 + length w)) (sym rows) in
-      (y .0 + length w, strict-is (b ∷ s) h o ∙ ap (λ (l : List ℕ). file l 0) whole ∙ z)
+      (y .0 + length w, steps .strict-is (b ∷ s) h o ∙ ap (λ (l : List ℕ). file l 0) whole ∙ z)
 
   accepts-step : length (b ∷ s) ≤ mostBytes
       → ((t : List ℕ) → length t ≤ length s → clean (salvageOf t) ≡ true → Accepts t (salvageOf t))
@@ -117,14 +115,14 @@ module _ (b : ℕ) (s : List ℕ) where
       halves : (clean (told w (strict w)) ≡ true) × (clean (moved (length w) (salvageOf r)) ≡ true)
       halves =
           both-true (clean (told w (strict w))) (clean (moved (length w) (salvageOf r)))
-          (sym (ap clean rows ∙ clean-append (told w (strict w)) (moved (length w) (salvageOf r))) ∙ k)
+          (sym (ap clean rows ∙ ruled .clean-append (told w (strict w)) (moved (length w) (salvageOf r))) ∙ k)
 
       o : Accepts w (told w (strict w))
       o = told-ok w (halves .0)
 
       by : Seam w r → Accepts (b ∷ s) (salvageOf (b ∷ s))
       by (inl e) = (o .0, strict-alone e ∙ o .1 ∙ ap (ok (o .0)) (sym (rows-alone e)))
-      by (inr m) = both-accepted h m o (ih r shorter (sym (clean-moved (length w) (salvageOf r)) ∙ halves .1))
+      by (inr m) = both-accepted h m o (ih r shorter (sym (ruled .clean-moved (length w) (salvageOf r)) ∙ halves .1))
 
   -- ---- the whole accepted
 
@@ -132,7 +130,7 @@ module _ (b : ℕ) (s : List ℕ) where
   both-same : (m : (lined w ≡ true) × (head r ≡ true)) (rs : List Row) → strict (b ∷ s) ≡ ok (length (b ∷ s)) rs
       → Opens (w ++ r) 0 (suc (length (f .0))) → ((ss : List Row) → strict r ≡ ok (length r) ss → salvageOf r ≡ ss) → salvageOf (b ∷ s) ≡ rs
   both-same m rs e p ih =
-      let u = strict-ok (b ∷ s) (length (b ∷ s)) rs e in
+      let u = steps .strict-ok (b ∷ s) (length (b ∷ s)) rs e in
       let o = octets-halves w r (head-fresh r (m .1)) (subst Octets whole (u .1)) in
       let v = sym (ap (λ (l : List ℕ). file l 0) whole) ∙ u .2 in
       let x = split w r (length (f .0)) (meet b (f .0) r (m .0) (m .1)) (length (b ∷ s)) rs p v in
@@ -141,9 +139,9 @@ module _ (b : ℕ) (s : List ℕ) where
       let l = length-append w r in
       let lw : length w ≤ mostBytes = omega (arith, u .0, ap length whole) in
       let lr : length r ≤ mostBytes = omega (arith, u .0, ap length whole) in
-      let z = strict-is r lr (o .1) ∙ y .2 in
+      let z = steps .strict-is r lr (o .1) ∙ y .2 in
       let i : salvageOf r ≡ y .1 = ih (y .1) (z ∙ ap (λ (n : ℕ). ok n (y .1)) (strict-reading .accepts r (y .0) (y .1) z .end)) in
-      rows ∙ ap₂ (λ (a c : List Row). a ++ c) (ap (told w) (strict-is w lw (o .0) ∙ x .2)) (ap (moved (length w)) i ∙ sym (y .4)) ∙ sym (x .4)
+      rows ∙ ap₂ (λ (a c : List Row). a ++ c) (ap (told w) (steps .strict-is w lw (o .0) ∙ x .2)) (ap (moved (length w)) i ∙ sym (y .4)) ∙ sym (x .4)
 
 accepts-by : (n : ℕ) (s : List ℕ) → length s ≤ n → length s ≤ mostBytes → clean (salvageOf s) ≡ true → Accepts s (salvageOf s)
 accepts-by zero [] h l k = (0, empty)
@@ -165,8 +163,8 @@ opened s l k (line e h g) =
     let r = p .2 in
     let n : length s ≡ length w + length r = ap length (p .3) ∙ length-append w r in
     let x = ap salvageOf (p .3) ∙ salvage-append w r (p .5) (head-opens r (p .6)) in
-    let y = both-true (clean (salvageOf w)) _ (sym (ap clean x ∙ clean-append (salvageOf w) (moved (length w) (salvageOf r))) ∙ k) in
-    let a = strict-ok w (length w) (salvageOf w) (accepts w (omega arith) (y .0)) in
+    let y = both-true (clean (salvageOf w)) _ (sym (ap clean x ∙ ruled .clean-append (salvageOf w) (moved (length w) (salvageOf r))) ∙ k) in
+    let a = steps .strict-ok w (length w) (salvageOf w) (accepts w (omega arith) (y .0)) in
     let t = through w r (length (p .1)) (meet (p .0) (p .1) r (p .5) (p .6)) (length w) (salvageOf w) (a .2) in
     subst₂ (λ (l : List ℕ) (n : ℕ). Opens l 0 (suc n)) (sym (p .3)) (p .4) (t .1)
 

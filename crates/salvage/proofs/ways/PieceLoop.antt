@@ -20,9 +20,8 @@ use Rattle.row.specs.Limits.{mostBytes}
 use Rattle.raw.specs.Read.{strict}
 use Rattle.row.specs.Rules.{clean}
 use Rattle.raw.specs.Strict.{Fresh}
-use Rattle.row.proofs.numbers.Overlay.{moved-length}
-use Rattle.row.proofs.numbers.Flat.{flat-append}
-use Rattle.row.proofs.rules.Append.{clean-append, clean-moved}
+use Rattle.row.proofs.Laid.{laid}
+use Rattle.row.proofs.Ruled.{ruled}
 use Rattle.salvage.specs.Salvage.{cut, told, pieces, salvageOf}
 use Rattle.salvage.specs.Demand3.{fresh}
 use Rattle.salvage.specs.Inner.{Ends, PieceToRead, tallyOf, Puts, ValidTo, Fills}
@@ -125,11 +124,11 @@ module _ (s b₀ b : List ℕ) (v p e n : ℕ) (sound : Bool) (c : Going s b₀ 
   left-count : n + length rs + length (left s e) ≡ length (salvageOf s)
   left-count =
       let l = length-append (moved p rs) (left s e) in
-      let m = moved-length p rs in
+      let m = laid .moved-length p rs in
       omega (arith, c .count, ap length left-piece)
 
   left-clean : clean (left s p) ≡ clean rs && clean (left s e)
-  left-clean = ap clean left-piece ∙ clean-append (moved p rs) (left s e) ∙ ap (λ (b : Bool). b && clean (left s e)) (clean-moved p rs)
+  left-clean = ap clean left-piece ∙ ruled .clean-append (moved p rs) (left s e) ∙ ap (λ (b : Bool). b && clean (left s e)) (ruled .clean-moved p rs)
 
   piece-valid : ValidTo s v → e ≤ v → Octets w × Octets (drop e (take v s))
   piece-valid k l =
@@ -162,7 +161,7 @@ module _ (s b₀ b : List ℕ) (v p e n : ℕ) (sound : Bool) (c : Going s b₀ 
         ∙ ap (λ (l : List ℕ). l ++ flat (left s e)) (put-front b y i (length rs * 4) (omega arith) (omega (arith, c .same, left-count)))
         ∙ ap₂ (λ (l : List ℕ) (o : ℕ). (take o b ++ l) ++ flat (left s e)) t j
         ∙ append-assoc (take (n * 4) b) (flat (moved p rs)) (flat (left s e))
-        ∙ ap (λ (l : List ℕ). take (n * 4) b ++ l) (sym (flat-append (moved p rs) (left s e)) ∙ ap flat (sym left-piece))
+        ∙ ap (λ (l : List ℕ). take (n * 4) b ++ l) (sym (laid .flat-append (moved p rs) (left s e)) ∙ ap flat (sym left-piece))
         ∙ c .rows l
 
     next : {m : ℕ} → m ≡ length rs → (a : Bool) → a && clean (left s e) ≡ clean (salvageOf s) → Going s b₀ (putMid i (length b - i) b y) v e (n + m) a

@@ -23,9 +23,8 @@ use Rattle.raw.specs.Read.{strict}
 use Rattle.row.specs.Rules.{clean}
 use Rattle.raw.specs.Says.{answerOf, Room, Says, Within}
 use Rattle.raw.proofs.Strict.{strict-reading}
-use Rattle.raw.proofs.StrictSteps.{strict-is}
-use Rattle.row.proofs.numbers.Overlay.{moved-length, overlay-fits}
-use Rattle.row.proofs.numbers.Flat.{flat-length}
+use Rattle.raw.proofs.Steps.{steps}
+use Rattle.row.proofs.Laid.{laid}
 use Rattle.salvage.specs.Salvage.{damaged, told}
 use Rattle.salvage.specs.Inner.{Puts, PieceToRead, DamageToWrite}
 use Rattle.salvage.specs.declared.piece.Tally.the-variants.{Sound, Damaged}
@@ -34,7 +33,7 @@ use Rattle.salvage.specs.declared.piece.Tally.the-variants.{Sound, Damag
 
 module _ (w : List ℕ) (base : ℕ) (b : List ℕ) {valid : Bool} (k : PieceToRead w base valid) where
   pub alone-known : valid ≡ true → {r : Answer} {b′ : List ℕ} → Says base (file w 0) 0 b r b′ → Says base (strict w) 0 b r b′
-  alone-known e {r} {b′} p = subst (λ (o : Out). Says base o 0 b r b′) (sym (strict-is w (omega (arith, k .file)) (k .known e))) p
+  alone-known e {r} {b′} p = subst (λ (o : Out). Says base o 0 b r b′) (sym (steps .strict-is w (omega (arith, k .file)) (k .known e))) p
 
 -- ---- `write_damage`
 
@@ -54,10 +53,10 @@ module _ (w : List ℕ) (base : ℕ) (b : List ℕ) (f : Fault) where
 overlay-front : (base : ℕ) (rs : List Row) (b : List ℕ) {b′ : List ℕ} → b′ ≡ overlay b 0 (moved base rs) → length rs * 4 ≤ length b
     → take (length rs * 4) b′ ≡ flat (moved base rs)
 overlay-front base rs b e h =
-    let m = moved-length base rs in
+    let m = laid .moved-length base rs in
     let l : length (moved base rs) ≤ length b / 4 = omega arith in
-    ap (take (length rs * 4)) (e ∙ overlay-fits (moved base rs) b l)
-    ∙ take-at (flat (moved base rs)) (drop (length (moved base rs) * 4) b) (length rs * 4) (omega (arith, flat-length (moved base rs)))
+    ap (take (length rs * 4)) (e ∙ laid .overlay-fits (moved base rs) b l)
+    ∙ take-at (flat (moved base rs)) (drop (length (moved base rs) * 4) b) (length rs * 4) (omega (arith, laid .flat-length (moved base rs)))
 
 module _ (w : List ℕ) {base : ℕ} {valid : Bool} (k : PieceToRead w base valid) (b : List ℕ) where
   pub piece-sound : {q n : ℕ} {r : Answer} {b′ : List ℕ} → r ≡ answer.Next q n → Says base (strict w) 0 b r b′ → Within (length w) 0 0 0 r

@@ -26,8 +26,8 @@ use Rattle.raw.specs.Grammar.{file}
 use Rattle.row.specs.Limits.{mostBytes}
 use Rattle.row.specs.Rules.{clean}
 use Rattle.raw.specs.Says.{Room, Says}
-use Rattle.raw.proofs.StrictSteps.{strict-ok}
-use Rattle.row.proofs.numbers.Overlay.{moved-none, overlay-fits}
+use Rattle.raw.proofs.Steps.{steps}
+use Rattle.row.proofs.Laid.{laid}
 use Rattle.salvage.specs.Salvage.{salvageOf, salvaged, Salvage}
 use Rattle.salvage.specs.Inner.{ValidTo, Counted, Fills}
 use Rattle.salvage.specs.declared.piece.Tally.{Tally}
@@ -68,9 +68,9 @@ module _ (s b : List ℕ) {n : ℕ} (c : Counted s n) where
       → Salvage s b (reading.Rows n) b′
   salvage-strictly k l {r} {b′} p =
       let rs = salvageOf s in
-      let e : file s 0 ≡ ok (length s) rs = strict-ok s (length s) rs (accepts s (c .short) k) .2 in
+      let e : file s 0 ≡ ok (length s) rs = steps .strict-ok s (length s) rs (accepts s (c .short) k) .2 in
       let o : b′ ≡ overlay b 0 (moved 0 rs) = subst (λ (o : Out). Room 0 o 0 b b′) e (p .room) in
-      fits l (o ∙ ap (overlay b 0) (moved-none rs) ∙ overlay-fits rs b (omega (arith, c .rows)))
+      fits l (o ∙ ap (overlay b 0) (laid .moved-none rs) ∙ laid .overlay-fits rs b (omega (arith, c .rows)))
 
   -- the pieces were lent just the numbers that the rows need
   pub salvage-fills : n ≤ length b / 4 → {r : Tally} {y : List ℕ} → Fills s (take (n * 4) b) r y

@@ -1,18 +1,37 @@
--- What tests say: both of two, and tests that only ASCII passes.
+-- What tests say: of two, of a range, of two numbers; and tests that only ASCII passes.
 --     both-true       a test of two holds, and so does each
+--     beq-eq          tests that compare as equal are
+--     within-true     a number that passes the test of a range lies in it
+--     told-apart      numbers of which one passes a test and one does not are two
 --     narrow-is       no character behind ASCII is a given one of ASCII
 --     narrow-or       two tests that only ASCII passes, taken together
 -- Assumes nothing.
 use Prim.Native.Nat.{ℕ, _≤_, _<_}
 use native.Mathlib.Omega.{arith}
-use mathlib.Core.Path.{_≡_, refl}
-use mathlib.Core.Bool.{Bool, true, false, _&&_, _||_}
-use lib.Dec.{eqb}
-use borrow.Author.Tests.{ne-eqb}
+use mathlib.Core.Path.{_≡_, refl, sym, ap, _∙_}
+use mathlib.Core.Bool.{Bool, true, false, cond, _&&_, _||_, Bool·beq}
+use lib.Dec.{T, eqb, leb}
+use borrow.Author.Tests.{ne-eqb, leb-true}
+use Rattle.text.specs.Range.{Range, within}
 
 pub both-true : (a b : Bool) → (a && b) ≡ true → (a ≡ true) × (b ≡ true)
 both-true true b e = (refl, e)
 both-true false b e = let z : _≡_ {A = ℕ} 0 1 = cc in absurd (omega arith)
+
+pub beq-eq : (a b : Bool) → T (Bool·beq a b) → a ≡ b
+beq-eq true true t = refl
+beq-eq true false t = absurd t
+beq-eq false true t = absurd t
+beq-eq false false t = refl
+
+pub within-true : (r : Range) (b : ℕ) → within r b ≡ true → (r .first ≤ b) × (b ≤ r .last)
+within-true r b e = let h = both-true (leb (r .first) b) (leb b (r .last)) e in (leb-true _ _ (h .0), leb-true _ _ (h .1))
+
+pub told-apart : (t : ℕ → Bool) (y : ℕ) → t y ≡ true → {b : ℕ} → t b ≡ false → b ≡ y → ⊥
+told-apart t y h {b} f e =
+    let q : t b ≡ true = ap t e ∙ h in
+    let z : _≡_ {A = ℕ} 0 1 = ap (λ (c : Bool). cond c 0 1) (sym q ∙ f) in
+    absurd (omega arith)
 
 pub narrow-is : (k : ℕ) → k < 0x80 → (c : ℕ) → 0x80 ≤ c → eqb c k ≡ false
 narrow-is k h c l = ne-eqb c k (λ e. omega arith)

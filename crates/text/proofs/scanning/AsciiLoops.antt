@@ -8,7 +8,7 @@
 use mathlib.Core.Path.{_≡_, refl, sym, ap, _∙_, subst}
 use mathlib.Core.Bool.{Bool, true, false, cond, not, _&&_, _||_, or-true}
 use mathlib.Core.List.{List}
-use Prim.Native.Nat.{ℕ, _+_, _≤_, _<_, max}
+use Prim.Native.Nat.{ℕ, _+_, _≤_, _<_}
 use native.Mathlib.Omega.{arith}
 use lib.ListN.{length, getD}
 use lib.Dec.{T, eqb, ltb, leb}
@@ -19,7 +19,7 @@ use Rattle.text.specs.Scan.{see, pastOne, skip, Ahead}
 use Rattle.text.specs.Block.{inSet, solids, Clear}
 use Rattle.text.specs.Inner.{letterOf, Letters, blankOf, rareOf}
 use Rattle.text.proofs.general.Below.{below, each}
-use Rattle.text.proofs.sequences.Alternatives.{within-true}
+use Rattle.text.proofs.general.Tests.{within-true}
 use Rattle.text.proofs.general.Tests.{both-true}
 use Rattle.text.proofs.scanning.Seen.{see-ascii}
 use Rattle.text.proofs.scanning.Skip.{skip-over, byte-on, byte-stop, passed}

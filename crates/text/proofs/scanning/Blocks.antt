@@ -1,28 +1,26 @@
 -- Texts that have none of a set of bytes, and where a byte stands first: the laws under src/block.rt.
 --     distance-none                       a byte that is apart from each interval is not in the set
---     clear-none, clear-join, clear-block, clear-as, clear-not   no bytes at all, one stretch behind another, and what a clear stretch lacks
+--     clear-none, clear-join, clear-block, clear-as   no bytes at all, and one stretch behind another
 --     Before, part-more, part-done        the loop of `part`
 --     Least, least-more, least-done, none-ascii    the loop of `is_ascii`, and what is then known of each byte
 --     Lacking, lacking, lacking-more, found-at     the loop of `find`
 --     found-once                          there is one first place
 --     line                                the place of the first newline is where a line's characters end
 -- Assumes nothing.
-use Prim.Native.Nat.{ℕ, zero, suc, _+_, _-_, _≤_, _<_, min, max}
+use Prim.Native.Nat.{ℕ, _+_, _-_, _≤_, _<_, min, max}
 use native.Mathlib.Omega.{arith}
-use native.Mathlib.Nat.{add-zero, add-suc}
-use native.Mathlib.Numerals.{add-one}
 use mathlib.Core.Path.{_≡_, refl, sym, ap, _∙_, subst}
-use mathlib.Core.Bool.{Bool, true, false, cond, not, _&&_, _||_, and-false}
+use mathlib.Core.Bool.{Bool, true, false, not, and-false}
 use mathlib.Core.List.{List}
 use lib.ListN.{length, getD}
 use lib.Dec.{eqb, ltb, leb}
 use borrow.Author.Tests.{eq-eqb, ne-eqb, eqb-true, eqb-false, ltb-true, ltb-false, le-leb, lt-leb}
-use Rattle.text.specs.Range.{_–_, within}
 use Rattle.text.specs.declared.block.Interval.{Interval}
 use Rattle.text.specs.declared.block.Set.{Set}
 use Rattle.text.specs.Class.{holdsOf}
 use Rattle.text.specs.Scan.{skip, fails, Ahead}
 use Rattle.text.specs.declared.class.Test.the-variants.{Newline}
+use Rattle.text.proofs.general.Tests.{told-apart}
 use Rattle.text.proofs.scanning.Skip.{skip-end, skip-over, byte-on, byte-stop, wide-on, ran}
 use Rattle.text.specs.Block.{inside, inSet, apart, others, only, Clear, Found}
 
@@ -65,13 +63,6 @@ clear-block {x} {s} {i} {j} a b e = clear-join a (subst (λ (m : ℕ). Clear x s
 -- the set by another name
 pub clear-as : {x y : Set} {s : List ℕ} {i r : ℕ} → x ≡ y → Clear x s i r → Clear y s i r
 clear-as {s = s} {i = i} {r = r} e a = subst (λ (z : Set). Clear z s i r) e a
-
--- a byte y of the set does not stand there
-pub clear-not : (x : Set) (y : ℕ) → inSet x y ≡ true → {b : ℕ} → inSet x b ≡ false → b ≡ y → ⊥
-clear-not x y t {b} f e =
-    let q : inSet x b ≡ true = ap (inSet x) e ∙ t in
-    let z : _≡_ {A = ℕ} 0 1 = ap (λ (c : Bool). cond c 0 1) (sym q ∙ f) in
-    absurd (omega arith)
 
 -- ---- a block: of its first k bytes, those before m are not of the set
 
@@ -116,7 +107,7 @@ none-ascii b h f = go (ltb b 0x80) refl
   where
     go : (t : Bool) → ltb b 0x80 ≡ t → b < 0x80
     go true e = ltb-true _ _ e
-    go false e = absurd (clear-not others b (rw (le-leb 0x80 b (ltb-false _ _ e), le-leb b 0xFF (omega arith))) f refl)
+    go false e = absurd (told-apart (inSet others) b (rw (le-leb 0x80 b (ltb-false _ _ e), le-leb b 0xFF (omega arith))) f refl)
 
 pub least-done : (s : List ℕ) (i k m : ℕ) → Least s i k m → m < 0x80 → i + k ≤ length s → Clear others s i (i + k)
 least-done s i k m h l r =
@@ -134,7 +125,7 @@ unfolding inSet
 only-it x = rw (le-leb x x (omega arith))
 
 pub lacking : {x : ℕ} {s : List ℕ} {i j : ℕ} → Clear (only x) s i j → Lacking x s i j
-lacking {x} a = record { from = a .from; to = a .to; before = λ k h l. clear-not (only x) x (only-it x) (a .clear k h l .1) }
+lacking {x} a = record { from = a .from; to = a .to; before = λ k h l. told-apart (inSet (only x)) x (only-it x) (a .clear k h l .1) }
 
 pub lacking-more : {x : ℕ} {s : List ℕ} {i j : ℕ} → Lacking x s i j → j < length s → (getD s j 0 ≡ x → ⊥) → Lacking x s i (j + 1)
 lacking-more {x} {s} {i} {j} a h z =

@@ -1,9 +1,7 @@
 -- What is seen of a text that stands in a longer one.
 --     see-ahead               a character ends after its place, and inside the text
---     seenUp, see-up          the text moved behind another: what is seen moves with it
+--     see-up                  the text moved behind another: what is seen moves with it
 --     see-front               a text that goes on with no tail shows what it showed
---     see-cut                 a text cut behind a character still shows it
---     see-within              what a place inside a character shows ends no later
 -- Assumes nothing.
 use Prim.Native.Nat.{ℕ, zero, suc, _+_, _-_, _≤_, _<_}
 use mathlib.Core.Path.{_≡_, refl, sym, ap, _∙_, subst}
@@ -11,24 +9,18 @@ use mathlib.Core.Bool.{Bool, true, false}
 use mathlib.Core.List.{List, [], _∷_, _++_, append-assoc}
 use native.Mathlib.Omega.{arith}
 use native.Mathlib.Nat.{add-comm}
-use lib.ListN.{length, getD, take, drop, length-append, length-take, length-drop, take-append-drop}
-use lib.Seq.{drop-append-add, drop-append-le, take-append-le, getD-take, getD-append-add, getD-drop, length-take-le}
-use lib.Dec.{eqb, leb}
-use borrow.Author.Tests.{leb-true, leb-false, eqb-true, eqb-false}
+use lib.ListN.{length, getD, take, drop, length-append, length-drop, take-append-drop}
+use lib.Seq.{drop-append-add, drop-append-le, take-append-le, getD-take, getD-append-add, length-take-le}
+use lib.Dec.{leb}
+use borrow.Author.Tests.{leb-true, leb-false}
 use Rattle.text.specs.Range.{within}
 use Rattle.text.specs.Utf8.{tail, isChar, width}
 use Rattle.text.specs.Scan.{code, rest, seeFrom, see, Inside}
-use Rattle.text.specs.declared.scanner.Seen.{Seen}
-use Rattle.text.specs.declared.scanner.Seen.the-variants.{End, Char}
+use Rattle.text.specs.Seeing.{seenUp}
+use Rattle.text.specs.declared.scanner.Seen.the-variants.{Char}
 use Rattle.text.proofs.sequences.Alternatives.{width-char, char-width}
-use Rattle.text.proofs.sequences.Lengths.{char-further, width-inside, width-tail}
+use Rattle.text.proofs.sequences.Lengths.{char-further, width-inside}
 use Rattle.text.proofs.scanning.Seen.{see-at, see-inside}
-use Rattle.text.proofs.general.Places.{drop-next}
-
--- what is seen, d places on
-abbrev pub seenUp : ℕ → Seen → Seen
-seenUp d End = End
-seenUp d (Char c n) = Char c (n + d)
 
 -- a character ends after its place, and inside the text
 pub see-ahead : (s : List ℕ) (p c n : ℕ) → see s p ≡ Char c n → (p < n) × (n ≤ length s)
@@ -97,52 +89,3 @@ front-width u t n h f e = go (leb n (length u)) refl
 
 pub see-front : (s t : List ℕ) (p : ℕ) → within tail (getD t 0 256) ≡ false → p < length s → see (s ++ t) p ≡ see s p
 see-front s t p f h = see-same s t p h (front-width (drop p s) t (width (drop p s ++ t)) (omega (arith, length-drop p s)) f refl)
-
--- ---- a text cut behind a character
-
-cut-width : (s : List ℕ) (p q c n : ℕ) → see s p ≡ Char c n → n ≤ q → p < length s → width (drop p s) ≤ length (drop p (take q s))
-unfolding rest
-cut-width s p q c n e h l =
-    let v = sym e ∙ see-at s p l in
-    let m : n ≡ p + 1 + (width (drop p s) - 1) = cc in
-    omega (arith, width-inside (drop p s) .0, length-drop p s, length-drop p (take q s), length-take q s)
-
-pub see-cut : (s : List ℕ) (p q c n : ℕ) → see s p ≡ Char c n → n ≤ q → see (take q s) p ≡ Char c n
-see-cut s p q c n e h =
-    let i = see-ahead s p c n e in
-    let l : p < length (take q s) = omega (arith, length-take q s) in
-    let f = take-append-drop q s in
-    let d : drop p (take q s) ++ drop q s ≡ drop p s = sym (drop-append-le p (take q s) (drop q s) (omega arith)) ∙ ap (drop p) f in
-    sym (see-same (take q s) (drop q s) p l (rw d (cut-width s p q c n e h (omega arith)))) ∙ ap (λ (v : List ℕ). see v p) f ∙ e
-
--- ---- inside a character
-
-tail-at : (s : List ℕ) (p i w : ℕ) → width (drop p s) ≡ w → p < i → i < p + w → within tail (getD s i 0) ≡ true
-tail-at s p i w e h l =
-    let k = rw e at (width-char (drop p s) (omega arith)) in
-    let m = length-take-le w (drop p s) (k .1) in
-    let f = char-further (take w (drop p s)) (i - p) 0 (k .0) (omega arith) (omega arith) in
-    let j : p + (i - p) ≡ i = omega arith in
-    let o : i - p < w = omega arith in
-    rw (getD-take w (drop p s) (i - p) 0, getD-drop p s (i - p) 0, j) at f
-
-see-tail : (s : List ℕ) (p i c n : ℕ) → see s p ≡ Char c n → p < i → i < n → see s i ≡ Char 0xFFFD (i + 1)
-unfolding code rest
-see-tail s p i c n e h l =
-    let a = see-ahead s p c n e in
-    let v = sym e ∙ see-at s p (omega arith) in
-    let m : n ≡ p + 1 + (width (drop p s) - 1) = cc in
-    let t = tail-at s p i (width (drop p s)) refl h (omega arith) in
-    let w : width (drop i s) ≡ 0 = ap width (drop-next s i (omega arith)) ∙ width-tail (getD s i 0) (drop (i + 1) s) t in
-    see-at s i (omega arith) ∙ rw w (ap (Char 0xFFFD) (omega arith))
-
--- every place inside a character shows one that ends no later: the character, or a tail by itself
-pub see-within : (s : List ℕ) (p i c n : ℕ) → see s p ≡ Char c n → p ≤ i → i < n → (d : ℕ) × (m : ℕ) × (see s i ≡ Char d m) × (m ≤ n)
-see-within s p i c n e h l = by (eqb p i) refl
-  where
-    a : (p < n) × (n ≤ length s)
-    a = see-ahead s p c n e
-
-    by : (b : Bool) → eqb p i ≡ b → (d : ℕ) × (m : ℕ) × (see s i ≡ Char d m) × (m ≤ n)
-    by true q = let z : p ≡ i = eqb-true p i q in (c, n, ap (see s) (sym z) ∙ e, omega arith)
-    by false q = (0xFFFD, i + 1, see-tail s p i c n e (omega (arith, eqb-false p i q)) l, omega arith)

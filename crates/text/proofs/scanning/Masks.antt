@@ -2,26 +2,20 @@
 --     masks           what makes two words the masks of a test
 --     wide, digit, braces     what is not ASCII: for a test that is not narrow, and for those that are
 -- Assumes nothing.
-use mathlib.Core.Path.{_≡_, refl, sym, ap, _∙_, subst}
-use mathlib.Core.Bool.{Bool, true, false, cond, _&&_, _||_, Bool·beq, and-false, or-false, or-assoc}
+use mathlib.Core.Path.{_≡_, sym, ap, subst}
+use mathlib.Core.Bool.{Bool, true, false, _||_, Bool·beq, and-false, or-false, or-assoc}
 use mathlib.Core.List.{[], _∷_}
-use Prim.Native.Nat.{ℕ, _<_, _≤_}
+use Prim.Native.Nat.{ℕ, _≤_}
 use native.Mathlib.Omega.{arith}
-use lib.Dec.{T, eqb, leb}
-use borrow.Author.Tests.{ne-eqb, lt-leb}
-use Rattle.text.proofs.general.Tests.{narrow-is}
+use lib.Dec.{T, leb}
+use borrow.Author.Tests.{lt-leb}
+use Rattle.text.proofs.general.Tests.{narrow-is, beq-eq}
 use Rattle.text.specs.Range.{_–_, within}
 use Rattle.text.specs.Class.{mark, holdsOf}
 use Rattle.text.specs.Inner.{masksOf, hasBit, AsciiOf}
 use Rattle.text.specs.declared.class.Masks.{Masks}
 use Rattle.text.specs.declared.class.Test.{Test}
 use Rattle.text.proofs.general.Below.{below, each}
-
-pub beq-eq : (a b : Bool) → T (Bool·beq a b) → a ≡ b
-beq-eq true true t = refl
-beq-eq true false t = absurd t
-beq-eq false true t = absurd t
-beq-eq false false t = refl
 
 pub masks : (t : Test) (low high : ℕ) (narrow : Bool) → T (below (λ b. Bool·beq (hasBit low high b) (holdsOf t b)) 128) →
     (narrow ≡ true → (c : ℕ) → 128 ≤ c → holdsOf t c ≡ false) → {u : Test} {m : Masks} → u ≡ t → m ≡ masksOf low high narrow → AsciiOf u m

@@ -1,5 +1,5 @@
 -- The grammar of `Utf8` and the sequence that a text begins with: each alternative is told by its first octet.
---     both-true, within-true, in-within   what the tests of the grammar tell
+--     in-within                           an octet of a range passes its test
 --     Match, Any                          what `begins` with the length, and `oneOf`, decide
 --     any-of, of-any, char-by             from the tests, back, and back by an alternative's number
 --     width-char                          what `width` measures is a sequence, and inside the text
@@ -13,12 +13,9 @@ use native.Mathlib.Omega.{arith}
 use lib.ListN.{length, getD, take}
 use lib.Dec.{leb, eqb}
 use borrow.Author.Tests.{leb-true, le-leb, lt-leb, eqb-true, eq-eqb}
-use Rattle.text.proofs.general.Tests.{both-true}
+use Rattle.text.proofs.general.Tests.{both-true, within-true}
 use Rattle.text.specs.Range.{Range, within}
 use Rattle.text.specs.Utf8.{alternatives, begins, oneOf, isChar, widthBy, width}
-
-pub within-true : (r : Range) (b : ℕ) → within r b ≡ true → (r .first ≤ b) × (b ≤ r .last)
-within-true r b e = let h = both-true (leb (r .first) b) (leb b (r .last)) e in (leb-true _ _ (h .0), leb-true _ _ (h .1))
 
 pub in-within : (r : Range) (b : ℕ) → r .first ≤ b → b ≤ r .last → within r b ≡ true
 in-within r b l h = rw (le-leb (r .first) b l, le-leb b (r .last) h)

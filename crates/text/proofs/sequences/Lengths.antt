@@ -1,5 +1,4 @@
 -- The sequences of UTF-8 by their four lengths, with linear facts of their octets.
---     Shape                   the sequences of one, two, three and four octets
 --     char-shape, shape-char  from `isChar` and back
 --     char-some               a sequence has an octet, and four at most
 --     char-first              its first octet is no tail
@@ -18,33 +17,8 @@ use lib.Dec.{leb}
 use borrow.Author.Tests.{leb-true, leb-false, lt-leb}
 use Rattle.text.specs.Range.{Range, within}
 use Rattle.text.specs.Utf8.{alternatives, isChar, tail, width}
+use Rattle.text.specs.Shapes.{Tail, Three, Four, Shape, one, two, three, four}
 use Rattle.text.proofs.sequences.Alternatives.{Match, end, on, Any, here, there, any-of, char-by, in-within, width-char}
-
-pub record Tail (b : ℕ) : Type 0 where
-  pub low : 0x80 ≤ b
-  pub high : b ≤ 0xBF
-
--- three octets: E0 is followed by A0 or more, and ED by 9F or less
-pub record Three (a b c : ℕ) : Type 0 where
-  pub low : 0xE0 * 64 + 0xA0 ≤ a * 64 + b
-  pub high : a ≤ 0xEF
-  pub second : Tail b
-  pub third : Tail c
-  pub plain : a ≡ 0xED → b ≤ 0x9F
-
--- four octets: F0 is followed by 90 or more, and F4 by 8F or less
-pub record Four (a b c d : ℕ) : Type 0 where
-  pub low : 0xF0 * 64 + 0x90 ≤ a * 64 + b
-  pub high : a * 64 + b ≤ 0xF4 * 64 + 0x8F
-  pub second : Tail b
-  pub third : Tail c
-  pub fourth : Tail d
-
-pub data Shape : List ℕ → Type 0 where
-  one : {a : ℕ} → a ≤ 0x7F → Shape (a ∷ [])
-  two : {a b : ℕ} → 0xC2 ≤ a → a ≤ 0xDF → Tail b → Shape (a ∷ b ∷ [])
-  three : {a b c : ℕ} → Three a b c → Shape (a ∷ b ∷ c ∷ [])
-  four : {a b c d : ℕ} → Four a b c d → Shape (a ∷ b ∷ c ∷ d ∷ [])
 
 tail-of : (b : ℕ) → 0x80 ≤ b → b ≤ 0xBF → Tail b
 tail-of b l h = record { low = l; high = h }

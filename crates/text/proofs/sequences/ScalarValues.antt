@@ -17,7 +17,8 @@ use Rattle.text.specs.Range.{_–_, within}
 use Rattle.text.specs.Utf8.{isChar, leadingOnes, sequenceLength, gather, value, isScalar, octets, further}
 use Rattle.text.proofs.general.Below.{each}
 use Rattle.text.proofs.general.Tests.{both-true}
-use Rattle.text.proofs.sequences.Lengths.{Tail, Three, Four, Shape, one, two, three, four, char-shape, shape-char}
+use Rattle.text.specs.Shapes.{Tail, Three, Four, Shape, one, two, three, four}
+use Rattle.text.proofs.sequences.Lengths.{char-shape, shape-char}
 
 -- ---- a scalar value
 

@@ -5,7 +5,7 @@ use native.Mathlib.Omega.{arith}
 use lib.ListN.{length, drop}
 use borrow.Author.Needs.{needs}
 use Rattle.row.specs.Numbers.{rowsOf}
-use Rattle.row.proofs.numbers.Flat.{rows-next, rows-end}
+use Rattle.row.proofs.Laid.{laid}
 use Rattle.pack.specs.Seven.{spanFits}
 use Rattle.pack.specs.Pack.{isPackable}
 use Rattle.pack.proofs.loops.Judging.{Judging, judge-row, judge-off, judge-end, four-count, four-start}
@@ -80,7 +80,7 @@ loop-again c =
     let asked = l .before .before .before .before .before in
     let a = asked .args in
     let m = l .before .loop .inv in
-    (m .0, omega arith, omega arith, judge-row (m .3) (rows-next (a .rows .now) (l .before .loop .i) (omega arith)) (step .step .ensures) (c .if2 .taken))
+    (m .0, omega arith, omega arith, judge-row (m .3) (laid .rows-next (a .rows .now) (l .before .loop .i) (omega arith)) (step .step .ensures) (c .if2 .taken))
 
 returns-2 : tie.Need-returns-2 Inv-loop μ-loop
 returns-2 c =
@@ -88,7 +88,7 @@ returns-2 c =
     let asked = l .before .before .before .before .before in
     let a = asked .args in
     let m = l .before .loop .inv in
-    judge-off (m .3) (rows-next (a .rows .now) (l .before .loop .i) (omega arith)) (c .if2 .left)
+    judge-off (m .3) (laid .rows-next (a .rows .now) (l .before .loop .i) (omega arith)) (c .if2 .left)
 
 is-whole-requires : tie.Need-is-whole-requires Inv-loop μ-loop
 is-whole-requires c κs = search needs
@@ -98,7 +98,7 @@ returns-3 c =
     let l = c .before in
     let asked = l .before .before .before .before .before in
     let a = asked .args in
-    judge-end (l .before .loop .inv .3) (rows-end (a .rows .now) (l .before .loop .i) (omega arith)) (c .is-whole .ensures)
+    judge-end (l .before .loop .inv .3) (laid .rows-end (a .rows .now) (l .before .loop .i) (omega arith)) (c .is-whole .ensures)
 
 pub is-packable-spec : {M : Type 1} → statement M
 is-packable-spec =

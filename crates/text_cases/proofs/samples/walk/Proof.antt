@@ -3,7 +3,7 @@ use Prim.Native.Nat.{_≤_, _-_}
 use native.Mathlib.Omega.{arith}
 use lib.ListN.{length}
 use borrow.Author.Needs.{needs}
-use Rattle.text.proofs.scanning.Seen.{char-inside}
+use Rattle.text.proofs.Seeing.{seeing}
 use Rattle.text_cases.proofs.samples.walk.Statement.{statement}
 use Rattle.text_cases.proofs.samples.walk.Tie as tie
 
@@ -46,7 +46,7 @@ loop-less c =
     let turn = c .before .before .before .before .before .before .before .loop in
     let peek = c .before .before .before .before .before .before .peek in
     let code = c .before .before .before .before .code in
-    let h = char-inside (a .s .now) (turn .at) (peek .ensures .1) (code .given .1) in
+    let h = seeing .char-inside (a .s .now) (turn .at) (peek .ensures .1) (code .given .1) in
     omega arith
 
 loop-again : tie.Need-loop-again Inv-loop μ-loop
@@ -55,7 +55,7 @@ loop-again c =
     let turn = c .before .before .before .before .before .before .before .loop in
     let peek = c .before .before .before .before .before .before .peek in
     let code = c .before .before .before .before .code in
-    let h = char-inside (a .s .now) (turn .at) (peek .ensures .1) (code .given .1) in
+    let h = seeing .char-inside (a .s .now) (turn .at) (peek .ensures .1) (code .given .1) in
     omega arith
 
 pub walk-spec : {M : Type 1} → statement M

@@ -1,4 +1,4 @@
--- The steps of strict reading: the length of the text, its UTF-8, and then the grammar.
+-- The steps of strict reading: the length of the text, its UTF-8, and then the grammar. And the proof of specs/Steps.antt: `steps`.
 --     strict-valid, strict-ill, strict-is     a text inside the limit, by its UTF-8
 --     strict-short, strict-ok     what an accepted text is
 --     strict-file                 where strict reading does not refuse, it is the grammar's reading
@@ -26,12 +26,17 @@ use Rattle.row.specs.Row.{Row, flat}
 use Rattle.row.specs.Spans.{SpansIn}
 use Rattle.raw.specs.declared.answer.Answer.the-variants as answer
 use Rattle.raw.specs.declared.answer.Reading.the-variants as reading
-use Rattle.raw.specs.Reader.{Out, ok, bad}
+use Rattle.raw.specs.Reader.{ok, bad}
 use Rattle.raw.specs.Grammar.{file}
 use Rattle.raw.specs.Says.{answerOf}
 use Rattle.raw.specs.Read.{checked, strict, readingOut, leftOut}
 use Rattle.raw.specs.Strict.{Spans}
+use Rattle.raw.specs.Steps.{Steps}
 use Rattle.raw.proofs.readers.Trace.{Refused, Traced}
+use Rattle.raw.proofs.readers.Then.{more-none}
+use Rattle.raw.proofs.readers.Loop.{many-turn}
+use Rattle.raw.proofs.readers.Scans.{scan-turn-kept}
+use Rattle.raw.proofs.readers.Spans.{rising-less}
 use Rattle.raw.proofs.grammar.Readers.{from-start}
 use Rattle.raw.proofs.grammar.Files.{file-laws}
 use Rattle.raw.proofs.Strict.{strict-by, strict-reading}
@@ -49,10 +54,10 @@ module _ (s : List ℕ) (h : length s ≤ mostBytes) where
   pub strict-ill : (n : ℕ) → validityOf s ≡ validity.IllFormed n → strict s ≡ bad (faultAt NotUtf8 n)
   strict-ill n e = strict-checked ∙ ap (checked s) e
 
-  pub strict-is : Octets s → strict s ≡ file s 0
+  strict-is : Octets s → strict s ≡ file s 0
   strict-is o = strict-valid (rfc3629 .accepts s .1 o)
 
-  pub strict-bad : (f : Fault) → strict s ≡ bad f → 2 ≤ numberOf (f .reason)
+  strict-bad : (f : Fault) → strict s ≡ bad f → 2 ≤ numberOf (f .reason)
   strict-bad f e = by (validityOf s) (sym strict-checked ∙ e)
     where
       by : (v : Validity) → checked s v ≡ bad f → 2 ≤ numberOf (f .reason)
@@ -62,7 +67,7 @@ module _ (s : List ℕ) (h : length s ≤ mostBytes) where
 -- ---- an accepted text
 
 module _ (s : List ℕ) (q : ℕ) (rs : List Row) where
-  pub strict-short : strict s ≡ ok q rs → length s ≤ mostBytes
+  strict-short : strict s ≡ ok q rs → length s ≤ mostBytes
   unfolding strict
   strict-short = by (leb (length s) mostBytes) refl
     where
@@ -70,7 +75,7 @@ module _ (s : List ℕ) (q : ℕ) (rs : List Row) where
       by true d e = leb-true (length s) mostBytes d
       by false d e = let z : _≡_ {A = ℕ} 0 1 = cc in absurd (omega arith)
 
-  pub strict-ok : strict s ≡ ok q rs → (length s ≤ mostBytes) × Octets s × (file s 0 ≡ ok q rs)
+  strict-ok : strict s ≡ ok q rs → (length s ≤ mostBytes) × Octets s × (file s 0 ≡ ok q rs)
   strict-ok e = let h = strict-short e in let v = read e in (h, v .0, v .1)
     where
       read : strict s ≡ ok q rs → Octets s × (file s 0 ≡ ok q rs)
@@ -89,13 +94,13 @@ unfolding Spans SpansIn
 spans-in s [] x = tt
 spans-in s (r ∷ rs) x = (record { order = x .0 .order; inside = x .0 .inside }, spans-in s rs (x .1))
 
-pub strict-spans : (s : List ℕ) (q : ℕ) (rs : List Row) → strict s ≡ ok q rs → SpansIn (length s) rs
+strict-spans : (s : List ℕ) (q : ℕ) (rs : List Row) → strict s ≡ ok q rs → SpansIn (length s) rs
 strict-spans s q rs e = spans-in s rs (strict-reading .accepts s q rs e .spans)
 
 -- ---- the lent numbers
 
 -- what is known where rows were answered: how many they are, that there was room, and where they stand
-pub rows-told : (q : ℕ) (rs : List Row) (b : List ℕ) {n : ℕ} → reading.Rows n ≡ readingOut (ok q rs) (length b)
+rows-told : (q : ℕ) (rs : List Row) (b : List ℕ) {n : ℕ} → reading.Rows n ≡ readingOut (ok q rs) (length b)
     → (n ≡ length rs) × (length rs ≤ length b / 4) × (leftOut (ok q rs) b ≡ flat rs ++ drop (length rs * 4) b)
 rows-told q rs b {n} = by (leb (length rs) (length b / 4)) refl
   where
@@ -104,3 +109,16 @@ rows-told q rs b {n} = by (leb (length rs) (length b / 4)) refl
         → (n ≡ length rs) × (length rs ≤ length b / 4) × (leftOut (ok q rs) b ≡ flat rs ++ drop (length rs * 4) b)
     by true d e = (cc, leb-true (length rs) (length b / 4) d, rw d)
     by false d e = let z : _≡_ {A = ℕ} 0 1 = cc in absurd (omega arith)
+
+pub steps : Steps
+steps =
+    record {
+      more-none = more-none;
+      scans = λ t. many-turn (scan-turn-kept t) 0;
+      strict-is = strict-is;
+      strict-bad = strict-bad;
+      strict-ok = strict-ok;
+      strict-spans = strict-spans;
+      rising-less = rising-less;
+      rows-told = rows-told;
+    }

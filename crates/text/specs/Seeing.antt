@@ -1,0 +1,45 @@
+-- What the definitions of `Scan` settle: laws of `see` and `skip`, on which the crates above rest. The proof is `seeing` of
+-- proofs/Seeing.antt. Assumes nothing.
+use Prim.Native.Nat.{ℕ, _+_, _≤_, _<_}
+use mathlib.Core.Path.{_≡_}
+use mathlib.Core.Bool.{Bool, true, false, _||_}
+use mathlib.Core.List.{List, _∷_, _++_}
+use lib.ListN.{length, getD, drop}
+use lib.Dec.{eqb}
+use Rattle.text.specs.Range.{within}
+use Rattle.text.specs.Utf8.{tail}
+use Rattle.text.specs.Class.{isIdStart, isIdContinue}
+use Rattle.text.specs.Scan.{code, rest, see, pastOne, skip, Ahead, Inside}
+use Rattle.text.specs.Inner.{Letters}
+use Rattle.text.specs.declared.scanner.Seen.{Seen}
+use Rattle.text.specs.declared.scanner.Seen.the-variants.{End, Char}
+
+-- what is seen, d places on
+abbrev pub seenUp : ℕ → Seen → Seen
+seenUp d End = End
+seenUp d (Char c n) = Char c (n + d)
+
+pub record Seeing : Type 0 where
+  -- at the end of the text nothing is seen; before it, its first character from there on
+  pub see-end : (s : List ℕ) (i : ℕ) → length s ≤ i → see s i ≡ End
+  pub see-at : (s : List ℕ) (i : ℕ) → i < length s → see s i ≡ Char (code (drop i s)) (i + 1 + rest (drop i s))
+  -- an octet of ASCII is a character by itself, and every other octet begins one that is not ASCII
+  pub see-ascii : (s : List ℕ) (i : ℕ) → i < length s → getD s i 0 < 0x80 → see s i ≡ Char (getD s i 0) (i + 1)
+  pub code-wide : (b : ℕ) (s : List ℕ) → 0x80 ≤ b → 0x80 ≤ code (b ∷ s)
+  -- a character ends after its place, and inside the text: of what is seen, of a character that is seen, and of one that a call answered
+  pub see-inside : (s : List ℕ) (i : ℕ) → Inside s i (see s i)
+  pub see-ahead : (s : List ℕ) (p c n : ℕ) → see s p ≡ Char c n → (p < n) × (n ≤ length s)
+  pub char-inside : (s : List ℕ) (i : ℕ) {g : Seen} {c n : ℕ} → Inside s i g → g ≡ Char c n → (i < n) × (n ≤ length s)
+  -- a text shows the same moved behind another, and before one that goes on no character of it
+  pub see-up : (a s : List ℕ) (p : ℕ) → see (a ++ s) (p + length a) ≡ seenUp (length a) (see s p)
+  pub see-front : (s t : List ℕ) (p : ℕ) → within tail (getD t 0 256) ≡ false → p < length s → see (s ++ t) p ≡ see s p
+  -- a scan ends at the end of the text, goes on past a character that passes the test, and ends at one that does not
+  pub skip-end : (p : ℕ → Bool) (s : List ℕ) (i : ℕ) → length s ≤ i → skip p s i ≡ i
+  pub skip-on : (p : ℕ → Bool) (s : List ℕ) (i : ℕ) → i < length s → p (code (drop i s)) ≡ true →
+      skip p s i ≡ skip p s (i + 1 + rest (drop i s))
+  pub skip-stop : (p : ℕ → Bool) (s : List ℕ) (i : ℕ) → i < length s → p (code (drop i s)) ≡ false → skip p s i ≡ i
+  -- it never goes back, and not past the end
+  pub skip-ahead : (p : ℕ → Bool) (s : List ℕ) (i : ℕ) → Ahead s i (skip p s i)
+  -- letters of ASCII before a space or "=" are a whole identifier
+  pub letters-id : {s : List ℕ} {i r : ℕ} → Letters s i r → i < r → r < length s → (eqb (getD s r 0) 0x20 || eqb (getD s r 0) 0x3D) ≡ true →
+      (i + 1 ≡ pastOne isIdStart i (see s i)) × (r ≡ skip isIdContinue s (i + 1))
