@@ -18,10 +18,10 @@ use Rattle.chunk.specs.Format.{lastCode, endsWhite, Written, written, be
 use Rattle.chunk.specs.Characters.{utf8Of, Scalars, charLines, charEndsWhite, charEscaped, Characters}
 use Rattle.chunk.specs.Inner.{plain}
 use Rattle.chunk.specs.Characters as chars
-use Rattle.chunk.proofs.Ends.{last-char}
-use Rattle.chunk.proofs.Lines.{run}
-use Rattle.chunk.proofs.Escapes.{escape-some, escaped-append}
-use Rattle.chunk.proofs.Kept.{High, high-line, high-escape, high-plain, high-escaped, code-high, differ}
+use Rattle.chunk.proofs.texts.LastCharacter.{last-char}
+use Rattle.chunk.proofs.texts.LineEnds.{run}
+use Rattle.chunk.proofs.texts.Escapes.{escape-some, escaped-append}
+use Rattle.chunk.proofs.texts.PassedSequences.{High, high-line, high-escape, high-plain, high-escaped, code-high, differ}
 
 -- ---- the last character
 

@@ -1,18 +1,18 @@
-pub mod Rows
-pub mod Joins
+-- The laws and proofs of `chunk`, lowest first. The proof of a function is MODULE/FUNCTION/Proof.antt.
+
+-- chunk rows in lent numbers
+pub mod rows
+-- texts, octet by octet
+pub mod texts
+-- the writers' passes
+pub mod passes
+-- the cases of specs/Worked.antt compute
 pub mod Worked
-pub mod Parts
-pub mod Puts
-pub mod Ends
-pub mod Lines
-pub mod Escapes
-pub mod Copies
-pub mod Checks
-pub mod Passes
-pub mod Answers
-pub mod Turns
-pub mod Kept
+-- the proof of specs/WellFormed.antt: what both writers write is UTF-8
 pub mod WellFormed
+-- the proof of specs/Characters.antt: definitions by octets go through characters as chunk.rs does
 pub mod Characters
+-- the proof of specs/Refusals.antt
 pub mod Refusals
+-- any two outcomes that a public contract allows are the same
 pub mod Unique

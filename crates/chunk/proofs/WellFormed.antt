@@ -24,10 +24,10 @@ use Rattle.chunk.specs.Format.{isEscapable, escaped, opening, bodyOf, cl
 use Rattle.chunk.specs.Write.{checkedOf, Write}
 use Rattle.chunk.specs.WellFormed.{Texts, WellFormed}
 use Rattle.chunk.specs.WellFormed as texts
-use Rattle.chunk.proofs.Kept.{ascii, ascii-text, Kept, low, high, kept, high-plain, high-escaped}
-use Rattle.chunk.proofs.Lines.{run}
-use Rattle.chunk.proofs.Escapes.{escaped-append}
-use Rattle.chunk.proofs.Answers.{are-chunks, written}
+use Rattle.chunk.proofs.texts.PassedSequences.{ascii, ascii-text, Kept, low, high, kept, high-plain, high-escaped}
+use Rattle.chunk.proofs.texts.LineEnds.{run}
+use Rattle.chunk.proofs.texts.Escapes.{escaped-append}
+use Rattle.chunk.proofs.rows.Answers.{are-chunks, written}
 
 -- ---- what is written of a text
 

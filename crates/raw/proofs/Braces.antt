@@ -21,7 +21,7 @@ use Rattle.raw.specs.Braces.{Braces, none, pair, opens, closes, other, O
 use Rattle.raw.proofs.readers.Then.{more-none}
 use Rattle.raw.proofs.readers.Loop.{many-turn}
 use Rattle.raw.proofs.grammar.Readers.{braced-turn-kept}
-use Rattle.raw.proofs.ByteTurns.{slash-on, open-on, close-on, close-stop, braces-cut-off, braces-other}
+use Rattle.raw.proofs.ways.ByteTurns.{slash-on, open-on, close-on, close-stop, braces-cut-off, braces-other}
 
 -- a closing brace outnumbers those that opened since p, and d more
 record OutBy (d : ℕ) (s : List ℕ) (p q : ℕ) : Type 0 where

@@ -1,25 +1,24 @@
+-- The laws and proofs of `raw`, lowest first. The proof of a function is MODULE/FUNCTION/Proof.antt.
+
+-- readers and the ways to make them
 pub mod readers
+-- the readers of the grammar, and what their laws say of a file
 pub mod grammar
+-- the words of the inner contracts
+pub mod contracts
+-- the ways through each function
+pub mod ways
+-- the cases of specs/Worked.antt compute
 pub mod Worked
+-- the proof of specs/Strict.antt
 pub mod Strict
+-- the proof of specs/Steps.antt
 pub mod Steps
+-- the proof of specs/Refusals.antt
 pub mod Refusals
-pub mod Bounds
-pub mod ByteTurns
+-- the proof of specs/Braces.antt: where a braced value ends
 pub mod Braces
+-- the proof of specs/Comments.antt
 pub mod Comments
-pub mod Bytes
-pub mod ValueBlocks
-pub mod Eaten
-pub mod Enclosed
-pub mod EntryWays
-pub mod FileWays
-pub mod Later
-pub mod Saying
-pub mod Spelling
-pub mod TokenWays
-pub mod Turns
-pub mod FieldWays
-pub mod Fields
-pub mod Elements
+-- any two outcomes that a public contract allows are the same
 pub mod Unique

@@ -2,8 +2,8 @@
 use native.Mathlib.Omega.{arith}
 use mathlib.Core.Path.{sym, _∙_}
 use borrow.Author.Needs.{needs}
-use Rattle.chunk.proofs.Puts.{puts-on, puts-as}
-use Rattle.chunk.proofs.Escapes.{escape-some, escape-none}
+use Rattle.chunk.proofs.texts.Puts.{puts-on, puts-as}
+use Rattle.chunk.proofs.texts.Escapes.{escape-some, escape-none}
 use Rattle.chunk.proofs.biblatex.escape.Statement.{statement}
 use Rattle.chunk.proofs.biblatex.escape.Tie as tie
 

@@ -7,7 +7,7 @@ use borrow.Author.Needs.{needs}
 use Rattle.text.specs.Scan.{part}
 use Rattle.chunk.specs.Format.{escaped}
 use Rattle.chunk.specs.Put.{Puts}
-use Rattle.chunk.proofs.Escapes as laws
+use Rattle.chunk.proofs.texts.Escapes as laws
 use Rattle.chunk.proofs.biblatex.escaped.Statement.{statement}
 use Rattle.chunk.proofs.biblatex.escaped.Tie as tie
 

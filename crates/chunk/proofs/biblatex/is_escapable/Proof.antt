@@ -1,6 +1,6 @@
 -- `chunk::biblatex::is_escapable` meets its contract. Assumes nothing.
 use Rattle.chunk.specs.Format.{isEscapable}
-use Rattle.chunk.proofs.Escapes.{in-a-row}
+use Rattle.chunk.proofs.texts.Escapes.{in-a-row}
 use Rattle.chunk.proofs.biblatex.is_escapable.Statement.{statement}
 use Rattle.chunk.proofs.biblatex.is_escapable.Tie as tie
 

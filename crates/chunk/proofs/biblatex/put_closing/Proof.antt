@@ -3,7 +3,7 @@ use native.Mathlib.Omega.{arith}
 use mathlib.Core.Path.{sym, ap}
 use borrow.Author.Needs.{needs}
 use Rattle.chunk.specs.Format.{closing}
-use Rattle.chunk.proofs.Puts.{puts-on, puts-as}
+use Rattle.chunk.proofs.texts.Puts.{puts-on, puts-as}
 use Rattle.chunk.proofs.biblatex.put_closing.Statement.{statement}
 use Rattle.chunk.proofs.biblatex.put_closing.Tie as tie
 

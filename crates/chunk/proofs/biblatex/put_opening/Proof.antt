@@ -3,7 +3,7 @@ use native.Mathlib.Omega.{arith}
 use mathlib.Core.Path.{sym, ap, ap₂}
 use borrow.Author.Needs.{needs}
 use Rattle.chunk.specs.Format.{opening}
-use Rattle.chunk.proofs.Puts.{puts-none, puts-as}
+use Rattle.chunk.proofs.texts.Puts.{puts-none, puts-as}
 use Rattle.chunk.proofs.biblatex.put_opening.Statement.{statement}
 use Rattle.chunk.proofs.biblatex.put_opening.Tie as tie
 

@@ -2,7 +2,7 @@
 use native.Mathlib.Omega.{arith}
 use mathlib.Core.Path.{sym, _∙_}
 use borrow.Author.Needs.{needs}
-use Rattle.chunk.proofs.Answers as laws
+use Rattle.chunk.proofs.rows.Answers as laws
 use Rattle.chunk.proofs.biblatex.to_biblatex_string.Statement.{statement}
 use Rattle.chunk.proofs.biblatex.to_biblatex_string.Tie as tie
 

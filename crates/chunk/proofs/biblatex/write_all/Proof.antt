@@ -4,9 +4,9 @@ use native.Mathlib.Omega.{arith}
 use mathlib.Core.Path.{refl, _∙_}
 use lib.ListN.{length}
 use borrow.Author.Needs.{needs}
-use Rattle.chunk.proofs.Checks.{five}
-use Rattle.chunk.proofs.Passes.{row-here}
-use Rattle.chunk.proofs.Turns as laws
+use Rattle.chunk.proofs.rows.RowCheck.{five}
+use Rattle.chunk.proofs.passes.Passes.{row-here}
+use Rattle.chunk.proofs.passes.PassTurns as laws
 use Rattle.chunk.proofs.biblatex.write_all.Statement.{statement}
 use Rattle.chunk.proofs.biblatex.write_all.Tie as tie
 

@@ -3,7 +3,7 @@ use Prim.Native.Nat.{_-_}
 use mathlib.Core.Path.{sym, _∙_}
 use lib.ListN.{length}
 use borrow.Author.Needs.{needs}
-use Rattle.chunk.proofs.Checks as laws
+use Rattle.chunk.proofs.rows.RowCheck as laws
 use Rattle.chunk.proofs.check.are_chunks.Statement.{statement}
 use Rattle.chunk.proofs.check.are_chunks.Tie as tie
 

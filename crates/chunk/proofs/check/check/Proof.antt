@@ -1,7 +1,7 @@
 -- `chunk::check::check` meets its contract. Assumes nothing.
 use mathlib.Core.Path.{sym, _∙_}
 use borrow.Author.Needs.{needs}
-use Rattle.chunk.proofs.Answers as laws
+use Rattle.chunk.proofs.rows.Answers as laws
 use Rattle.chunk.proofs.check.check.Statement.{statement}
 use Rattle.chunk.proofs.check.check.Tie as tie
 

@@ -2,7 +2,7 @@
 use mathlib.Core.Path.{refl, sym}
 use lib.Seq.{length-take-le}
 use borrow.Author.Needs.{needs}
-use Rattle.chunk.proofs.Ends.{code-seen}
+use Rattle.chunk.proofs.texts.LastCharacter.{code-seen}
 use Rattle.chunk.proofs.ending.code_at.Statement.{statement}
 use Rattle.chunk.proofs.ending.code_at.Tie as tie
 

@@ -1,7 +1,7 @@
 -- `chunk::ending::ends_white` meets its contract. Assumes nothing.
 use mathlib.Core.Path.{_∙_}
 use borrow.Author.Needs.{needs}
-use Rattle.chunk.proofs.Ends.{last-less, white-none, white-last}
+use Rattle.chunk.proofs.texts.LastCharacter.{last-less, white-none, white-last}
 use Rattle.chunk.proofs.ending.ends_white.Statement.{statement}
 use Rattle.chunk.proofs.ending.ends_white.Tie as tie
 

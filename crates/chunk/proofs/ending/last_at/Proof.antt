@@ -6,7 +6,7 @@ use lib.ListN.{length}
 use borrow.Author.Needs.{needs}
 use Rattle.text.specs.Scan.{part}
 use Rattle.chunk.specs.Format.{lastAt}
-use Rattle.chunk.proofs.Ends as laws
+use Rattle.chunk.proofs.texts.LastCharacter as laws
 use Rattle.chunk.proofs.ending.last_at.Statement.{statement}
 use Rattle.chunk.proofs.ending.last_at.Tie as tie
 

@@ -7,7 +7,7 @@ use lib.ListN.{length}
 use borrow.Author.Needs.{needs}
 use Rattle.text.specs.Scan.{part}
 use Rattle.chunk.specs.Inner.{plain}
-use Rattle.chunk.proofs.Lines as laws
+use Rattle.chunk.proofs.texts.LineEnds as laws
 use Rattle.chunk.proofs.ending.line_end.Statement.{statement}
 use Rattle.chunk.proofs.ending.line_end.Tie as tie
 

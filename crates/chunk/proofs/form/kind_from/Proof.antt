@@ -1,6 +1,6 @@
 -- `chunk::form::kind_from` meets its contract. Assumes nothing.
 use borrow.Author.Needs.{needs}
-use Rattle.chunk.proofs.Rows.{kind-rest}
+use Rattle.chunk.proofs.rows.ChunkRows.{kind-rest}
 use Rattle.chunk.proofs.form.kind_from.Statement.{statement}
 use Rattle.chunk.proofs.form.kind_from.Tie as tie
 

@@ -3,7 +3,7 @@ use native.Mathlib.Omega.{arith}
 use lib.ListN.{length-set}
 use borrow.Author.Needs.{needs}
 use Rattle.chunk.specs.Chunk.{kindOf, chunkRow}
-use Rattle.chunk.proofs.Rows.{put-sets, put-out}
+use Rattle.chunk.proofs.rows.ChunkRows.{put-sets, put-out}
 use Rattle.chunk.proofs.form.write_chunk.Statement.{statement}
 use Rattle.chunk.proofs.form.write_chunk.Tie as tie
 

@@ -5,7 +5,7 @@ use borrow.Author.Needs.{needs}
 use Rattle.text.specs.Scan.{part}
 use Rattle.chunk.specs.declared.form.Kind.{Kind}
 use Rattle.chunk.specs.Format.{Written, formatOne}
-use Rattle.chunk.proofs.Puts.{puts-on, puts-as}
+use Rattle.chunk.proofs.texts.Puts.{puts-on, puts-as}
 use Rattle.chunk.proofs.format.format_one.Statement.{statement}
 use Rattle.chunk.proofs.format.format_one.Tie as tie
 

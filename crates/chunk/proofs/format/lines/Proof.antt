@@ -5,7 +5,7 @@ use mathlib.Core.Path.{_≡_, subst}
 use mathlib.Core.Bool.{true}
 use Rattle.text.specs.Scan.{part}
 use Rattle.chunk.specs.Inner.{stops}
-use Rattle.chunk.proofs.Lines as laws
+use Rattle.chunk.proofs.texts.LineEnds as laws
 use Rattle.chunk.proofs.format.lines.Statement.{statement}
 use Rattle.chunk.proofs.format.lines.Tie as tie
 

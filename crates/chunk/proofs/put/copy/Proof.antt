@@ -6,7 +6,7 @@ use lib.ListN.{length}
 use borrow.Author.Needs.{needs}
 use Rattle.text.specs.Scan.{part}
 use Rattle.chunk.specs.Put.{Puts}
-use Rattle.chunk.proofs.Copies as laws
+use Rattle.chunk.proofs.texts.Copies as laws
 use Rattle.chunk.proofs.put.copy.Statement.{statement}
 use Rattle.chunk.proofs.put.copy.Tie as tie
 

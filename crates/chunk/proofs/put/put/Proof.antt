@@ -1,7 +1,7 @@
 -- `chunk::put::put` meets its contract. Assumes nothing.
 use mathlib.Core.Path.{refl}
 use borrow.Author.Needs.{needs}
-use Rattle.chunk.proofs.Puts.{puts-one, puts-past}
+use Rattle.chunk.proofs.texts.Puts.{puts-one, puts-past}
 use Rattle.chunk.proofs.put.put.Statement.{statement}
 use Rattle.chunk.proofs.put.put.Tie as tie
 

@@ -3,9 +3,9 @@ use Prim.Native.Nat.{_+_}
 use native.Mathlib.Omega.{arith}
 use lib.ListN.{length}
 use borrow.Author.Needs.{needs}
-use Rattle.raw.proofs.Bounds.{step-place}
-use Rattle.raw.proofs.Later.{within-later, ready-later}
-use Rattle.raw.proofs.EntryWays.{body-off, body-on}
+use Rattle.raw.proofs.contracts.Bounds.{step-place}
+use Rattle.raw.proofs.contracts.BoundsAfter.{within-later, ready-later}
+use Rattle.raw.proofs.ways.EntryWays.{body-off, body-on}
 use Rattle.raw.proofs.entry.body.Statement.{statement}
 use Rattle.raw.proofs.entry.body.Tie as tie
 

@@ -3,9 +3,9 @@ use Prim.Native.Nat.{_+_}
 use native.Mathlib.Omega.{arith}
 use lib.ListN.{length}
 use borrow.Author.Needs.{needs}
-use Rattle.raw.proofs.Bounds.{step-place, answer-place}
-use Rattle.raw.proofs.Later.{ready-later}
-use Rattle.raw.proofs.EntryWays.{entry-at-off, entry-type-off, entry-rest-off, entry-end-off, entry-on}
+use Rattle.raw.proofs.contracts.Bounds.{step-place, answer-place}
+use Rattle.raw.proofs.contracts.BoundsAfter.{ready-later}
+use Rattle.raw.proofs.ways.EntryWays.{entry-at-off, entry-type-off, entry-rest-off, entry-end-off, entry-on}
 use Rattle.raw.proofs.entry.entry.Statement.{statement}
 use Rattle.raw.proofs.entry.entry.Tie as tie
 

@@ -3,7 +3,7 @@ use mathlib.Core.Path.{sym, _∙_}
 use mathlib.Core.List.{[], _∷_}
 use borrow.Author.Needs.{needs}
 use Rattle.raw.specs.Grammar.{formOf}
-use Rattle.raw.proofs.Spelling.{ascii-word}
+use Rattle.raw.proofs.ways.SpellingBytes.{ascii-word}
 use Rattle.raw.proofs.entry.form_of.Statement.{statement}
 use Rattle.raw.proofs.entry.form_of.Tie as tie
 

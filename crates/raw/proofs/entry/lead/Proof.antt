@@ -1,6 +1,6 @@
 -- `raw::entry::lead` meets its contract. Assumes nothing.
 use borrow.Author.Needs.{needs}
-use Rattle.raw.proofs.EntryWays.{lead-off, lead-on}
+use Rattle.raw.proofs.ways.EntryWays.{lead-off, lead-on}
 use Rattle.raw.proofs.entry.lead.Statement.{statement}
 use Rattle.raw.proofs.entry.lead.Tie as tie
 

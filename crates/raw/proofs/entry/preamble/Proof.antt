@@ -2,8 +2,8 @@
 use native.Mathlib.Omega.{arith}
 use lib.ListN.{length}
 use borrow.Author.Needs.{needs}
-use Rattle.raw.proofs.Bounds.{step-place}
-use Rattle.raw.proofs.EntryWays.{preamble-off, preamble-on}
+use Rattle.raw.proofs.contracts.Bounds.{step-place}
+use Rattle.raw.proofs.ways.EntryWays.{preamble-off, preamble-on}
 use Rattle.raw.proofs.entry.preamble.Statement.{statement}
 use Rattle.raw.proofs.entry.preamble.Tie as tie
 

@@ -3,10 +3,10 @@ use Prim.Native.Nat.{_+_}
 use native.Mathlib.Omega.{arith}
 use lib.ListN.{length}
 use borrow.Author.Needs.{needs}
-use Rattle.raw.proofs.Saying.{says-at}
-use Rattle.raw.proofs.Bounds.{step-place, answer-place}
-use Rattle.raw.proofs.Later.{within-later, ready-later}
-use Rattle.raw.proofs.EntryWays.{rest-off, rest-strings, rest-preamble, rest-comment, rest-other-off, rest-other}
+use Rattle.raw.proofs.contracts.SaysLaws.{says-at}
+use Rattle.raw.proofs.contracts.Bounds.{step-place, answer-place}
+use Rattle.raw.proofs.contracts.BoundsAfter.{within-later, ready-later}
+use Rattle.raw.proofs.ways.EntryWays.{rest-off, rest-strings, rest-preamble, rest-comment, rest-other-off, rest-other}
 use Rattle.raw.proofs.entry.rest.Statement.{statement}
 use Rattle.raw.proofs.entry.rest.Tie as tie
 

@@ -5,7 +5,7 @@ use native.Mathlib.Omega.{arith}
 use lib.ListN.{length, drop}
 use borrow.Author.Needs.{needs}
 use Rattle.raw.specs.Grammar.{spells}
-use Rattle.raw.proofs.Spelling.{spells-length, spells-on, spells-off, spells-done}
+use Rattle.raw.proofs.ways.SpellingBytes.{spells-length, spells-on, spells-off, spells-done}
 use Rattle.raw.proofs.entry.spells.Statement.{statement}
 use Rattle.raw.proofs.entry.spells.Tie as tie
 

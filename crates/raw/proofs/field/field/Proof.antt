@@ -3,9 +3,9 @@ use Prim.Native.Nat.{_+_}
 use native.Mathlib.Omega.{arith}
 use lib.ListN.{length}
 use borrow.Author.Needs.{needs}
-use Rattle.raw.proofs.Bounds.{step-place, answer-place, off-step, off-within}
-use Rattle.raw.proofs.Later.{ready-later}
-use Rattle.raw.proofs.FieldWays.{name-off, equals-off, value-off, value-on}
+use Rattle.raw.proofs.contracts.Bounds.{step-place, answer-place, off-step, off-within}
+use Rattle.raw.proofs.contracts.BoundsAfter.{ready-later}
+use Rattle.raw.proofs.ways.FieldWays.{name-off, equals-off, value-off, value-on}
 use Rattle.raw.proofs.field.field.Statement.{statement}
 use Rattle.raw.proofs.field.field.Tie as tie
 

@@ -1,8 +1,8 @@
 -- `raw::field::field_end` meets its contract. Assumes nothing.
 use native.Mathlib.Omega.{arith}
 use borrow.Author.Needs.{needs}
-use Rattle.raw.proofs.Saying.{turn-done, turn-again, turn-off}
-use Rattle.raw.proofs.FieldWays.{end-end, end-comma, end-brace, end-off}
+use Rattle.raw.proofs.contracts.SaysLaws.{turn-done, turn-again, turn-off}
+use Rattle.raw.proofs.ways.FieldWays.{end-end, end-comma, end-brace, end-off}
 use Rattle.raw.proofs.field.field_end.Statement.{statement}
 use Rattle.raw.proofs.field.field_end.Tie as tie
 

@@ -3,9 +3,9 @@ use mathlib.Core.Logic.{⊎-elim}
 use native.Mathlib.Omega.{arith}
 use lib.ListN.{length}
 use borrow.Author.Needs.{needs}
-use Rattle.raw.proofs.Saying.{says-at, turn-done, turn-off}
-use Rattle.raw.proofs.Bounds.{answer-place, turn-later}
-use Rattle.raw.proofs.FieldWays.{fields-eof, fields-brace, fields-other, fields-end, fields-off, fields-on}
+use Rattle.raw.proofs.contracts.SaysLaws.{says-at, turn-done, turn-off}
+use Rattle.raw.proofs.contracts.Bounds.{answer-place, turn-later}
+use Rattle.raw.proofs.ways.FieldWays.{fields-eof, fields-brace, fields-other, fields-end, fields-off, fields-on}
 use Rattle.raw.proofs.field.fields_turn.Statement.{statement}
 use Rattle.raw.proofs.field.fields_turn.Tie as tie
 

@@ -4,9 +4,9 @@ use native.Mathlib.Omega.{arith}
 use lib.ListN.{length}
 use borrow.Author.Needs.{needs}
 use Rattle.raw.proofs.readers.Then.{then-off}
-use Rattle.raw.proofs.Saying.{says-at, said-off, turn-of, turn-done, turn-again, turn-off, turn-then}
-use Rattle.raw.proofs.Bounds.{answer-place}
-use Rattle.raw.proofs.FileWays.{file-end, file-entry, file-comment, file-other, comment-further}
+use Rattle.raw.proofs.contracts.SaysLaws.{says-at, said-off, turn-of, turn-done, turn-again, turn-off, turn-then}
+use Rattle.raw.proofs.contracts.Bounds.{answer-place}
+use Rattle.raw.proofs.ways.FileWays.{file-end, file-entry, file-comment, file-other, comment-further}
 use Rattle.raw.proofs.file.file_turn.Statement.{statement}
 use Rattle.raw.proofs.file.file_turn.Tie as tie
 

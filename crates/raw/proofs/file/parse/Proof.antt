@@ -6,10 +6,10 @@ use lib.ListN.{length}
 use borrow.Author.Needs.{needs}
 use Rattle.raw.specs.Reader.{many}
 use Rattle.raw.specs.Grammar.{fileTurn, file}
-use Rattle.raw.proofs.Saying.{turn-at, says-off}
-use Rattle.raw.proofs.Turns.{Leads, leads, loop-on, loop-done, loop-off}
-use Rattle.raw.proofs.Bounds.{again-place, done-place}
-use Rattle.raw.proofs.Later.{ready-later}
+use Rattle.raw.proofs.contracts.SaysLaws.{turn-at, says-off}
+use Rattle.raw.proofs.contracts.LoopSays.{Leads, leads, loop-on, loop-done, loop-off}
+use Rattle.raw.proofs.contracts.Bounds.{again-place, done-place}
+use Rattle.raw.proofs.contracts.BoundsAfter.{ready-later}
 use Rattle.raw.proofs.file.parse.Statement.{statement}
 use Rattle.raw.proofs.file.parse.Tie as tie
 

@@ -1,6 +1,6 @@
 -- `raw::file::parse_bytes` meets its contract. Assumes nothing.
 use borrow.Author.Needs.{needs}
-use Rattle.raw.proofs.FileWays.{bytes-ill, bytes-valid}
+use Rattle.raw.proofs.ways.FileWays.{bytes-ill, bytes-valid}
 use Rattle.raw.proofs.file.parse_bytes.Statement.{statement}
 use Rattle.raw.proofs.file.parse_bytes.Tie as tie
 

@@ -1,6 +1,6 @@
 -- `raw::file::read` meets its contract: it counts over no numbers, and writes if there is room. Assumes nothing.
 use borrow.Author.Needs.{needs}
-use Rattle.raw.proofs.FileWays.{read-long, read-off, read-full, read-fits}
+use Rattle.raw.proofs.ways.FileWays.{read-long, read-off, read-full, read-fits}
 use Rattle.raw.proofs.file.read.Statement.{statement}
 use Rattle.raw.proofs.file.read.Tie as tie
 

@@ -3,7 +3,7 @@ use mathlib.Core.Bool.{_||_}
 use native.Mathlib.Omega.{arith}
 use borrow.Author.Needs.{needs}
 use Rattle.raw.specs.Grammar.{is}
-use Rattle.raw.proofs.Eaten.{need-end, need-other, need-byte}
+use Rattle.raw.proofs.ways.OneCharacter.{need-end, need-other, need-byte}
 use Rattle.text.proofs.general.Tests.{narrow-is, narrow-or}
 use Rattle.raw.proofs.token.brace.Statement.{statement}
 use Rattle.raw.proofs.token.brace.Tie as tie

@@ -2,7 +2,7 @@
 use borrow.Author.Needs.{needs}
 use borrow.Author.Tests.{eq-eqb, ne-eqb}
 use Rattle.raw.specs.Grammar.{is}
-use Rattle.raw.proofs.Eaten.{need-end, need-other, need-byte}
+use Rattle.raw.proofs.ways.OneCharacter.{need-end, need-other, need-byte}
 use Rattle.text.proofs.general.Tests.{narrow-is}
 use Rattle.raw.proofs.token.need.Statement.{statement}
 use Rattle.raw.proofs.token.need.Tie as tie

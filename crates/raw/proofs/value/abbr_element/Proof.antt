@@ -3,9 +3,9 @@ use mathlib.Core.Logic.{⊎-elim}
 use native.Mathlib.Omega.{arith}
 use lib.ListN.{length}
 use borrow.Author.Needs.{needs}
-use Rattle.raw.proofs.Elements.{element-braced, element-quoted}
-use Rattle.raw.proofs.Later.{within-later}
-use Rattle.raw.proofs.Saying.{says-of}
+use Rattle.raw.proofs.ways.DelimitedElement.{element-braced, element-quoted}
+use Rattle.raw.proofs.contracts.BoundsAfter.{within-later}
+use Rattle.raw.proofs.contracts.SaysLaws.{says-of}
 use Rattle.raw.proofs.value.abbr_element.Statement.{statement}
 use Rattle.raw.proofs.value.abbr_element.Tie as tie
 

@@ -8,9 +8,9 @@ use Rattle.row.specs.declared.form.Kind.the-variants as kind
 use Rattle.row.specs.Row.{row}
 use Rattle.raw.specs.Reader.{many, under}
 use Rattle.raw.specs.Grammar.{abbrTurn, abbrField}
-use Rattle.raw.proofs.Saying.{turn-at, says-off, says-under}
-use Rattle.raw.proofs.Turns.{Leads, leads, loop-on, loop-done, loop-off}
-use Rattle.raw.proofs.Bounds.{again-place, done-place}
+use Rattle.raw.proofs.contracts.SaysLaws.{turn-at, says-off, says-under}
+use Rattle.raw.proofs.contracts.LoopSays.{Leads, leads, loop-on, loop-done, loop-off}
+use Rattle.raw.proofs.contracts.Bounds.{again-place, done-place}
 use Rattle.raw.proofs.value.abbr_field.Statement.{statement}
 use Rattle.raw.proofs.value.abbr_field.Tie as tie
 

@@ -3,9 +3,9 @@ use native.Mathlib.Omega.{arith}
 use lib.ListN.{length}
 use borrow.Author.Needs.{needs}
 use Rattle.text.specs.Class.{holdsOf}
-use Rattle.raw.proofs.Saying.{says-at, turn-off}
-use Rattle.raw.proofs.Bounds.{answer-place}
-use Rattle.raw.proofs.Fields.{element-off, turn-last, turn-hash}
+use Rattle.raw.proofs.contracts.SaysLaws.{says-at, turn-off}
+use Rattle.raw.proofs.contracts.Bounds.{answer-place}
+use Rattle.raw.proofs.ways.ElementWays.{element-off, turn-last, turn-hash}
 use Rattle.raw.proofs.value.abbr_turn.Statement.{statement}
 use Rattle.raw.proofs.value.abbr_turn.Tie as tie
 

@@ -4,9 +4,9 @@ use native.Mathlib.Omega.{arith}
 use lib.ListN.{length}
 use borrow.Author.Needs.{needs}
 use Rattle.raw.specs.Grammar.{bracedTurn}
-use Rattle.raw.proofs.Bytes.{Reached, reached}
-use Rattle.raw.proofs.ByteTurns.{braces-end, braces-open, braces-close, braces-closed, braces-plain}
-use Rattle.raw.proofs.ValueBlocks.{braces-clear, braces-far, braces-eof}
+use Rattle.raw.proofs.ways.ByteLoops.{Reached, reached}
+use Rattle.raw.proofs.ways.ByteTurns.{braces-end, braces-open, braces-close, braces-closed, braces-plain}
+use Rattle.raw.proofs.ways.BlockLoops.{braces-clear, braces-far, braces-eof}
 use Rattle.raw.proofs.value.in_braces.Statement.{statement}
 use Rattle.raw.proofs.value.in_braces.Tie as tie
 

@@ -5,7 +5,7 @@ use borrow.Author.Needs.{needs}
 use Rattle.row.specs.declared.form.Kind.the-variants as kind
 use Rattle.raw.specs.Says.{refusedOf}
 use Rattle.raw.specs.Inner.{literalOf}
-use Rattle.raw.proofs.Saying.{says-of, says-off, says-at, says-on, says-row}
+use Rattle.raw.proofs.contracts.SaysLaws.{says-of, says-off, says-at, says-on, says-row}
 use Rattle.raw.proofs.value.literal.Statement.{statement}
 use Rattle.raw.proofs.value.literal.Tie as tie
 

@@ -3,8 +3,8 @@ use Prim.Native.Nat.{_-_}
 use native.Mathlib.Omega.{arith}
 use lib.ListN.{length}
 use Rattle.raw.specs.Grammar.{numberTurn}
-use Rattle.raw.proofs.Bytes.{Reached, reached}
-use Rattle.raw.proofs.ByteTurns.{dotted, number-end, number-digit, number-point, number-again, number-done}
+use Rattle.raw.proofs.ways.ByteLoops.{Reached, reached}
+use Rattle.raw.proofs.ways.ByteTurns.{dotted, number-end, number-digit, number-point, number-again, number-done}
 use Rattle.raw.proofs.value.number.Statement.{statement}
 use Rattle.raw.proofs.value.number.Tie as tie
 

@@ -4,9 +4,9 @@ use native.Mathlib.Omega.{arith}
 use lib.ListN.{length}
 use borrow.Author.Needs.{needs}
 use Rattle.raw.specs.Grammar.{quotedTurn}
-use Rattle.raw.proofs.Bytes.{Reached, reached}
-use Rattle.raw.proofs.ByteTurns.{quoted-closed, quoted-plain}
-use Rattle.raw.proofs.ValueBlocks.{quoted-clear, quoted-far, quoted-rest}
+use Rattle.raw.proofs.ways.ByteLoops.{Reached, reached}
+use Rattle.raw.proofs.ways.ByteTurns.{quoted-closed, quoted-plain}
+use Rattle.raw.proofs.ways.BlockLoops.{quoted-clear, quoted-far, quoted-rest}
 use Rattle.raw.proofs.value.quoted.Statement.{statement}
 use Rattle.raw.proofs.value.quoted.Tie as tie
 

@@ -3,8 +3,8 @@ use Prim.Native.Nat.{_-_}
 use native.Mathlib.Omega.{arith}
 use lib.ListN.{length}
 use Rattle.raw.specs.Grammar.{quotedTurn}
-use Rattle.raw.proofs.Bytes.{Reached, reached}
-use Rattle.raw.proofs.ByteTurns.{quoted-end, quoted-closed, quoted-cut, quoted-escape, quoted-plain}
+use Rattle.raw.proofs.ways.ByteLoops.{Reached, reached}
+use Rattle.raw.proofs.ways.ByteTurns.{quoted-end, quoted-closed, quoted-cut, quoted-escape, quoted-plain}
 use Rattle.raw.proofs.value.quoted_end.Statement.{statement}
 use Rattle.raw.proofs.value.quoted_end.Tie as tie
 

@@ -4,8 +4,8 @@ use native.Mathlib.Omega.{arith}
 use lib.ListN.{length}
 use borrow.Author.Needs.{needs}
 use Rattle.raw.specs.Says.{stepOf}
-use Rattle.raw.proofs.Bounds.{step-ahead, onward-from, off-onward}
-use Rattle.raw.proofs.Enclosed.{string-first-off, string-inside-off, string-rest}
+use Rattle.raw.proofs.contracts.Bounds.{step-ahead, onward-from, off-onward}
+use Rattle.raw.proofs.ways.DelimitedLiteral.{string-first-off, string-inside-off, string-rest}
 use Rattle.raw.proofs.value.string.Statement.{statement}
 use Rattle.raw.proofs.value.string.Tie as tie
 

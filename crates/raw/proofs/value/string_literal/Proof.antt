@@ -4,9 +4,9 @@ use lib.ListN.{length}
 use borrow.Author.Needs.{needs}
 use Rattle.raw.specs.Grammar.{quote, quoted, stringLiteral}
 use Rattle.raw.proofs.grammar.Rowless.{quote-rowless, quoted-rowless}
-use Rattle.raw.proofs.Bounds.{step-place, off-step}
-use Rattle.raw.proofs.Saying.{says-of}
-use Rattle.raw.proofs.Enclosed.{opens-off, inside-off, closes, literal-within}
+use Rattle.raw.proofs.contracts.Bounds.{step-place, off-step}
+use Rattle.raw.proofs.contracts.SaysLaws.{says-of}
+use Rattle.raw.proofs.ways.DelimitedLiteral.{opens-off, inside-off, closes, literal-within}
 use Rattle.raw.proofs.value.string_literal.Statement.{statement}
 use Rattle.raw.proofs.value.string_literal.Tie as tie
 

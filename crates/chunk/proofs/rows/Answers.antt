@@ -26,7 +26,7 @@ use Rattle.chunk.specs.declared.answer.Writing.the-variants as writing
 use Rattle.chunk.specs.Chunk.{areChunks}
 use Rattle.chunk.specs.Put.{totalOf, Fills}
 use Rattle.chunk.specs.Write.{rowsChecked, checkedOf, Write}
-use Rattle.chunk.proofs.Puts.{sets-fits}
+use Rattle.chunk.proofs.texts.Puts.{sets-fits}
 
 -- ---- the check
 

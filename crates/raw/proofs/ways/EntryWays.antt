@@ -27,10 +27,10 @@ use Rattle.raw.specs.Grammar.{white, comma, atSign, opening, closing, co
 use Rattle.raw.specs.Says.{stepOf, refusedOf, Onward, Within, Says}
 use Rattle.raw.proofs.grammar.Rowless.{rowless-at, rowless-off}
 use Rattle.raw.proofs.readers.Then.{then-on, then-off}
-use Rattle.raw.proofs.Saying.{says-of, says-at, says-on, says-off, said-off, says-row, says-mark, says-then, says-under}
-use Rattle.raw.proofs.TokenWays.{white-on, scan-on, comment-on, key-on}
+use Rattle.raw.proofs.contracts.SaysLaws.{says-of, says-at, says-on, says-off, said-off, says-row, says-mark, says-then, says-under}
+use Rattle.raw.proofs.ways.TokenWays.{white-on, scan-on, comment-on, key-on}
 use Rattle.raw.proofs.grammar.Rowless.{opening-rowless, string-rowless, comma-rowless, at-sign-rowless, ident-rowless, closing-rowless, lead-rowless}
-use Rattle.raw.proofs.Bounds.{step-ahead, off-onward, off-step, off-answer, off-within}
+use Rattle.raw.proofs.contracts.Bounds.{step-ahead, off-onward, off-step, off-answer, off-within}
 
 -- ---- the opening delimiter
 

@@ -17,7 +17,7 @@ use Rattle.text.proofs.general.Below.{below, each}
 use Rattle.text.proofs.Seeing.{seeing}
 use Rattle.raw.specs.Grammar.{lower, spells}
 use Rattle.raw.specs.Says.{Ascii}
-use Rattle.raw.proofs.Bytes.{Narrow, seen-other}
+use Rattle.raw.proofs.ways.ByteLoops.{Narrow, seen-other}
 
 lower-least : (c : ℕ) → c ≤ lower c
 lower-least c = go (leb 0x41 c && leb c 0x5A)

@@ -8,8 +8,8 @@ use mathlib.Core.List.{List, [], _∷_}
 use lib.ListN.{length, getD}
 use Rattle.text.specs.Scan.{part}
 use Rattle.chunk.specs.Put.{Puts}
-use Rattle.chunk.proofs.Parts.{part-none, part-more, length-part}
-use Rattle.chunk.proofs.Puts.{puts-none, puts-past, puts-on, puts-as}
+use Rattle.chunk.proofs.texts.Parts.{part-none, part-more, length-part}
+use Rattle.chunk.proofs.texts.Puts.{puts-none, puts-past, puts-on, puts-as}
 
 module _ (s : List ℕ) (a : ℕ) where
   pub copy-start : (o : List ℕ) (n : ℕ) → Puts o n (part s a a) n o

@@ -12,8 +12,8 @@ use lib.ListN.{length, getD}
 use Rattle.text.specs.Scan.{part}
 use Rattle.chunk.specs.Format.{isEscapable, escaped}
 use Rattle.chunk.specs.Put.{Puts}
-use Rattle.chunk.proofs.Parts.{part-none, part-more}
-use Rattle.chunk.proofs.Puts.{puts-none, puts-on, puts-as}
+use Rattle.chunk.proofs.texts.Parts.{part-none, part-more}
+use Rattle.chunk.proofs.texts.Puts.{puts-none, puts-on, puts-as}
 
 pub in-a-row : (a b c d e f g h i j k v r : Bool) →
     (a || b || c || ((d || e || f || g || h || i || j) && not v) || (k && r))

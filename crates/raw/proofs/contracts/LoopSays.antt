@@ -14,7 +14,7 @@ use Rattle.raw.specs.declared.answer.Turn.{Turn}
 use Rattle.raw.specs.declared.answer.Turn.the-variants as turn
 use Rattle.raw.specs.Reader.{Out, ok, again, bad, Reader, after, loop, many}
 use Rattle.raw.specs.Says.{turnOf, Room, Says, SaysTurn}
-use Rattle.raw.proofs.Saying.{says-of, says-more, says-off, said-off}
+use Rattle.raw.proofs.contracts.SaysLaws.{says-of, says-more, says-off, said-off}
 
 -- ---- turns that differ
 

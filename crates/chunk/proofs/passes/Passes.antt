@@ -18,8 +18,8 @@ use Rattle.text.proofs.general.Tests.{both-true}
 use Rattle.chunk.specs.declared.answer.Total.the-variants as total
 use Rattle.chunk.specs.Chunk.{Chunk, ChunkRow, chunkRows, chunkOf, isChunk, everyChunk, areChunks, Stores}
 use Rattle.chunk.specs.Put.{Puts, Fills}
-use Rattle.chunk.proofs.Checks.{rowAt, rows-open, rows-end, Checking, five, opened, check-turn}
-use Rattle.chunk.proofs.Puts.{puts-on}
+use Rattle.chunk.proofs.rows.RowCheck.{rowAt, rows-open, rows-end, Checking, five, opened, check-turn}
+use Rattle.chunk.proofs.texts.Puts.{puts-on}
 
 -- ---- a row that passed the check
 

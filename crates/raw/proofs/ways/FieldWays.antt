@@ -25,11 +25,11 @@ use Rattle.raw.specs.Grammar.{is, any, white, comma, ident, equals, abbr
 use Rattle.raw.specs.Says.{stepOf, Says, SaysTurn}
 use Rattle.raw.proofs.grammar.Rowless.{rowless-at, rowless-off}
 use Rattle.raw.proofs.readers.Then.{then-on, then-off}
-use Rattle.raw.proofs.Eaten.{byte-end, byte-on, byte-off}
+use Rattle.raw.proofs.ways.OneCharacter.{byte-end, byte-on, byte-off}
 use Rattle.text.proofs.general.Tests.{narrow-is}
-use Rattle.raw.proofs.TokenWays.{white-on, comment-on}
+use Rattle.raw.proofs.ways.TokenWays.{white-on, comment-on}
 use Rattle.raw.proofs.grammar.Rowless.{ident-rowless, equals-rowless}
-use Rattle.raw.proofs.Saying.{says-of, says-at, says-on, says-off, says-then, says-mark, said-off, turn-of, turn-then, turn-off}
+use Rattle.raw.proofs.contracts.SaysLaws.{says-of, says-at, says-on, says-off, says-then, says-mark, said-off, turn-of, turn-then, turn-off}
 
 -- ---- `field`
 

@@ -27,7 +27,7 @@ use Rattle.raw.specs.Says.{stepOf, Onward}
 use Rattle.raw.proofs.readers.Loop.{many-turn}
 use Rattle.raw.proofs.grammar.Readers.{quoted-turn-kept, number-turn-kept, braced-turn-kept}
 use Rattle.text.proofs.general.Tests.{narrow-is, within-true}
-use Rattle.raw.proofs.Bytes.{Narrow, seen-key, seen-other, Unrolls, Wide, Reached, on-turn, on-char, on-cut, on-escape, at-stop, at-bad}
+use Rattle.raw.proofs.ways.ByteLoops.{Narrow, seen-key, seen-other, Unrolls, Wide, Reached, on-turn, on-char, on-cut, on-escape, at-stop, at-bad}
 
 -- what a reader without rows is to answer
 abbrev Answers : Reader → List ℕ → ℕ → Step → Type 0

@@ -23,8 +23,8 @@ use Rattle.raw.specs.declared.answer.Step.the-variants as step
 use Rattle.raw.specs.Reader.{Reader}
 use Rattle.raw.specs.Says.{stepOf, Onward}
 use Rattle.raw.specs.Grammar.{quotedTurn, quoted, bracedTurn, inBraces}
-use Rattle.raw.proofs.Bytes.{Reached}
-use Rattle.raw.proofs.ByteTurns.{quoted-plain, quoted-escape, braces-plain, braces-escape, braces-cut, braces-end}
+use Rattle.raw.proofs.ways.ByteLoops.{Reached}
+use Rattle.raw.proofs.ways.ByteTurns.{quoted-plain, quoted-escape, braces-plain, braces-escape, braces-cut, braces-end}
 
 -- the loop of the turns t reached k, and the byte there is not of the set: it reaches k + 1
 abbrev Passes : (ℕ → Reader) → Set → List ℕ → ℕ → ℕ → Type 0

@@ -34,9 +34,9 @@ use Rattle.row.specs.Limits.{mostBytes}
 use Rattle.raw.specs.Read.{strict, readingOut, leftOut, Read}
 use Rattle.row.proofs.Laid.{laid}
 use Rattle.raw.proofs.readers.Then.{then-on}
-use Rattle.raw.proofs.Saying.{says-at, said-off}
-use Rattle.raw.proofs.TokenWays.{scan-on, white-on, comment-on}
-use Rattle.raw.proofs.Bytes.{seen-key, seen-other}
+use Rattle.raw.proofs.contracts.SaysLaws.{says-at, said-off}
+use Rattle.raw.proofs.ways.TokenWays.{scan-on, white-on, comment-on}
+use Rattle.raw.proofs.ways.ByteLoops.{seen-key, seen-other}
 use Rattle.text.proofs.general.Tests.{narrow-is}
 use Rattle.raw.proofs.Steps.{strict-valid, strict-ill, strict-file}
 

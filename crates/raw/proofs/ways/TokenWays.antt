@@ -23,7 +23,7 @@ use Rattle.raw.specs.Grammar.{white, comment, key, ident}
 use Rattle.raw.specs.Says.{stepOf, Onward}
 use Rattle.raw.proofs.readers.Scans.{scan-skip}
 use Rattle.raw.proofs.grammar.Rowless.{rowless-at, comment-rowless, key-rowless}
-use Rattle.raw.proofs.Eaten.{not-at, eaten-off, eaten-on}
+use Rattle.raw.proofs.ways.OneCharacter.{not-at, eaten-off, eaten-on}
 
 -- ---- scans
 

@@ -18,9 +18,9 @@ use Rattle.chunk.specs.Chunk.{kindFrom, chunkRows, chunksOf, everyChunk,
 use Rattle.chunk.specs.Format.{Written, formatOne, formatFrom, formatVerbatim}
 use Rattle.chunk.specs.Format.{opening, extraAfter, bodyOf, biblatexOne, closing, biblatexFrom, toBiblatexString}
 use Rattle.chunk.specs.Put.{Puts, Fills}
-use Rattle.chunk.proofs.Checks.{Checking, checking}
-use Rattle.chunk.proofs.Puts.{puts-none, puts-on}
-use Rattle.chunk.proofs.Passes.{rest, Passing, passed, at-end, fills-more, fills-bytes}
+use Rattle.chunk.proofs.rows.RowCheck.{Checking, checking}
+use Rattle.chunk.proofs.texts.Puts.{puts-none, puts-on}
+use Rattle.chunk.proofs.passes.Passes.{rest, Passing, passed, at-end, fills-more, fills-bytes}
 
 -- the kind and the text of the row from number i on
 pub record Row (l : List ℕ) (i : ℕ) (kind : Kind) (k f e : ℕ) : Type 0 where

@@ -16,7 +16,7 @@ use Rattle.raw.specs.declared.answer.Turn.{Turn}
 use Rattle.raw.specs.declared.answer.Turn.the-variants as turn
 use Rattle.raw.specs.Reader.{Out, ok, again, bad}
 use Rattle.raw.specs.Says.{stepOf, Onward, Within, WithinTurn, refusedOf, Says}
-use Rattle.raw.proofs.Saying.{says-off, says-at}
+use Rattle.raw.proofs.contracts.SaysLaws.{says-off, says-at}
 
 module _ (len w p : ℕ) where
   pub step-ahead : {r : Step} {q : ℕ} → r ≡ step.At q → Onward len w p r → (p + w ≤ q) × (q ≤ max p len)

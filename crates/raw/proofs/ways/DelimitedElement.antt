@@ -10,8 +10,8 @@ use lib.ListN.{length, getD}
 use Rattle.text.specs.Class.{whiteSpace, control, isWhitespace, isControl, isIdContinue, isIdStart, holdsOf}
 use Rattle.text.specs.declared.class.Test.the-variants as test
 use Rattle.raw.specs.Grammar.{abbrElement, singleField, braced, stringLiteral}
-use Rattle.raw.proofs.Bytes.{seen-key}
-use Rattle.raw.proofs.Fields.{single-braced, single-quoted}
+use Rattle.raw.proofs.ways.ByteLoops.{seen-key}
+use Rattle.raw.proofs.ways.ElementWays.{single-braced, single-quoted}
 
 digit-off : (holdsOf test.Digit 0x7B ≡ false) × (holdsOf test.Digit 0x22 ≡ false)
 unfolding holdsOf

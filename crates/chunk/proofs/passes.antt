@@ -1,0 +1,8 @@
+-- The writers' passes over chunk rows.
+
+-- a text that is formatted chunk by chunk is what `formatVerbatim` makes of all
+pub mod ChunkByChunk
+-- a pass over chunk rows, for both writers
+pub mod Passes
+-- the turns of both passes
+pub mod PassTurns

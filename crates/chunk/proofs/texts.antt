@@ -1,0 +1,16 @@
+-- Texts that are read and written octet by octet.
+
+-- a text from a place to another
+pub mod Parts
+-- octets put into lent bytes
+pub mod Puts
+-- bytes of a text copied over lent bytes
+pub mod Copies
+-- the last character of a text, sought from its end
+pub mod LastCharacter
+-- a Normal text, run by run between its line ends
+pub mod LineEnds
+-- characters that are escaped
+pub mod Escapes
+-- sequences that the writers pass as they are
+pub mod PassedSequences
