@@ -29,7 +29,7 @@ module _ (t l w : List ℕ) (n : ℕ) (f : Fault) where
   by-room true e = let z : _≡_ {A = ℕ} 0 1 = cc in absurd (omega arith)
   by-room false e = let q : nowhere NoRoom ≡ f = cc in subst (WriteFault t l) q full
 
-  by-rows : (x : Bool) → areChunks t l ≡ x → writing.Refused f ≡ writingOf (cond x checked.Sound (checked.Refused (nowhere BadRows))) w n →
+  by-rows : (x : Bool) → areChunks t l ≡ x → writing.Refused f ≡ writingOf (cond x checked.Passed (checked.Refused (nowhere BadRows))) w n →
       WriteFault t l f
   by-rows true p e = by-room (leb (length w) n) e
   by-rows false p e = let q : nowhere BadRows ≡ f = cc in subst (WriteFault t l) q (unsound p)
@@ -48,7 +48,7 @@ write-fault t l w n f e = by-text t l w n f (validityOf t) refl e
 check-not-full : (t l : List ℕ) (v : Validity) → rowsChecked t l v ≡ checked.Refused (nowhere NoRoom) → ⊥
 check-not-full t l validity.Valid e = by (areChunks t l) e
   where
-    by : (x : Bool) → cond x checked.Sound (checked.Refused (nowhere BadRows)) ≡ checked.Refused (nowhere NoRoom) → ⊥
+    by : (x : Bool) → cond x checked.Passed (checked.Refused (nowhere BadRows)) ≡ checked.Refused (nowhere NoRoom) → ⊥
     by true e = let z : _≡_ {A = ℕ} 0 1 = cc in absurd (omega arith)
     by false e = let q : nowhere BadRows ≡ nowhere NoRoom = cc in let n : _≡_ {A = ℕ} 17 16 = ap (λ (f : Fault). numberOf (f .reason)) q in absurd (omega arith)
 check-not-full t l (validity.IllFormed m) e =
@@ -57,20 +57,20 @@ check-not-full t l (validity.IllFormed m) e =
 -- a writer of w whose check comes to c
 module _ (w : List ℕ) where
   full-told : (c : Checked) → (c ≡ checked.Refused (nowhere NoRoom) → ⊥) → (x : ℕ) → writingOf c w x ≡ writing.Refused (nowhere NoRoom) →
-      (c ≡ checked.Sound) × (x < length w)
-  full-told checked.Sound other x e = by (leb (length w) x) refl e
+      (c ≡ checked.Passed) × (x < length w)
+  full-told checked.Passed other x e = by (leb (length w) x) refl e
     where
       by : (y : Bool) → leb (length w) x ≡ y → cond y (writing.Written (length w)) (writing.Refused (nowhere NoRoom)) ≡ writing.Refused (nowhere NoRoom) →
-          (checked.Sound ≡ checked.Sound) × (x < length w)
+          (checked.Passed ≡ checked.Passed) × (x < length w)
       by true d e = let z : _≡_ {A = ℕ} 0 1 = cc in absurd (omega arith)
       by false d e = (refl, leb-false (length w) x d)
   full-told (checked.Refused f) other x e = let z : f ≡ nowhere NoRoom = cc in absurd (other (ap checked.Refused z))
 
   too-little : (c : Checked) (x y m : ℕ) → writing.Written m ≡ writingOf c w y → x < m → writingOf c w x ≡ writing.Refused (nowhere NoRoom)
-  too-little checked.Sound x y m e h = by (leb (length w) y) e h
+  too-little checked.Passed x y m e h = by (leb (length w) y) e h
     where
       by : (z : Bool) → writing.Written m ≡ cond z (writing.Written (length w)) (writing.Refused (nowhere NoRoom)) → x < m →
-          writingOf checked.Sound w x ≡ writing.Refused (nowhere NoRoom)
+          writingOf checked.Passed w x ≡ writing.Refused (nowhere NoRoom)
       by true e h = let z : m ≡ length w = cc in rw (lt-leb (length w) x (omega arith))
       by false e h = let z : _≡_ {A = ℕ} 0 1 = cc in absurd (omega arith)
   too-little (checked.Refused f) x y m e h = let z : _≡_ {A = ℕ} 0 1 = cc in absurd (omega arith)

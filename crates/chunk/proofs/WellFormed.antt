@@ -130,7 +130,7 @@ unfolding everyChunk
 rows-texts t [] o e = texts.none
 rows-texts t (r ∷ rs) o e = let b = both-true (isChunk t r) (everyChunk t rs) e in texts.next (row-octets t r o (b .0)) (rows-texts t rs o (b .1))
 
-check-texts : (t l : List ℕ) → checkedOf t l ≡ checked.Sound → Texts (chunksOf t l)
+check-texts : (t l : List ℕ) → checkedOf t l ≡ checked.Passed → Texts (chunksOf t l)
 unfolding areChunks
 check-texts t l e =
     let s = are-chunks t l e in

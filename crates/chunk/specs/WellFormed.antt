@@ -19,7 +19,7 @@ pub data Texts : List Chunk → Type 0 where
 
 pub record WellFormed : Type 0 where
   -- the chunks that pass the check have such texts
-  pub checked : (t l : List ℕ) → checkedOf t l ≡ checked.Sound → Texts (chunksOf t l)
+  pub checked : (t l : List ℕ) → checkedOf t l ≡ checked.Passed → Texts (chunksOf t l)
   -- and then the definitions give such texts
   pub formatted : (cs : List Chunk) → Texts cs → Octets (formatVerbatim cs)
   pub serialized : (verb : Bool) (cs : List Chunk) → Texts cs → Octets (toBiblatexString verb cs)

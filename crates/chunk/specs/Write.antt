@@ -25,7 +25,7 @@ use Rattle.chunk.specs.Format.{formatVerbatim, toBiblatexString}
 -- ---- the check of the lent text t and the lent numbers l
 
 abbrev pub rowsChecked : List ℕ → List ℕ → Validity → Checked
-rowsChecked t l validity.Valid = cond (areChunks t l) checked.Sound (checked.Refused (nowhere BadRows))
+rowsChecked t l validity.Valid = cond (areChunks t l) checked.Passed (checked.Refused (nowhere BadRows))
 rowsChecked t l (validity.IllFormed n) = checked.Refused (faultAt NotUtf8 n)
 
 unfoldable pub checkedOf : List ℕ → List ℕ → Checked
@@ -34,12 +34,12 @@ checkedOf t l = rowsChecked t l (validityOf t)
 -- ---- a writer, by what the check says and what it has to write
 
 abbrev pub writingOf : Checked → List ℕ → ℕ → Writing
-writingOf checked.Sound w size = cond (leb (length w) size) (writing.Written (length w)) (writing.Refused (nowhere NoRoom))
+writingOf checked.Passed w size = cond (leb (length w) size) (writing.Written (length w)) (writing.Refused (nowhere NoRoom))
 writingOf (checked.Refused f) w size = writing.Refused f
 
 -- the lent bytes: the text in front of what they held, or as they were
 abbrev pub writtenInto : Checked → List ℕ → List ℕ → List ℕ
-writtenInto checked.Sound w b = cond (leb (length w) (length b)) (w ++ drop (length w) b) b
+writtenInto checked.Passed w b = cond (leb (length w) (length b)) (w ++ drop (length w) b) b
 writtenInto (checked.Refused f) w b = b
 
 -- a writer of w over the lent bytes b answers r and leaves b′

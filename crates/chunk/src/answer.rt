@@ -9,7 +9,7 @@ pub enum Writing {
 
 // Of the check of lent rows and text.
 pub enum Checked {
-    Sound,
+    Passed,
     Refused(Fault),
 }
 

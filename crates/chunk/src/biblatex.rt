@@ -171,7 +171,7 @@ pub fn to_biblatex_string(t: &[u8], rows: &[u32], verb: bool, out: &mut [u8]) ->
         Checked::Refused(f) => {
             return Writing::Refused(f);
         }
-        Checked::Sound => {}
+        Checked::Passed => {}
     }
     let room = out.len();
     let mut none = [0u8; 0];

@@ -49,7 +49,7 @@ pub fn check(t: &[u8], rows: &[u32]) -> Checked
         Validity::Valid => {}
     }
     if are_chunks(t, rows) {
-        return Checked::Sound;
+        return Checked::Passed;
     }
     Checked::Refused(Fault {
         reason: Reason::BadRows,

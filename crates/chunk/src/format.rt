@@ -115,7 +115,7 @@ pub fn format_verbatim(t: &[u8], rows: &[u32], out: &mut [u8]) -> Writing
         Checked::Refused(f) => {
             return Writing::Refused(f);
         }
-        Checked::Sound => {}
+        Checked::Passed => {}
     }
     let room = out.len();
     let mut none = [0u8; 0];

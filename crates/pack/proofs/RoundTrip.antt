@@ -9,7 +9,7 @@ use lib.ListN.{length, take, drop}
 use lib.Seq.{take-at}
 use Rattle.row.specs.Row.{flat}
 use Rattle.row.specs.Rules.{isRows, run, next}
-use Rattle.row.specs.Numbers.{rowsOf, isSound}
+use Rattle.row.specs.Numbers.{rowsOf, areRows}
 use Rattle.row.proofs.Laid.{laid}
 use Rattle.row.specs.declared.fault.Outcome.{Outcome}
 use Rattle.row.specs.declared.fault.Outcome.the-variants.{Count}
@@ -73,7 +73,7 @@ packs s c c′ n w u b b′ r p h =
 -- ---- 01's example
 
 edge-fits : isPackable edgeRows ≡ true
-unfolding isPackable isSound isRows run next every rowsOf
+unfolding isPackable areRows isRows run next every rowsOf
 edge-fits = refl
 
 edge-bytes : packing (rowsOf edgeRows) ≡ edgeBytes

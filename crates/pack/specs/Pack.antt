@@ -7,13 +7,13 @@ use mathlib.Core.Bool.{Bool, _&&_}
 use mathlib.Core.List.{List, _++_}
 use lib.ListN.{length, drop}
 use lib.Dec.{leb}
-use Rattle.row.specs.Numbers.{rowsOf, isSound}
+use Rattle.row.specs.Numbers.{rowsOf, areRows}
 use Rattle.row.specs.declared.fault.Outcome.{Outcome}
 use Rattle.pack.specs.Seven.{packing, spanFits, every}
 use Rattle.pack.specs.Answer.{answerOf, leftOf}
 
 unfoldable pub isPackable : List ℕ → Bool
-isPackable l = isSound l && every spanFits (rowsOf l)
+isPackable l = areRows l && every spanFits (rowsOf l)
 
 -- how many bytes the rows of n numbers take
 abbrev pub bytesFor : ℕ → ℕ

@@ -139,7 +139,7 @@ file-accepts s q rs o e =
     record {
       end = file-ends s 0 q rs e (omega arith);
       rules = file-rules s 0 q rs e;
-      sound = trace-clean t;
+      undamaged = trace-clean t;
       rising = trace-rising t;
       spans = trace-spans o t (omega arith) (start-boundary s o);
       few = omega (arith, file-few s 0 q rs e, file-ends s 0 q rs e (omega arith));

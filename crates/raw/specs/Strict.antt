@@ -73,7 +73,7 @@ pub record Accepted (s : List ℕ) (q : ℕ) (rs : List Row) : Type 0 where
   pub end : q ≡ length s
   -- and the rows pass 01's rules
   pub rules : isRows rs ≡ true
-  pub sound : clean rs ≡ true
+  pub undamaged : clean rs ≡ true
   pub rising : Rising 0 rs
   pub spans : Spans s rs
   -- and are at most as many as the bytes

@@ -1,7 +1,7 @@
 -- Numbers as rows, four to a row, and the contract of the row check [01:Rows and their packing]: "The row check, after a field name,
 -- takes the next row as a value row, or refuses with 17"; "rows whose numbers are no whole count of rows are refused with 17 too".
 --     rowsOf              numbers taken as rows, four by four
---     isSound, checkOf    what `check` answers
+--     areRows, checkOf    what `check` answers
 --     awaitOf, stateOf    the code's words for what may come next, and `Rules`' words
 -- Assumes nothing.
 use Prim.Native.Nat.{ℕ, _+_, _%_}
@@ -27,11 +27,11 @@ rowsOf (a ∷ b ∷ []) = []
 rowsOf (a ∷ b ∷ c ∷ []) = []
 rowsOf (a ∷ b ∷ c ∷ d ∷ l) = record { kind = a; detail = b; start = c; end = d } ∷ rowsOf l
 
-unfoldable pub isSound : List ℕ → Bool
-isSound l = eqb (length l % 4) 0 && isRows (rowsOf l)
+unfoldable pub areRows : List ℕ → Bool
+areRows l = eqb (length l % 4) 0 && isRows (rowsOf l)
 
 abbrev pub checkOf : List ℕ → Checked
-checkOf l = cond (isSound l) checked.Sound checked.BadRows
+checkOf l = cond (areRows l) checked.Passed checked.BadRows
 
 -- ---- the code's words
 

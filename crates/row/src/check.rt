@@ -29,7 +29,7 @@ pub enum Found {
 }
 
 pub enum Checked {
-    Sound,
+    Passed,
     BadRows,
 }
 
@@ -149,7 +149,7 @@ pub fn check(rows: &[u32]) -> Checked
         i = next;
     }
     if is_whole(state) {
-        return Checked::Sound;
+        return Checked::Passed;
     }
     Checked::BadRows
 }

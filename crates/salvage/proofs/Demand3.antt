@@ -27,7 +27,7 @@ undamaged s h = (
   λ k. (salvageOf s, record { accepts = accepts s h k; opens = λ e x. opened s h k x }),
   λ v.
       subst (λ (rs : List Row). clean rs ≡ true) (sym (same-rows s (v .0) (v .1)))
-      (strict-reading .accepts s (length s) (v .0) (v .1 .accepts) .sound),
+      (strict-reading .accepts s (length s) (v .0) (v .1 .accepts) .undamaged),
 )
 
 checked : (s : List ℕ) → length s ≤ mostBytes → isRows (salvageOf s) ≡ true

@@ -13,7 +13,7 @@ use Rattle.text.specs.declared.utf8.Decoded.the-variants as decoded
 -- n is the end of the longest beginning of s that is UTF-8, and not the end of s
 pub record Longest (s : List ℕ) (n : ℕ) : Type 0 where
   pub inside : n < length s
-  pub sound : Octets (take n s)
+  pub valid : Octets (take n s)
   pub most : (m : ℕ) → m ≤ length s → Octets (take m s) → m ≤ n
 
 -- n cuts s into two texts

@@ -34,7 +34,7 @@ pub ill-formed : (t l : List ℕ) (n : ℕ) → validityOf t ≡ validity.IllFor
 unfolding checkedOf
 ill-formed t l n e = sym (ap (rowsChecked t l) e)
 
-pub sound : (t l : List ℕ) → validityOf t ≡ validity.Valid → areChunks t l ≡ true → checked.Sound ≡ checkedOf t l
+pub sound : (t l : List ℕ) → validityOf t ≡ validity.Valid → areChunks t l ≡ true → checked.Passed ≡ checkedOf t l
 unfolding checkedOf
 sound t l e h = sym (ap (rowsChecked t l) e ∙ rw h refl)
 
@@ -42,15 +42,15 @@ pub bad-rows : (t l : List ℕ) → validityOf t ≡ validity.Valid → areChunk
 unfolding checkedOf
 bad-rows t l e h = sym (ap (rowsChecked t l) e ∙ rw h refl)
 
-both-sound : (t l : List ℕ) (v : Validity) → checked.Sound ≡ rowsChecked t l v → (v ≡ validity.Valid) × (areChunks t l ≡ true)
+both-sound : (t l : List ℕ) (v : Validity) → checked.Passed ≡ rowsChecked t l v → (v ≡ validity.Valid) × (areChunks t l ≡ true)
 both-sound t l validity.Valid e = (refl, by (areChunks t l) e)
   where
-    by : (x : Bool) → checked.Sound ≡ cond x checked.Sound (checked.Refused (nowhere BadRows)) → x ≡ true
+    by : (x : Bool) → checked.Passed ≡ cond x checked.Passed (checked.Refused (nowhere BadRows)) → x ≡ true
     by true e = refl
     by false e = let z : _≡_ {A = ℕ} 0 1 = cc in absurd (omega arith)
 both-sound t l (validity.IllFormed n) e = let z : _≡_ {A = ℕ} 0 1 = cc in absurd (omega arith)
 
-pub are-chunks : (t l : List ℕ) → checkedOf t l ≡ checked.Sound → (validityOf t ≡ validity.Valid) × (areChunks t l ≡ true)
+pub are-chunks : (t l : List ℕ) → checkedOf t l ≡ checked.Passed → (validityOf t ≡ validity.Valid) × (areChunks t l ≡ true)
 unfolding checkedOf
 are-chunks t l e = both-sound t l (validityOf t) (sym e)
 
@@ -60,29 +60,29 @@ module _ {c : Checked} {w b : List ℕ} where
   pub refused : {f : Fault} → c ≡ checked.Refused f → Write c w b (writing.Refused f) b
   refused {f} e = subst (λ (x : Checked). Write x w b (writing.Refused f) b) (sym e) (record { answer = refl; bytes = refl })
 
-  pub no-room : c ≡ checked.Sound → totalOf w (length b) ≡ total.More → Write c w b (writing.Refused (nowhere NoRoom)) b
+  pub no-room : c ≡ checked.Passed → totalOf w (length b) ≡ total.More → Write c w b (writing.Refused (nowhere NoRoom)) b
   no-room e q = subst (λ (x : Checked). Write x w b (writing.Refused (nowhere NoRoom)) b) (sym e) (by (leb (length w) (length b)) refl q)
     where
       by : (x : Bool) → leb (length w) (length b) ≡ x → cond x (total.Bytes (length w)) total.More ≡ total.More →
-          Write checked.Sound w b (writing.Refused (nowhere NoRoom)) b
+          Write checked.Passed w b (writing.Refused (nowhere NoRoom)) b
       by true p q = let z : _≡_ {A = ℕ} 0 1 = cc in absurd (omega arith)
       by false p q = record { answer = rw p refl; bytes = rw p refl }
 
-  pub wrote : {n : ℕ} {r : Total} {b′ : List ℕ} → c ≡ checked.Sound → totalOf w (length b) ≡ total.Bytes n → Fills w (length b) b r b′ →
+  pub wrote : {n : ℕ} {r : Total} {b′ : List ℕ} → c ≡ checked.Passed → totalOf w (length b) ≡ total.Bytes n → Fills w (length b) b r b′ →
       Write c w b (writing.Written n) b′
   wrote {n} {b′ = b′} e q f = subst (λ (x : Checked). Write x w b (writing.Written n) b′) (sym e) (by (leb (length w) (length b)) refl q)
     where
       by : (x : Bool) → leb (length w) (length b) ≡ x → cond x (total.Bytes (length w)) total.More ≡ total.Bytes n →
-          Write checked.Sound w b (writing.Written n) b′
+          Write checked.Passed w b (writing.Written n) b′
       by true p q =
           let m : length w ≡ n = cc in
           let l = leb-true (length w) (length b) p in
           record { answer = rw p (ap writing.Written (sym m)); bytes = f .bytes l ∙ sets-fits w b l ∙ rw p refl }
       by false p q = let z : _≡_ {A = ℕ} 0 1 = cc in absurd (omega arith)
 
-pub written : (c : Checked) {w b b′ : List ℕ} {n : ℕ} → Write c w b (writing.Written n) b′ → (c ≡ checked.Sound) × (take n b′ ≡ w)
+pub written : (c : Checked) {w b b′ : List ℕ} {n : ℕ} → Write c w b (writing.Written n) b′ → (c ≡ checked.Passed) × (take n b′ ≡ w)
 written (checked.Refused f) h = let e = h .answer in let z : _≡_ {A = ℕ} 0 1 = cc in absurd (omega arith)
-written checked.Sound {w} {b} {b′} {n} h = (refl, by (leb (length w) (length b)) (h .answer) (h .bytes))
+written checked.Passed {w} {b} {b′} {n} h = (refl, by (leb (length w) (length b)) (h .answer) (h .bytes))
   where
     by : (x : Bool) → writing.Written n ≡ cond x (writing.Written (length w)) (writing.Refused (nowhere NoRoom)) →
         b′ ≡ cond x (w ++ drop (length w) b) b → take n b′ ≡ w

@@ -20,7 +20,7 @@ use Rattle.row.specs.Row.{Row, flat}
 use Rattle.row.specs.Spans.{SpansIn}
 use Rattle.row.specs.Limits.{mostBytes}
 use Rattle.row.specs.Rules.{isRows}
-use Rattle.row.specs.Numbers.{rowsOf, isSound}
+use Rattle.row.specs.Numbers.{rowsOf, areRows}
 use Rattle.row.proofs.Laid.{laid}
 use Rattle.row.specs.Laid.{rowAt}
 use Rattle.row.specs.Ruled.{AllSmall}
@@ -37,7 +37,7 @@ pub record Packable (l : List ℕ) : Type 0 where
   pub spans : every spanFits (rowsOf l) ≡ true
 
 pub packable : (l : List ℕ) → isPackable l ≡ true → Packable l
-unfolding isPackable isSound
+unfolding isPackable areRows
 packable l e =
     let x = both-true _ (every spanFits (rowsOf l)) e in
     let y = both-true (eqb (length l % 4) 0) (isRows (rowsOf l)) (x .0) in
@@ -109,7 +109,7 @@ spans-of-ends (g ∷ a ∷ b ∷ c ∷ d ∷ e ∷ f ∷ s) h =
     rw (x .0, le-leb (r .start) (r .end) (omega arith)) (spans-of-ends s (x .1))
 
 pub flat-packable : (rs : List Row) → isRows rs ≡ true → every spanFits rs ≡ true → isPackable (flat rs) ≡ true
-unfolding isPackable isSound
+unfolding isPackable areRows
 flat-packable rs p q =
     let e : length (flat rs) % 4 ≡ 0 = omega (arith, laid .flat-length rs) in
     rw (e, laid .rows-flat rs, p) q

@@ -13,7 +13,7 @@ use borrow.Author.Tests.{ne-eqb}
 use Rattle.row.specs.declared.mask.Masks.{Masks}
 use Rattle.row.specs.Row.{Row}
 use Rattle.row.specs.Rules.{Await, part, run, whole, isRows}
-use Rattle.row.specs.Numbers.{rowsOf, isSound}
+use Rattle.row.specs.Numbers.{rowsOf, areRows}
 use Rattle.row.specs.Masks.{masksOf, stepOf, endsOf}
 use Rattle.row.specs.Ruled.{afterRow}
 use Rattle.row.proofs.Ruled.{ruled}
@@ -54,11 +54,11 @@ module _ {t : Row → Bool} {x : Bool} {m : Masks} {rs : List Row} (o : Judging 
 
 module _ (l : List ℕ) where
   pub four-count : (length l % 4 ≡ 0 → ⊥) → false ≡ isPackable l
-  unfolding isPackable isSound
+  unfolding isPackable areRows
   four-count h = rw (ne-eqb (length l % 4) 0 h)
 
   pub four-start : {m : Masks} → length l % 4 ≡ 0 → m ≡ masksOf (part false) → Judging spanFits (isPackable l) m (rowsOf l)
-  unfolding isPackable isSound isRows
+  unfolding isPackable areRows isRows
   four-start h e = record { await = part false; stand = e; left = rw h }
 
 -- ---- the check of `unpack`

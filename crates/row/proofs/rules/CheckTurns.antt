@@ -20,7 +20,7 @@ use Rattle.row.specs.declared.check.Found.the-variants as found
 use Rattle.row.specs.declared.check.Checked.the-variants as checked
 use Rattle.row.specs.Row.{Row}
 use Rattle.row.specs.Rules.{Await, part, type, key, value, chunk, chunks, cause, wrong, isDetail, begun, next, run, whole, isRows}
-use Rattle.row.specs.Numbers.{rowsOf, isSound, checkOf, awaitOf, stateOf, wholeOf, orWrong, foundOf}
+use Rattle.row.specs.Numbers.{rowsOf, areRows, checkOf, awaitOf, stateOf, wholeOf, orWrong, foundOf}
 use Rattle.row.specs.Laid.{rowAt}
 use Rattle.row.specs.Ruled.{afterRow}
 use Rattle.row.proofs.numbers.Flat.{rows-next, rows-end}
@@ -115,8 +115,8 @@ module _ (l : List ℕ) (i : ℕ) where
   refused f e o = o ∙ refused-row i f (rowsOf (drop i l)) e
 
   -- after the last row
-  pub ended : (s : State) → length l ≤ i → length l % 4 ≡ 0 → Left l (awaitOf s) i → cond (wholeOf s) checked.Sound checked.BadRows ≡ checkOf l
-  unfolding isSound isRows run
+  pub ended : (s : State) → length l ≤ i → length l % 4 ≡ 0 → Left l (awaitOf s) i → cond (wholeOf s) checked.Passed checked.BadRows ≡ checkOf l
+  unfolding areRows isRows run
   ended s h e o = rw (e, o, rows-end l i (omega arith))
 
 -- after a name: a value row, or something else
@@ -132,9 +132,9 @@ module _ (l : List ℕ) (i : ℕ) (s r : State) (f : Bool) (v : Found) (h : i + 
   named-other t = refused l (i + 4) f (sym q ∙ t) named
 
 pub bad-rows : (l : List ℕ) → length l % 4 ≡ 0 → whole (run (part false) (rowsOf l)) ≡ false → checked.BadRows ≡ checkOf l
-unfolding isSound isRows
+unfolding areRows isRows
 bad-rows l e o = rw (e, o)
 
 pub bad-count : (l : List ℕ) → (length l % 4 ≡ 0 → ⊥) → checked.BadRows ≡ checkOf l
-unfolding isSound
+unfolding areRows
 bad-count l h = rw (ne-eqb (length l % 4) 0 h)

@@ -45,7 +45,7 @@ module _ (w : List ℕ) (P : List Row → Type 0) where
 told-damaged : (w : List ℕ) → (clean (told w (strict w)) ≡ false) ↔ ((f : Fault) × (strict w ≡ bad f))
 unfolding clean
 told-damaged w = (
-  told-by w (λ rs. clean rs ≡ false → (f : Fault) × (strict w ≡ bad f)) (λ q rs e h. true-not-false (strict-reading .accepts w q rs e .sound) h)
+  told-by w (λ rs. clean rs ≡ false → (f : Fault) × (strict w ≡ bad f)) (λ q rs e h. true-not-false (strict-reading .accepts w q rs e .undamaged) h)
       (λ f e h. (f, e)),
   λ z. rw (z .1) refl,
 )

@@ -68,7 +68,7 @@ module _ (w : List ℕ) {base : ℕ} {valid : Bool} (k : PieceToRead w base vali
 
       by : (o : Out) → strict w ≡ o → answer.Next q n ≡ answerOf o 0 → Room base o 0 b b′ → Puts w base b (Sound n) b′
       by (ok p rs) x y z =
-          let c = strict-reading .accepts w p rs x .sound in
+          let c = strict-reading .accepts w p rs x .undamaged in
           let m : n ≡ 0 + length rs = cc in
           let u : n ≡ length rs = omega arith in
           record {

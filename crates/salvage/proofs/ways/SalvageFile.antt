@@ -42,7 +42,7 @@ module _ (s : List ℕ) {v : Validity} (d : v ≡ validityOf s) where
   valid-all e = record { inside = omega arith; octets = subst Octets (sym (take-length s)) (rfc3629 .accepts s .0 (sym d ∙ e)) }
 
   pub valid-part : {i : ℕ} → v ≡ validity.IllFormed i → ValidTo s i
-  valid-part {i} e = let l = rfc3629 .refuses s i .0 (sym d ∙ e) in record { inside = omega (arith, l .inside); octets = l .sound }
+  valid-part {i} e = let l = rfc3629 .refuses s i .0 (sym d ∙ e) in record { inside = omega (arith, l .inside); octets = l .valid }
 
 -- ---- `write_sound`, `write_damaged`
 

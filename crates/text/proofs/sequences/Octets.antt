@@ -163,11 +163,11 @@ ill-inside s n o e = go (leb (length s) n) refl
 ill-longest : (s : List ℕ) (n : ℕ) → validityOf s ≡ validity.IllFormed n → Longest s n
 ill-longest s n e =
     let r = outcome-of s (validity.IllFormed n) e in
-    let o = r .0 .before in record { inside = ill-inside s n o e; sound = o; most = octets-most s n o (r .1) }
+    let o = r .0 .before in record { inside = ill-inside s n o e; valid = o; most = octets-most s n o (r .1) }
 
 longest-same : (s : List ℕ) (n m : ℕ) → Longest s n → Longest s m → n ≡ m
 longest-same s n m p q =
-    let x = p .most m (omega arith) (q .sound) in let y = q .most n (omega arith) (p .sound) in omega arith
+    let x = p .most m (omega arith) (q .valid) in let y = q .most n (omega arith) (p .valid) in omega arith
 
 longest-part : (s : List ℕ) (n : ℕ) → Longest s n → Octets s → ⊥
 longest-part s n l o = omega (arith, l .most (length s) (omega arith) (rw (take-all (length s) s (omega arith)) o))
