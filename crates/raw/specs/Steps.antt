@@ -18,10 +18,10 @@ use Rattle.raw.specs.Read.{strict, readingOut, leftOut}
 use Rattle.raw.specs.Strict.{Rising}
 
 pub record Steps : Type 0 where
-  -- no rows in front change nothing; a scan is its first turn and then the scan, so that its fuel never runs out
+  -- no rows in front of an answer change nothing; a scan is its first turn and then the scan, so that its fuel never runs out
   pub more-none : (o : Out) → more [] o ≡ o
   pub scans : (t : ℕ → Bool) (s : List ℕ) (p : ℕ) → scan {P = Row} t s p ≡ after (scanTurn t 0 s p) (λ a q. many (scanTurn t) a s q)
-  -- a text inside the limit that is UTF-8 is read as a file, and if it is refused, then not as too long
+  -- a text inside the limit is read as a file if it is UTF-8, and never refused as too long
   pub strict-is : (s : List ℕ) → length s ≤ mostBytes → Octets s → strict s ≡ file s 0
   pub strict-bad : (s : List ℕ) → length s ≤ mostBytes → (f : Fault) → strict s ≡ bad f → 2 ≤ numberOf (f .reason)
   -- an accepted text is inside the limit, UTF-8, and an accepted file; the spans of its rows lie in it

@@ -5,16 +5,16 @@
 -- Assumes nothing.
 use Prim.Native.Nat.{ℕ, _≤_}
 use native.Mathlib.Omega.{arith}
-use mathlib.Core.Path.{_≡_, refl, subst}
-use mathlib.Core.Bool.{Bool, true, false, cond}
+use mathlib.Core.Path.{_≡_, refl, _∙_, subst}
+use mathlib.Core.Bool.{true}
 use mathlib.Core.List.{List, [], _∷_, _++_, append-assoc, append-nil}
 use lib.ListN.{length}
-use lib.Dec.{eqb}
 use Rattle.text.specs.Utf8.{Octets, isBoundary}
 use Rattle.text.proofs.Seeing.{seeing}
 use Rattle.text.proofs.Boundaries.{boundaries}
 use Rattle.row.specs.Row.{Row}
 use Rattle.row.specs.Rules.{clean}
+use Rattle.row.proofs.Ruled.{ruled}
 use Rattle.raw.specs.Strict.{Rising, Spans}
 use Rattle.raw.proofs.readers.Trace.{Reach, here, on, Trace, none, eats, joins, lays, trace-reach}
 
@@ -31,14 +31,7 @@ spans-append s [] ss x y = y
 spans-append s (r ∷ rs) ss x y = (x .0, spans-append s rs ss (x .1) y)
 
 clean-append : (rs ss : List Row) → clean rs ≡ true → clean ss ≡ true → clean (rs ++ ss) ≡ true
-unfolding clean
-clean-append [] ss h k = k
-clean-append (r ∷ rs) ss h k = by (eqb (r .kind) 9) h (clean-append rs ss)
-  where
-    by : (b : Bool) → cond b false (clean rs) ≡ true → (clean rs ≡ true → clean ss ≡ true → clean (rs ++ ss) ≡ true)
-        → cond b false (clean (rs ++ ss)) ≡ true
-    by true h ih = h
-    by false h ih = ih h k
+clean-append rs ss h k = ruled .clean-append rs ss ∙ rw (h, k)
 
 -- ---- of a trace
 
