@@ -4,8 +4,8 @@
  * accepts, or else the number of its refusal, one of those below. What else it has to say comes back
  * in three lent numbers, which every call sets:
  *
- *   count   how many rows (of bib_pack: bytes) it wrote; 0 if it refuses
- *   start   where the refusal's place begins, a byte of the file; 0 if it accepts
+ *   count   how many rows (of bib_pack and the writers: bytes) it wrote; 0 if it refuses
+ *   start   where the refusal's place begins, a byte of the file or text; 0 if it accepts
  *   end     where it ends; 0 if it accepts
  *
  * A refusal leaves what is lent for rows or bytes as it was. What is accepted leaves all that lies
@@ -13,6 +13,10 @@
  *
  * A row is four numbers: kind, detail, start, end. The length of what is lent for rows counts
  * numbers; those past the last whole row are no room, and stay as they were.
+ *
+ * A chunk row, which the writers take, is five numbers: kind, text start, text end, span start, span
+ * end. The chunk is the bytes from text start to text end of the text lent with it; the writers do
+ * not look at the span.
  *
  * What is lent must not overlap. What has length 0 is not looked at, and its pointer may be null.
  * Nothing is allocated and nothing is kept between calls, so that threads may call at once.
@@ -39,6 +43,9 @@ extern "C" {
 /* The numbers of a row, and the bytes of a packed one. */
 #define BIB_ROW_NUMBERS 4
 #define BIB_PACKED_BYTES 7
+
+/* The numbers of a chunk row. */
+#define BIB_CHUNK_NUMBERS 5
 
 /* Numbers that are enough for the rows of every file of so many bytes, salvaged or read strictly. */
 #define BIB_ENOUGH_NUMBERS(file_len) (((size_t)(file_len) + 1) * BIB_ROW_NUMBERS)
@@ -75,6 +82,13 @@ enum bib_kind {
     BIB_CAUSE = 10                    /* and why: the detail is its number, 2 to 10 */
 };
 
+/* What a chunk row is of. */
+enum bib_chunk {
+    BIB_NORMAL = 0,
+    BIB_VERBATIM = 1,                 /* stood in braces of its own */
+    BIB_MATH = 2                      /* stood between dollars */
+};
+
 /* Reads a file strictly: all of its rows, in file order, or the first thing that is wrong.
  * Refuses with 1, 2, 3 to 10 as it meets them, or 16. */
 uint32_t bib_read(const uint8_t *file, size_t file_len,
@@ -98,6 +112,24 @@ uint32_t bib_pack(const uint32_t *rows, size_t rows_len,
 uint32_t bib_unpack(const uint8_t *bytes, size_t bytes_len,
                     uint32_t *rows, size_t rows_len,
                     uint64_t *count, uint64_t *start, uint64_t *end);
+
+/* Formats chunks verbatim: their texts in a row, in Normal ones a space for each line end that no
+ * white space comes before, and dollars around Math. Refuses with 2 a text that is not UTF-8; then
+ * with 17 rows that are no whole count of chunk rows, a row of another kind, or a text range that is
+ * reversed, outside the text or across a character; then with 16. */
+uint32_t bib_format_verbatim(const uint8_t *text, size_t text_len,
+                             const uint32_t *rows, size_t rows_len,
+                             uint8_t *bytes, size_t bytes_len,
+                             uint64_t *count, uint64_t *start, uint64_t *end);
+
+/* Writes chunks as a BibLaTeX string, in its braces and with backslashes before what needs them. In
+ * a verbatim field, as "file" or "url", less does: verbatim is 0, or any other number for such a
+ * field. Refuses as bib_format_verbatim does. */
+uint32_t bib_to_biblatex_string(const uint8_t *text, size_t text_len,
+                                const uint32_t *rows, size_t rows_len,
+                                uint32_t verbatim,
+                                uint8_t *bytes, size_t bytes_len,
+                                uint64_t *count, uint64_t *start, uint64_t *end);
 
 #ifdef __cplusplus
 }

@@ -20,12 +20,14 @@ import os
 import pathlib
 from typing import Iterable, NamedTuple, Tuple
 
-__all__ = ["Kind", "MOST_BYTES", "Refusal", "Row", "pack", "read", "salvage", "unpack"]
+__all__ = ["Chunk", "Kind", "MOST_BYTES", "Refusal", "Row"]
+__all__ += ["format_verbatim", "pack", "read", "salvage", "to_biblatex_string", "unpack"]
 
-# The most bytes that a file may have; the numbers of a row, and the bytes of a packed one.
+# The most bytes that a file may have; the numbers of a row, the bytes of a packed one, and the numbers of a chunk row.
 MOST_BYTES = 16_777_215
 _NUMBERS = 4
 _BYTES = 7
+_CHUNK_NUMBERS = 5
 
 _NO_ROOM = 16
 
@@ -44,6 +46,14 @@ class Kind(enum.IntEnum):
     DEFINITION_NAME = 8
     DAMAGE = 9
     CAUSE = 10
+
+
+class Chunk(enum.IntEnum):
+    """What a chunk row is of."""
+
+    NORMAL = 0
+    VERBATIM = 1
+    MATH = 2
 
 
 class Row(NamedTuple):
@@ -94,23 +104,27 @@ def _find() -> str:
     return found
 
 
-def _function(name: str):
+_LENT = [ctypes.c_void_p, ctypes.c_size_t]
+
+
+def _function(name: str, given: list):
     function = getattr(_library, name)
     number = ctypes.POINTER(ctypes.c_uint64)
-    lent = [ctypes.c_void_p, ctypes.c_size_t]
-    function.argtypes = lent + lent + [number, number, number]
+    function.argtypes = given + _LENT + [number, number, number]
     function.restype = ctypes.c_uint32
     return function
 
 
 _library = ctypes.CDLL(_find())
-_read, _salvage, _pack, _unpack = map(_function, ("bib_read", "bib_salvage", "bib_pack", "bib_unpack"))
+_read, _salvage, _pack, _unpack = (_function(name, _LENT) for name in ("bib_read", "bib_salvage", "bib_pack", "bib_unpack"))
+_format_verbatim = _function("bib_format_verbatim", _LENT + _LENT)
+_to_biblatex_string = _function("bib_to_biblatex_string", _LENT + _LENT + [ctypes.c_uint32])
 
 
-def _call(function, lent, lent_length, room) -> int:
+def _call(function, given: tuple, room) -> int:
     """How many the call wrote into the room."""
     count, start, end = ctypes.c_uint64(), ctypes.c_uint64(), ctypes.c_uint64()
-    status = function(lent, lent_length, room, len(room), ctypes.byref(count), ctypes.byref(start), ctypes.byref(end))
+    status = function(*given, room, len(room), ctypes.byref(count), ctypes.byref(start), ctypes.byref(end))
     if status != 0:
         raise Refusal(status, start.value, end.value)
     return count.value
@@ -119,9 +133,17 @@ def _call(function, lent, lent_length, room) -> int:
 def _rows(function, data: bytes, most: int) -> Tuple[Row, ...]:
     # Zeros of the system, which take memory only where a row is written.
     room = (ctypes.c_uint32 * (most * _NUMBERS))()
-    count = _call(function, data, len(data), room)
+    count = _call(function, (data, len(data)), room)
     numbers = room[: count * _NUMBERS]
     return tuple(Row(*numbers[i : i + _NUMBERS]) for i in range(0, len(numbers), _NUMBERS))
+
+
+def _numbers(rows: Iterable[Tuple[int, ...]]):
+    """The numbers of rows, to be lent. What is no number of 32 bits is refused as bad rows are."""
+    numbers = [number for row in rows for number in row]
+    if not all(0 <= number < 1 << 32 for number in numbers):
+        raise Refusal(17, 0, 0)
+    return (ctypes.c_uint32 * len(numbers))(*numbers)
 
 
 def read(file: bytes) -> Tuple[Row, ...]:
@@ -139,15 +161,38 @@ def salvage(file: bytes) -> Tuple[Row, ...]:
 
 def pack(rows: Iterable[Tuple[int, int, int, int]]) -> bytes:
     """Packs rows, seven bytes each."""
-    numbers = [number for row in rows for number in row]
-    if not all(0 <= number < 1 << 32 for number in numbers):
-        raise Refusal(17, 0, 0)
-    lent = (ctypes.c_uint32 * len(numbers))(*numbers)
-    room = (ctypes.c_uint8 * (len(numbers) // _NUMBERS * _BYTES))()
-    return bytes(room[: _call(_pack, lent, len(numbers), room)])
+    lent = _numbers(rows)
+    room = (ctypes.c_uint8 * (len(lent) // _NUMBERS * _BYTES))()
+    return bytes(room[: _call(_pack, (lent, len(lent)), room)])
 
 
 def unpack(packed: bytes) -> Tuple[Row, ...]:
     """Unpacks rows."""
     packed = bytes(packed)
     return _rows(_unpack, packed, len(packed) // _BYTES)
+
+
+def _written(function, text: bytes, chunks: Iterable[Tuple[int, int, int, int, int]], flag: Tuple[int, ...], each: int) -> str:
+    """What a writer writes, where each byte of a chunk is written as so many at most. Two more may stand around a chunk, and
+    three around all."""
+    text = bytes(text)
+    # A text that is not UTF-8 comes before numbers that are none of a row.
+    try:
+        lent = _numbers(chunks)
+    except Refusal:
+        lent = (ctypes.c_uint32 * 1)()
+    lengths = (min(max(end - start, 0), len(text)) for start, end in zip(lent[1::_CHUNK_NUMBERS], lent[2::_CHUNK_NUMBERS]))
+    room = (ctypes.c_uint8 * (3 + sum(each * length + 2 for length in lengths)))()
+    count = _call(function, (text, len(text), lent, len(lent)) + flag, room)
+    return bytes(room[:count]).decode()
+
+
+def format_verbatim(text: bytes, chunks: Iterable[Tuple[int, int, int, int, int]]) -> str:
+    """Formats chunks verbatim. A chunk is its kind, text start and end, which are bytes of the text, and span start and end,
+    which are not looked at."""
+    return _written(_format_verbatim, text, chunks, (), 1)
+
+
+def to_biblatex_string(text: bytes, chunks: Iterable[Tuple[int, int, int, int, int]], is_verbatim: bool) -> str:
+    """Writes chunks as a BibLaTeX string, for a verbatim field, as `file` or `url`, or another."""
+    return _written(_to_biblatex_string, text, chunks, (int(bool(is_verbatim)),), 2)

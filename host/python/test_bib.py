@@ -5,7 +5,7 @@ import re
 import unittest
 
 import bib
-from bib import Kind, Refusal
+from bib import Chunk, Kind, Refusal
 
 
 class Reading(unittest.TestCase):
@@ -58,11 +58,39 @@ class Packing(unittest.TestCase):
             bib.unpack(b"123456")
 
 
+class Writing(unittest.TestCase):
+    TEXT = "a_\n bé".encode()
+    CHUNKS = [(Chunk.NORMAL, 0, 3, 0, 0), (Chunk.VERBATIM, 1, 2, 0, 0), (Chunk.MATH, 5, 7, 0, 0)]
+
+    def test_answers(self):
+        self.assertEqual(bib.format_verbatim(self.TEXT, self.CHUNKS), "a_ _$é$")
+        self.assertEqual(bib.to_biblatex_string(self.TEXT, self.CHUNKS, False), "{a\\_\n{\\_$é$}}")
+        self.assertEqual(bib.to_biblatex_string(self.TEXT, self.CHUNKS, True), "{a_\n{_$é$}}")
+        self.assertEqual(bib.format_verbatim(b"", []), "")
+        self.assertEqual(bib.to_biblatex_string(b"", [], False), "{}")
+
+    def test_most_bytes(self):
+        """Every byte is doubled, and every chunk opens or closes the extra brace."""
+        written = bib.to_biblatex_string(b"}", [(1, 0, 1, 0, 0), (0, 0, 1, 0, 0)] * 9, False)
+        self.assertEqual(written, "{" + "{\\}}\\}" * 9 + "}")
+        self.assertEqual(bib.format_verbatim(b"x", [(2, 0, 1, 0, 0)] * 9), "$x$" * 9)
+
+    def test_refusals(self):
+        bad = [[(3, 0, 1, 0, 0)], [(0, 2, 1, 0, 0)], [(0, 0, 8, 0, 0)], [(0, 5, 6, 0, 0)], [(0, 0, 1, 0)], [(0, 0, -1, 0, 0)]]
+        cases = [(self.TEXT, rows, 17, 0) for rows in bad] + [(b"a\xff", rows, 2, 1) for rows in bad + [self.CHUNKS]]
+        for text, rows, number, place in cases:
+            for call in (bib.format_verbatim, lambda text, rows: bib.to_biblatex_string(text, rows, True)):
+                with self.assertRaises(Refusal) as caught:
+                    call(text, rows)
+                refusal = caught.exception
+                self.assertEqual((refusal.number, refusal.start, refusal.end), (number, place, place))
+
+
 class Words(unittest.TestCase):
     def test_as_the_header_has_them(self):
         """The kinds have the header's numbers."""
         header = pathlib.Path(__file__).resolve().parents[2] / "include/bib.h"
-        for kind in Kind:
+        for kind in [*Kind, *Chunk]:
             self.assertRegex(header.read_text(), rf"\bBIB_{kind.name} = {kind.value}\b")
 
     def test_as_the_rust_has_them(self):

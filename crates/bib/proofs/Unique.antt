@@ -15,6 +15,10 @@ use Rattle.bib.proofs.bib_salvage.Reads as salvage
 use Rattle.bib.proofs.bib_pack.Kinds as pack-kinds
 use Rattle.bib.proofs.bib_pack.Reads as pack
 use Rattle.bib.proofs.bib_unpack.Reads as unpack
+use Rattle.bib.proofs.bib_format_verbatim.Kinds as format-verbatim-kinds
+use Rattle.bib.proofs.bib_format_verbatim.Reads as format-verbatim
+use Rattle.bib.proofs.bib_to_biblatex_string.Kinds as to-biblatex-string-kinds
+use Rattle.bib.proofs.bib_to_biblatex_string.Reads as to-biblatex-string
 
 -- the same status, count, start, end, and rows or bytes
 pub record SameCall (r r′ n n′ x x′ y y′ : ℕ) (b b′ : List ℕ) : Type 0 where
@@ -64,3 +68,18 @@ OnePacking allowed =
 
 pub one-bib-pack : OnePacking pack.Post
 one-bib-pack κs a x y s t p q = same-call p q
+
+-- and of the writers, whose lent bytes come third, or fourth behind the flag
+pub one-bib-format-verbatim : Both 6 format-verbatim-kinds.ps format-verbatim-kinds.r format-verbatim.Post
+    (λ κs r s r′ t.
+    let a = s .1 .1 .1 in
+    let b = t .1 .1 .1 in
+    SameCall r r′ (now (a .0)) (now (b .0)) (now (a .1 .0)) (now (b .1 .0)) (now (a .1 .1 .0)) (now (b .1 .1 .0)) (now (s .1 .1 .0)) (now (t .1 .1 .0)))
+one-bib-format-verbatim κs a x y s t p q = same-call p q
+
+pub one-bib-to-biblatex-string : Both 6 to-biblatex-string-kinds.ps to-biblatex-string-kinds.r to-biblatex-string.Post
+    (λ κs r s r′ t.
+    let a = s .1 .1 .1 in
+    let b = t .1 .1 .1 in
+    SameCall r r′ (now (a .1 .0)) (now (b .1 .0)) (now (a .1 .1 .0)) (now (b .1 .1 .0)) (now (a .1 .1 .1 .0)) (now (b .1 .1 .1 .0)) (now (a .0)) (now (b .0)))
+one-bib-to-biblatex-string κs a x y s t p q = same-call p q

@@ -1,12 +1,15 @@
 -- What the exported calls leave in their lent numbers.
 --     ofReading     what a reading comes to
+--     isSet         a flag of C
 --     Told          an outcome in lent numbers
 --     Exported      the contract of every exported call: an outcome, and all that is left in the lent rows or bytes
 -- Assumes nothing.
 use Prim.Native.Nat.{ℕ}
 use mathlib.Core.Path.{_≡_}
+use mathlib.Core.Bool.{Bool, not}
 use mathlib.Core.List.{List}
 use lib.ListN.{length}
+use lib.Dec.{eqb}
 use Rattle.row.specs.declared.fault.Outcome.{Outcome}
 use Rattle.row.specs.declared.fault.Outcome.the-variants.{Count, Refused}
 use Rattle.row.specs.Fault.{numberOf}
@@ -14,6 +17,9 @@ use Rattle.raw.specs.Reader.{Out}
 use Rattle.raw.specs.Read.{readingOut, leftOut}
 use Rattle.raw.specs.declared.answer.Reading.{Reading}
 use Rattle.raw.specs.declared.answer.Reading.the-variants as reading
+use Rattle.chunk.specs.Chunk.{chunksOf}
+use Rattle.chunk.specs.Format.{formatVerbatim, toBiblatexString}
+use Rattle.chunk.specs.Write.{checkedOf, writingOf, writtenInto}
 use Rattle.pack.specs.Pack.{packedOf, packedInto}
 use Rattle.pack.specs.Unpack.{unpackedOf, unpackedInto}
 
@@ -64,3 +70,18 @@ ExportedPack l b = Exported (packedOf l (length b)) (packedInto l b)
 -- `bib_unpack` of the bytes s over the lent numbers b, likewise
 abbrev pub ExportedUnpack : List ℕ → List ℕ → ℕ → ℕ → ℕ → ℕ → List ℕ → Type 0
 ExportedUnpack s b = Exported (unpackedOf s (length b)) (unpackedInto s b)
+
+-- a writer of w, of the text t and the chunk rows in the numbers l, over the lent bytes b
+abbrev pub ExportedWriting : List ℕ → List ℕ → List ℕ → List ℕ → ℕ → ℕ → ℕ → ℕ → List ℕ → Type 0
+ExportedWriting w t l b = Exported (writingOf (checkedOf t l) w (length b)) (writtenInto (checkedOf t l) w b)
+
+-- `bib_format_verbatim`
+abbrev pub ExportedFormatVerbatim : List ℕ → List ℕ → List ℕ → ℕ → ℕ → ℕ → ℕ → List ℕ → Type 0
+ExportedFormatVerbatim t l = ExportedWriting (formatVerbatim (chunksOf t l)) t l
+
+-- `bib_to_biblatex_string`, for a field that is verbatim or not: a number other than 0 says that it is
+abbrev pub isSet : ℕ → Bool
+isSet n = not (eqb n 0)
+
+abbrev pub ExportedToBiblatexString : Bool → List ℕ → List ℕ → List ℕ → ℕ → ℕ → ℕ → ℕ → List ℕ → Type 0
+ExportedToBiblatexString verb t l = ExportedWriting (toBiblatexString verb (chunksOf t l)) t l

@@ -3,6 +3,8 @@
 // Each answers 0, or document 01's number of the refusal. What else it has to say comes back in lent numbers: `count`, of the rows or bytes
 // that it wrote, or 0; `start` and `end`, the refusal's place, or 0. A refusal leaves what was lent for rows or bytes as it was, and what
 // lies past an answer stays as it was. include/bib.h says all this to C.
+use chunk::biblatex;
+use chunk::format;
 use pack::packing;
 use pack::unpacking;
 use raw::answer::Reading;
@@ -12,7 +14,8 @@ use row::fault::Outcome;
 ghost use mathlib.Core.Path.{_≡_};
 ghost use Rattle.raw.specs.Read.{strict};
 ghost use Rattle.salvage.specs.Salvage.{salvaged};
-ghost use Rattle.bib.specs.Export.{ofReading, Told, ExportedReading, ExportedPack, ExportedUnpack};
+ghost use Rattle.bib.specs.Export.{ofReading, isSet, Told, ExportedReading, ExportedPack, ExportedUnpack};
+ghost use Rattle.bib.specs.Export.{ExportedFormatVerbatim, ExportedToBiblatexString};
 
 // What a reading comes to.
 fn of_reading(reading: Reading) -> Outcome
@@ -109,4 +112,40 @@ pub extern "C" fn bib_unpack(
 {
     let unpacked = unpacking::unpack(bytes, rows);
     tell(unpacked, count, start, end)
+}
+
+// Formats chunks verbatim. The text that they are rows of is lent, and what they are formatted as stands in `bytes`.
+#[no_mangle]
+pub extern "C" fn bib_format_verbatim(
+    text: &[u8],
+    rows: &[u32],
+    bytes: &mut [u8],
+    count: &mut u64,
+    start: &mut u64,
+    end: &mut u64,
+) -> u32
+    ensures { λ r. ⌜ ExportedFormatVerbatim (now (text .entry)) (now (rows .entry)) (now (bytes .entry)) r
+        (now (count .exit)) (now (start .exit)) (now (end .exit)) (now (bytes .exit)) ⌝ }
+{
+    let formatted = format::format_verbatim(text, rows, bytes);
+    tell(formatted, count, start, end)
+}
+
+// Serializes chunks into a BibLaTeX string, for a verbatim field unless `verbatim` is 0. A number and no `bool`, because C callers may pass
+// any number, and a `bool` must be one of two.
+#[no_mangle]
+pub extern "C" fn bib_to_biblatex_string(
+    text: &[u8],
+    rows: &[u32],
+    verbatim: u32,
+    bytes: &mut [u8],
+    count: &mut u64,
+    start: &mut u64,
+    end: &mut u64,
+) -> u32
+    ensures { λ r. ⌜ ExportedToBiblatexString (isSet verbatim) (now (text .entry)) (now (rows .entry)) (now (bytes .entry)) r
+        (now (count .exit)) (now (start .exit)) (now (end .exit)) (now (bytes .exit)) ⌝ }
+{
+    let written = biblatex::to_biblatex_string(text, rows, verbatim != 0, bytes);
+    tell(written, count, start, end)
 }

@@ -17,28 +17,28 @@ use Rattle.row.specs.declared.fault.Fault.{Fault}
 use Rattle.row.specs.Fault.{numberOf, faultAt, nowhere}
 use Rattle.chunk.specs.declared.answer.Checked.{Checked}
 use Rattle.chunk.specs.declared.answer.Checked.the-variants as checked
-use Rattle.chunk.specs.declared.answer.Writing.{Writing}
-use Rattle.chunk.specs.declared.answer.Writing.the-variants as writing
+use Rattle.row.specs.declared.fault.Outcome.{Outcome}
+use Rattle.row.specs.declared.fault.Outcome.the-variants as outcome
 use Rattle.chunk.specs.Chunk.{areChunks, chunksOf}
 use Rattle.chunk.specs.Format.{formatVerbatim, toBiblatexString}
 use Rattle.chunk.specs.Write.{rowsChecked, checkedOf, writingOf, writtenInto, Write}
 use Rattle.chunk.specs.Refusals.{WriteFault, ill-formed, unsound, full, Answered, Refusals}
 
 module _ (t l w : List ℕ) (n : ℕ) (f : Fault) where
-  by-room : (y : Bool) → writing.Refused f ≡ cond y (writing.Written (length w)) (writing.Refused (nowhere NoRoom)) → WriteFault t l f
+  by-room : (y : Bool) → outcome.Refused f ≡ cond y (outcome.Count (length w)) (outcome.Refused (nowhere NoRoom)) → WriteFault t l f
   by-room true e = let z : _≡_ {A = ℕ} 0 1 = cc in absurd (omega arith)
   by-room false e = let q : nowhere NoRoom ≡ f = cc in subst (WriteFault t l) q full
 
-  by-rows : (x : Bool) → areChunks t l ≡ x → writing.Refused f ≡ writingOf (cond x checked.Passed (checked.Refused (nowhere BadRows))) w n →
+  by-rows : (x : Bool) → areChunks t l ≡ x → outcome.Refused f ≡ writingOf (cond x checked.Passed (checked.Refused (nowhere BadRows))) w n →
       WriteFault t l f
   by-rows true p e = by-room (leb (length w) n) e
   by-rows false p e = let q : nowhere BadRows ≡ f = cc in subst (WriteFault t l) q (unsound p)
 
-  by-text : (v : Validity) → validityOf t ≡ v → writing.Refused f ≡ writingOf (rowsChecked t l v) w n → WriteFault t l f
+  by-text : (v : Validity) → validityOf t ≡ v → outcome.Refused f ≡ writingOf (rowsChecked t l v) w n → WriteFault t l f
   by-text validity.Valid p e = by-rows (areChunks t l) refl e
   by-text (validity.IllFormed m) p e = let q : faultAt NotUtf8 m ≡ f = cc in subst (WriteFault t l) q (ill-formed m p)
 
-write-fault : (t l w : List ℕ) (n : ℕ) (f : Fault) → writing.Refused f ≡ writingOf (checkedOf t l) w n → WriteFault t l f
+write-fault : (t l w : List ℕ) (n : ℕ) (f : Fault) → outcome.Refused f ≡ writingOf (checkedOf t l) w n → WriteFault t l f
 unfolding checkedOf
 write-fault t l w n f e = by-text t l w n f (validityOf t) refl e
 
@@ -56,33 +56,33 @@ check-not-full t l (validity.IllFormed m) e =
 
 -- a writer of w whose check comes to c
 module _ (w : List ℕ) where
-  full-told : (c : Checked) → (c ≡ checked.Refused (nowhere NoRoom) → ⊥) → (x : ℕ) → writingOf c w x ≡ writing.Refused (nowhere NoRoom) →
+  full-told : (c : Checked) → (c ≡ checked.Refused (nowhere NoRoom) → ⊥) → (x : ℕ) → writingOf c w x ≡ outcome.Refused (nowhere NoRoom) →
       (c ≡ checked.Passed) × (x < length w)
   full-told checked.Passed other x e = by (leb (length w) x) refl e
     where
-      by : (y : Bool) → leb (length w) x ≡ y → cond y (writing.Written (length w)) (writing.Refused (nowhere NoRoom)) ≡ writing.Refused (nowhere NoRoom) →
+      by : (y : Bool) → leb (length w) x ≡ y → cond y (outcome.Count (length w)) (outcome.Refused (nowhere NoRoom)) ≡ outcome.Refused (nowhere NoRoom) →
           (checked.Passed ≡ checked.Passed) × (x < length w)
       by true d e = let z : _≡_ {A = ℕ} 0 1 = cc in absurd (omega arith)
       by false d e = (refl, leb-false (length w) x d)
   full-told (checked.Refused f) other x e = let z : f ≡ nowhere NoRoom = cc in absurd (other (ap checked.Refused z))
 
-  too-little : (c : Checked) (x y m : ℕ) → writing.Written m ≡ writingOf c w y → x < m → writingOf c w x ≡ writing.Refused (nowhere NoRoom)
+  too-little : (c : Checked) (x y m : ℕ) → outcome.Count m ≡ writingOf c w y → x < m → writingOf c w x ≡ outcome.Refused (nowhere NoRoom)
   too-little checked.Passed x y m e h = by (leb (length w) y) e h
     where
-      by : (z : Bool) → writing.Written m ≡ cond z (writing.Written (length w)) (writing.Refused (nowhere NoRoom)) → x < m →
-          writingOf checked.Passed w x ≡ writing.Refused (nowhere NoRoom)
+      by : (z : Bool) → outcome.Count m ≡ cond z (outcome.Count (length w)) (outcome.Refused (nowhere NoRoom)) → x < m →
+          writingOf checked.Passed w x ≡ outcome.Refused (nowhere NoRoom)
       by true e h = let z : m ≡ length w = cc in rw (lt-leb (length w) x (omega arith))
       by false e h = let z : _≡_ {A = ℕ} 0 1 = cc in absurd (omega arith)
   too-little (checked.Refused f) x y m e h = let z : _≡_ {A = ℕ} 0 1 = cc in absurd (omega arith)
 
-  write-full : (c : Checked) → (c ≡ checked.Refused (nowhere NoRoom) → ⊥) → (b b′ : List ℕ) (r : Writing) → Write c w b r b′ →
-      (r ≡ writing.Refused (nowhere NoRoom)) ↔ ((n : ℕ) × Answered (Write c w) n × (length b < n))
+  write-full : (c : Checked) → (c ≡ checked.Refused (nowhere NoRoom) → ⊥) → (b b′ : List ℕ) (r : Outcome) → Write c w b r b′ →
+      (r ≡ outcome.Refused (nowhere NoRoom)) ↔ ((n : ℕ) × Answered (Write c w) n × (length b < n))
   write-full c other b b′ r p = (
     λ e.
         let t = full-told c other (length b) (sym (p .answer) ∙ e) in
         let d : List ℕ = replicate (length w) 0 in
         let l : length d ≡ length w = length-replicate (length w) 0 in
-        let k : writing.Written (length w) ≡ writingOf c w (length d) =
+        let k : outcome.Count (length w) ≡ writingOf c w (length d) =
         rw (t .0, le-leb (length w) (length d) (omega arith)) in
         (length w, (d, writtenInto c w d, record { answer = k; bytes = refl }), t .1),
     λ h. p .answer ∙ too-little c (length b) (length (h .1 .0)) (h .0) (h .1 .2 .answer) (h .2),

@@ -17,7 +17,7 @@ use Rattle.text.proofs.Rfc3629.{rfc3629}
 use Rattle.chunk.specs.declared.form.Kind.{Kind}
 use Rattle.chunk.specs.declared.form.Kind.the-variants.{Normal, Verbatim, Math}
 use Rattle.chunk.specs.declared.answer.Checked.the-variants as checked
-use Rattle.chunk.specs.declared.answer.Writing.the-variants as writing
+use Rattle.row.specs.declared.fault.Outcome.the-variants as outcome
 use Rattle.chunk.specs.Chunk.{Chunk, ChunkRow, chunkRows, chunkOf, chunksOf, isChunk, everyChunk, areChunks}
 use Rattle.chunk.specs.Format.{Written, before, isLineEnd, white, lines, formatOne, formatFrom}
 use Rattle.chunk.specs.Format.{isEscapable, escaped, opening, bodyOf, closing, extraAfter, biblatexFrom, toBiblatexString}
@@ -138,7 +138,7 @@ check-texts t l e =
 
 -- ---- the calls
 
-call-octets : (t l : List ℕ) {w b b′ : List ℕ} {n : ℕ} → (Texts (chunksOf t l) → Octets w) → Write (checkedOf t l) w b (writing.Written n) b′ →
+call-octets : (t l : List ℕ) {w b b′ : List ℕ} {n : ℕ} → (Texts (chunksOf t l) → Octets w) → Write (checkedOf t l) w b (outcome.Count n) b′ →
     Octets (take n b′)
 call-octets t l f h = let s = written (checkedOf t l) h in subst Octets (sym (s .1)) (f (check-texts t l (s .0)))
 

@@ -7,7 +7,7 @@ use mathlib.Core.List.{List, [], _∷_}
 use lib.ListN.{take}
 use Rattle.text.specs.Utf8.{Octets}
 use Rattle.chunk.specs.declared.answer.Checked.the-variants as checked
-use Rattle.chunk.specs.declared.answer.Writing.the-variants as writing
+use Rattle.row.specs.declared.fault.Outcome.the-variants as outcome
 use Rattle.chunk.specs.Chunk.{Chunk, chunksOf}
 use Rattle.chunk.specs.Format.{formatVerbatim, toBiblatexString}
 use Rattle.chunk.specs.Write.{checkedOf, FormatVerbatim, ToBiblatexString}
@@ -24,5 +24,5 @@ pub record WellFormed : Type 0 where
   pub formatted : (cs : List Chunk) → Texts cs → Octets (formatVerbatim cs)
   pub serialized : (verb : Bool) (cs : List Chunk) → Texts cs → Octets (toBiblatexString verb cs)
   -- so that what a call has written is UTF-8
-  pub formats : (t l b b′ : List ℕ) (n : ℕ) → FormatVerbatim t l b (writing.Written n) b′ → Octets (take n b′)
-  pub writes : (verb : Bool) (t l b b′ : List ℕ) (n : ℕ) → ToBiblatexString verb t l b (writing.Written n) b′ → Octets (take n b′)
+  pub formats : (t l b b′ : List ℕ) (n : ℕ) → FormatVerbatim t l b (outcome.Count n) b′ → Octets (take n b′)
+  pub writes : (verb : Bool) (t l b b′ : List ℕ) (n : ℕ) → ToBiblatexString verb t l b (outcome.Count n) b′ → Octets (take n b′)

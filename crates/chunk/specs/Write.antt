@@ -17,8 +17,8 @@ use Rattle.row.specs.declared.fault.Reason.the-variants.{NotUtf8, NoRoom, BadRo
 use Rattle.row.specs.Fault.{faultAt, nowhere}
 use Rattle.chunk.specs.declared.answer.Checked.{Checked}
 use Rattle.chunk.specs.declared.answer.Checked.the-variants as checked
-use Rattle.chunk.specs.declared.answer.Writing.{Writing}
-use Rattle.chunk.specs.declared.answer.Writing.the-variants as writing
+use Rattle.row.specs.declared.fault.Outcome.{Outcome}
+use Rattle.row.specs.declared.fault.Outcome.the-variants as outcome
 use Rattle.chunk.specs.Chunk.{areChunks, chunksOf}
 use Rattle.chunk.specs.Format.{formatVerbatim, toBiblatexString}
 
@@ -33,9 +33,9 @@ checkedOf t l = rowsChecked t l (validityOf t)
 
 -- ---- a writer, by what the check says and what it has to write
 
-abbrev pub writingOf : Checked → List ℕ → ℕ → Writing
-writingOf checked.Passed w size = cond (leb (length w) size) (writing.Written (length w)) (writing.Refused (nowhere NoRoom))
-writingOf (checked.Refused f) w size = writing.Refused f
+abbrev pub writingOf : Checked → List ℕ → ℕ → Outcome
+writingOf checked.Passed w size = cond (leb (length w) size) (outcome.Count (length w)) (outcome.Refused (nowhere NoRoom))
+writingOf (checked.Refused f) w size = outcome.Refused f
 
 -- the lent bytes: the text in front of what they held, or as they were
 abbrev pub writtenInto : Checked → List ℕ → List ℕ → List ℕ
@@ -43,14 +43,14 @@ writtenInto checked.Passed w b = cond (leb (length w) (length b)) (w ++ drop (le
 writtenInto (checked.Refused f) w b = b
 
 -- a writer of w over the lent bytes b answers r and leaves b′
-pub record Write (c : Checked) (w b : List ℕ) (r : Writing) (b′ : List ℕ) : Type 0 where
+pub record Write (c : Checked) (w b : List ℕ) (r : Outcome) (b′ : List ℕ) : Type 0 where
   pub answer : r ≡ writingOf c w (length b)
   pub bytes : b′ ≡ writtenInto c w b
 
 -- ---- the calls, of the text t and the chunk rows in the numbers l
 
-abbrev pub FormatVerbatim : List ℕ → List ℕ → List ℕ → Writing → List ℕ → Type 0
+abbrev pub FormatVerbatim : List ℕ → List ℕ → List ℕ → Outcome → List ℕ → Type 0
 FormatVerbatim t l b r b′ = Write (checkedOf t l) (formatVerbatim (chunksOf t l)) b r b′
 
-abbrev pub ToBiblatexString : Bool → List ℕ → List ℕ → List ℕ → Writing → List ℕ → Type 0
+abbrev pub ToBiblatexString : Bool → List ℕ → List ℕ → List ℕ → Outcome → List ℕ → Type 0
 ToBiblatexString verb t l b r b′ = Write (checkedOf t l) (toBiblatexString verb (chunksOf t l)) b r b′

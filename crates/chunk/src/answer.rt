@@ -1,11 +1,5 @@
-// What the calls of this crate answer.
+// What the inner calls of this crate answer.
 use row::fault::Fault;
-
-// Of a writer: the number of bytes, which then stand in the lent ones.
-pub enum Writing {
-    Written(usize),
-    Refused(Fault),
-}
 
 // Of the check of lent rows and text.
 pub enum Checked {

@@ -1,12 +1,12 @@
 // `to_biblatex_string`, after chunk.rs, and `is_escapable`, after resolve.rs.
 use crate::answer::Checked;
 use crate::answer::Total;
-use crate::answer::Writing;
 use crate::check;
 use crate::form;
 use crate::form::Kind;
 use crate::put;
 use row::fault::Fault;
+use row::fault::Outcome;
 use row::fault::Reason;
 ghost use mathlib.Core.Path.{_≡_};
 ghost use mathlib.Core.Bool.{true};
@@ -164,12 +164,12 @@ fn write_all(t: &[u8], rows: &[u32], verb: bool, room: usize, out: &mut [u8]) ->
 
 // Serializes chunks into a BibLaTeX string, for a field that is verbatim or not: the number of bytes, which then stand in the lent bytes, or the
 // refusal, which leaves them as they were.
-pub fn to_biblatex_string(t: &[u8], rows: &[u32], verb: bool, out: &mut [u8]) -> Writing
+pub fn to_biblatex_string(t: &[u8], rows: &[u32], verb: bool, out: &mut [u8]) -> Outcome
     ensures { λ r. ⌜ ToBiblatexString verb (now (t .entry)) (now (rows .entry)) (now (out .entry)) r (now (out .exit)) ⌝ }
 {
     match check::check(t, rows) {
         Checked::Refused(f) => {
-            return Writing::Refused(f);
+            return Outcome::Refused(f);
         }
         Checked::Passed => {}
     }
@@ -177,7 +177,7 @@ pub fn to_biblatex_string(t: &[u8], rows: &[u32], verb: bool, out: &mut [u8]) ->
     let mut none = [0u8; 0];
     match write_all(t, rows, verb, room, &mut none) {
         Total::More => {
-            return Writing::Refused(Fault {
+            return Outcome::Refused(Fault {
                 reason: Reason::NoRoom,
                 start: 0,
                 end: 0,
@@ -185,7 +185,7 @@ pub fn to_biblatex_string(t: &[u8], rows: &[u32], verb: bool, out: &mut [u8]) ->
         }
         Total::Bytes(n) => {
             write_all(t, rows, verb, room, out);
-            return Writing::Written(n);
+            return Outcome::Count(n);
         }
     }
 }

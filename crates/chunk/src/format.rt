@@ -1,13 +1,13 @@
 // `format_verbatim`, after chunk.rs.
 use crate::answer::Checked;
 use crate::answer::Total;
-use crate::answer::Writing;
 use crate::check;
 use crate::ending;
 use crate::form;
 use crate::form::Kind;
 use crate::put;
 use row::fault::Fault;
+use row::fault::Outcome;
 use row::fault::Reason;
 ghost use mathlib.Core.Path.{_≡_};
 ghost use mathlib.Core.Bool.{true};
@@ -108,12 +108,12 @@ fn format_all(t: &[u8], rows: &[u32], room: usize, out: &mut [u8]) -> Total
 }
 
 // Formats chunks verbatim: the number of bytes, which then stand in the lent bytes, or the refusal, which leaves them as they were.
-pub fn format_verbatim(t: &[u8], rows: &[u32], out: &mut [u8]) -> Writing
+pub fn format_verbatim(t: &[u8], rows: &[u32], out: &mut [u8]) -> Outcome
     ensures { λ r. ⌜ FormatVerbatim (now (t .entry)) (now (rows .entry)) (now (out .entry)) r (now (out .exit)) ⌝ }
 {
     match check::check(t, rows) {
         Checked::Refused(f) => {
-            return Writing::Refused(f);
+            return Outcome::Refused(f);
         }
         Checked::Passed => {}
     }
@@ -121,7 +121,7 @@ pub fn format_verbatim(t: &[u8], rows: &[u32], out: &mut [u8]) -> Writing
     let mut none = [0u8; 0];
     match format_all(t, rows, room, &mut none) {
         Total::More => {
-            return Writing::Refused(Fault {
+            return Outcome::Refused(Fault {
                 reason: Reason::NoRoom,
                 start: 0,
                 end: 0,
@@ -129,7 +129,7 @@ pub fn format_verbatim(t: &[u8], rows: &[u32], out: &mut [u8]) -> Writing
         }
         Total::Bytes(n) => {
             format_all(t, rows, room, out);
-            return Writing::Written(n);
+            return Outcome::Count(n);
         }
     }
 }

@@ -1,5 +1,5 @@
 //! Reads .bib files by the proved library: strictly, or piece by piece; packs their rows, and
-//! unpacks them.
+//! unpacks them; and writes chunks.
 //!
 //! Each function lends the proved one what its answer can need at most, and answers with just
 //! that, or with the refusal: what is wrong, and where. Refusal 16 means that there was not enough
@@ -13,6 +13,7 @@
 //! ```
 
 pub mod check;
+mod chunk;
 mod memory;
 mod refusal;
 mod row;
@@ -46,31 +47,51 @@ pub fn accepts(file: &[u8]) -> bool {
 
 /// Packs rows, four numbers each, into seven bytes each.
 pub fn pack(rows: &[u32]) -> Result<Vec<u8>, Refusal> {
-    answered(proved::pack, rows, rows.len() / NUMBERS * BYTES, 1)
+    let most = rows.len() / NUMBERS * BYTES;
+    answered(|bytes| proved::pack(rows, bytes), most, 1)
 }
 
 /// Unpacks rows, seven bytes each.
 pub fn unpack(bytes: &[u8]) -> Result<Rows, Refusal> {
     let most = bytes.len() / BYTES * NUMBERS;
-    answered(proved::unpack, bytes, most, NUMBERS).map(Rows::new)
+    answered(|rows| proved::unpack(bytes, rows), most, NUMBERS).map(Rows::new)
+}
+
+/// Formats chunks verbatim. Their rows are five numbers each: kind (0 Normal, 1 Verbatim, 2 Math),
+/// text start and end, which are bytes of the text, and span start and end, which are not looked at.
+pub fn format_verbatim(text: &[u8], rows: &[u32]) -> Result<String, Refusal> {
+    // A chunk is at most its text and two dollars.
+    let most = chunk::most(text, rows, 1);
+    answered(|bytes| proved::format_verbatim(text, rows, bytes), most, 1).map(chunk::text)
+}
+
+/// Writes chunks as a BibLaTeX string, for a verbatim field (as `file` or `url`) or another. The rows
+/// are as in [`format_verbatim`].
+pub fn to_biblatex_string(text: &[u8], rows: &[u32], is_verbatim: bool) -> Result<String, Refusal> {
+    let flag = is_verbatim.into();
+    let call = |bytes: &mut [u8]| proved::to_biblatex_string(text, rows, flag, bytes);
+    // Each byte may get a backslash, and each chunk a mark before and after it.
+    answered(call, chunk::most(text, rows, 2), 1).map(chunk::text)
 }
 
 /// A file of n bytes has at most n + 1 rows (`EnoughRoom` of crates/bib/specs/EnoughRoom.antt).
-fn reading(file: &[u8], call: Call<u8, u32>) -> Result<Rows, Refusal> {
+fn reading(file: &[u8], call: fn(&[u8], &mut [u32]) -> Answer) -> Result<Rows, Refusal> {
     let most = (file.len().min(MOST_BYTES) + 1) * NUMBERS;
-    answered(call, file, most, NUMBERS).map(Rows::new)
+    answered(|rows| call(file, rows), most, NUMBERS).map(Rows::new)
 }
-
-type Call<T, U> = fn(&[T], &mut [U]) -> Answer;
 
 /// The answer of a call that is lent `most` numbers and counts them by `unit`. Where memory is too
 /// short to lend them, that is refusal 16.
-fn answered<T, U>(call: Call<T, U>, from: &[T], most: usize, unit: usize) -> Result<Vec<U>, Refusal>
+fn answered<U>(
+    call: impl FnOnce(&mut [U]) -> Answer,
+    most: usize,
+    unit: usize,
+) -> Result<Vec<U>, Refusal>
 where
     U: Number,
 {
     let mut to = memory::zeros(most).ok_or(Refusal::NO_MEMORY)?;
-    let answer = call(from, &mut to);
+    let answer = call(&mut to);
     if answer.number != 0 {
         return Err(Refusal::of(&answer));
     }

@@ -204,6 +204,99 @@ static void packs(void)
     hold(says(a, BIB_BAD_ROWS, 0, 0, 0), "damage without a cause");
 }
 
+#define SPAN 0, 0
+
+static const char *const text = "a_\n b\xc3\xa9";
+static const uint32_t chunks[] = {BIB_NORMAL, 0, 3, SPAN, BIB_VERBATIM, 1, 2, SPAN, BIB_MATH, 5, 7, SPAN};
+
+/* Lends room of 32 bytes, all of which are marked first. */
+static struct answer format(const char *given, const uint32_t *rows, size_t rows_len, uint8_t bytes[32], size_t room)
+{
+    struct answer a = unset();
+    memset(bytes, 0xA5, 32);
+    a.status = bib_format_verbatim((const uint8_t *)given, strlen(given), rows, rows_len, bytes, room, &a.count, &a.start, &a.end);
+    return a;
+}
+
+static struct answer serialize(const char *given, const uint32_t *rows, size_t rows_len, uint32_t verbatim, uint8_t bytes[32], size_t room)
+{
+    struct answer a = unset();
+    memset(bytes, 0xA5, 32);
+    a.status = bib_to_biblatex_string((const uint8_t *)given, strlen(given), rows, rows_len, verbatim, bytes, room, &a.count, &a.start,
+                                      &a.end);
+    return a;
+}
+
+/* Whether the bytes begin with the string, and are as they were behind it. */
+static int holds(const uint8_t bytes[32], const char *string)
+{
+    size_t length = strlen(string);
+    for (size_t i = length; i < 32; i++)
+        if (bytes[i] != 0xA5)
+            return 0;
+    return memcmp(bytes, string, length) == 0;
+}
+
+static void formats(void)
+{
+    uint8_t bytes[32];
+    struct answer a = format(text, chunks, 15, bytes, 32);
+    hold(says(a, BIB_OK, 8, 0, 0) && holds(bytes, "a_ _$\xc3\xa9$"), "three chunks formatted");
+    a = format(text, chunks, 15, bytes, 8);
+    hold(says(a, BIB_OK, 8, 0, 0) && holds(bytes, "a_ _$\xc3\xa9$"), "exactly the room to format");
+    a = format(text, chunks, 15, bytes, 7);
+    hold(says(a, BIB_NO_ROOM, 0, 0, 0) && holds(bytes, ""), "a byte too few to format");
+    a = format("a\xff", chunks, 14, bytes, 0);
+    hold(says(a, BIB_NOT_UTF8, 0, 1, 1) && holds(bytes, ""), "a text that is not UTF-8, before bad rows");
+    a = format(text, chunks, 14, bytes, 0);
+    hold(says(a, BIB_BAD_ROWS, 0, 0, 0) && holds(bytes, ""), "no whole count of chunk rows, before no room");
+}
+
+static void writes(void)
+{
+    uint8_t bytes[32];
+    struct answer a = serialize(text, chunks, 15, 0, bytes, 32);
+    hold(says(a, BIB_OK, 14, 0, 0) && holds(bytes, "{a\\_\n{\\_$\xc3\xa9$}}"), "three chunks written");
+    a = serialize(text, chunks, 15, 1, bytes, 32);
+    hold(says(a, BIB_OK, 12, 0, 0) && holds(bytes, "{a_\n{_$\xc3\xa9$}}"), "for a verbatim field");
+    a = serialize(text, chunks, 15, 0x80000000u, bytes, 12);
+    hold(says(a, BIB_OK, 12, 0, 0) && holds(bytes, "{a_\n{_$\xc3\xa9$}}"), "by another number than 1, in exactly the room");
+    a = serialize(text, chunks, 15, 0, bytes, 13);
+    hold(says(a, BIB_NO_ROOM, 0, 0, 0) && holds(bytes, ""), "a byte too few to write");
+    a = serialize("\xc3", chunks, 15, 0, bytes, 32);
+    hold(says(a, BIB_NOT_UTF8, 0, 0, 0) && holds(bytes, ""), "a text that is cut inside a character");
+}
+
+/* Every way in which a chunk row can be bad */
+static void refuses_chunks(void)
+{
+    static const uint32_t bad[][5] = {{3, 0, 1, SPAN}, {BIB_NORMAL, 2, 1, SPAN}, {BIB_NORMAL, 0, 8, SPAN}, {BIB_NORMAL, 8, 8, SPAN},
+                                      {BIB_MATH, 6, 7, SPAN}, {BIB_VERBATIM, 5, 6, SPAN}, {BIB_NORMAL, 0, UINT32_MAX, SPAN}};
+    uint8_t bytes[32];
+    for (size_t i = 0; i < sizeof bad / sizeof bad[0]; i++) {
+        hold(says(format(text, bad[i], 5, bytes, 32), BIB_BAD_ROWS, 0, 0, 0) && holds(bytes, ""), "a bad chunk row, formatted");
+        hold(says(serialize(text, bad[i], 5, 0, bytes, 32), BIB_BAD_ROWS, 0, 0, 0) && holds(bytes, ""), "a bad chunk row, written");
+    }
+}
+
+static void takes_nothing_to_write(void)
+{
+    static const uint32_t empty[] = {BIB_MATH, 0, 0, SPAN};
+    struct answer a = unset();
+    a.status = bib_format_verbatim(NULL, 0, NULL, 0, NULL, 0, &a.count, &a.start, &a.end);
+    hold(says(a, BIB_OK, 0, 0, 0), "null text and null chunks, formatted into null bytes");
+    a = unset();
+    a.status = bib_format_verbatim(NULL, 0, empty, 5, NULL, 0, &a.count, &a.start, &a.end);
+    hold(says(a, BIB_NO_ROOM, 0, 0, 0), "an empty chunk of null text, formatted into null bytes");
+    a = unset();
+    a.status = bib_to_biblatex_string(NULL, 0, NULL, 0, 0, NULL, 0, &a.count, &a.start, &a.end);
+    hold(says(a, BIB_NO_ROOM, 0, 0, 0), "null text and null chunks, written into null bytes");
+    uint8_t bytes[2];
+    a = unset();
+    a.status = bib_to_biblatex_string(NULL, 0, NULL, 0, 1, bytes, 2, &a.count, &a.start, &a.end);
+    hold(says(a, BIB_OK, 2, 0, 0) && bytes[0] == '{' && bytes[1] == '}', "null text and null chunks, written");
+}
+
 int main(void)
 {
     reads();
@@ -215,6 +308,10 @@ int main(void)
     enough();
     refuses_a_long_file();
     packs();
+    formats();
+    writes();
+    refuses_chunks();
+    takes_nothing_to_write();
     printf("%d passed, %d failed\n", passed, failed);
     return failed > 0;
 }

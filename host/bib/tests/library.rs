@@ -69,6 +69,64 @@ fn packed_rows() {
     assert_eq!(bib::unpack(&bytes[..6]).map(|_| vec![]), bad);
 }
 
+/// A text with a chunk of each kind: "a_" and a line end, "_", and a character of two bytes.
+const TEXT: &[u8] = "a_\n bé".as_bytes();
+const CHUNKS: [u32; 15] = [0, 0, 3, 0, 0, 1, 1, 2, 0, 0, 2, 5, 7, 0, 0];
+
+#[test]
+fn written_chunks() {
+    assert_eq!(bib::format_verbatim(TEXT, &CHUNKS).unwrap(), "a_ _$é$");
+    let written = |verbatim| bib::to_biblatex_string(TEXT, &CHUNKS, verbatim).unwrap();
+    assert_eq!(written(false), "{a\\_\n{\\_$é$}}");
+    assert_eq!(written(true), "{a_\n{_$é$}}");
+    assert_eq!(bib::format_verbatim(b"", &[]).unwrap(), "");
+    assert_eq!(bib::to_biblatex_string(b"", &[], false).unwrap(), "{}");
+}
+
+/// The most bytes that chunks can be written as find their room: each doubled, and marks around each.
+#[test]
+fn room_enough_to_write() {
+    for kind in 0..3 {
+        for count in 0..20 {
+            let rows = [kind, 0, 4, 0, 0].repeat(count);
+            let formatted = bib::format_verbatim(b"\\{}\\", &rows).unwrap();
+            assert_eq!(formatted.len(), count * [4, 4, 6][kind as usize]);
+            let written = bib::to_biblatex_string(b"\\{}\\", &rows, true).unwrap();
+            let each = [8, 8, 6][kind as usize];
+            let extra = if kind == 1 && count > 0 { 2 } else { 0 };
+            assert_eq!(written.len(), 2 + extra + count * each);
+        }
+    }
+    // Every chunk opens or closes the extra brace.
+    let rows = [1, 0, 1, 0, 0, 0, 0, 1, 0, 0].repeat(9);
+    let written = bib::to_biblatex_string(b"}", &rows, false).unwrap();
+    assert_eq!(written, format!("{{{}}}", "{\\}}\\}".repeat(9)));
+}
+
+#[test]
+fn refused_chunks() {
+    let both = |text: &[u8], rows: &[u32], want: Refusal| {
+        assert_eq!(bib::format_verbatim(text, rows), Err(want));
+        assert_eq!(bib::to_biblatex_string(text, rows, false), Err(want));
+        assert_eq!(bib::to_biblatex_string(text, rows, true), Err(want));
+    };
+    both(b"a\xff", &[9], refusal(Reason::NotUtf8, 1, 1));
+    let bad = refusal(Reason::BadRows, 0, 0);
+    both(TEXT, &CHUNKS[..14], bad);
+    for (kind, start, end) in [
+        (3, 0, 1),
+        (0, 2, 1),
+        (0, 0, 8),
+        (1, 8, 8),
+        (2, 6, 7),
+        (0, 5, 6),
+    ] {
+        both(TEXT, &[kind, start, end, 0, 0], bad);
+    }
+    both(TEXT, &[0, 0, u32::MAX, 0, 0], bad);
+    both(TEXT, &[0, u32::MAX, u32::MAX, 0, 0], bad);
+}
+
 #[test]
 fn refusals() {
     let refused = |file: &[u8]| bib::read(file).unwrap_err();

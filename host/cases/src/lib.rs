@@ -1,7 +1,8 @@
 //! Files to try a reader on: put together from parts, drawn at random by grammar or without,
-//! damaged, and real ones. And rows to try a packer on.
+//! damaged, and real ones. Rows to try a packer on. And texts with rows of chunks to try a writer on.
 
 mod bytes;
+pub mod chunks;
 mod damage;
 mod files;
 mod grammar;

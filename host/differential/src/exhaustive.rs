@@ -65,15 +65,20 @@ fn edge_bytes(judge: &mut Judge, mut number: usize, length: usize) {
     judge.check(&file[place]);
 }
 
-/// Every character, or in a quick run those up to U+30FF and the ends of the planes, where each
-/// class of characters is asked for.
+/// Every character, or in a quick run those up to U+30FF and the ends of the planes.
+pub fn some_characters(long: bool) -> impl Iterator<Item = char> {
+    let asked = move |c: &char| {
+        let number = u32::from(*c);
+        long || number < 0x3100 || number % 0x1000 < 2 || number % 0x1000 > 0xFFD
+    };
+    ('\0'..=char::MAX).filter(asked)
+}
+
+/// These, where each class of characters is asked for.
 pub fn characters(judge: &mut Judge, long: bool) {
     let mut file = Vec::new();
-    for c in (0..=0x10_FFFFu32).filter_map(char::from_u32) {
-        let number = u32::from(c);
-        if long || number < 0x3100 || number % 0x1000 < 2 || number % 0x1000 > 0xFFD {
-            around(judge, &mut file, c);
-        }
+    for c in some_characters(long) {
+        around(judge, &mut file, c);
     }
 }
 

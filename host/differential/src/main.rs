@@ -1,8 +1,9 @@
 //! Compares the proved reader with the Rust, row by row and refusal by refusal; then packing and
-//! unpacking with a Rust packer, and salvage with 01's cutting around the Rust.
+//! unpacking with a Rust packer, salvage with 01's cutting around the Rust, and the writers of chunks
+//! with the Rust's.
 //!
-//!     cargo run --release -p differential                    some 1,100,000 cases, in seconds
-//!     cargo run --release -p differential -- --long          more than fifty million
+//!     cargo run --release -p differential                    some 1,600,000 cases, in seconds
+//!     cargo run --release -p differential -- --long          more than seventy million
 //!     cargo run --release -p differential -- --seed 7        other random cases
 //!     cargo run --release -p differential -- FILE FOLDER     these .bib files, folders searched
 //!     cargo run --release -p differential -- --damage 20 FOLDER    and 20 damaged copies of each
@@ -22,6 +23,8 @@ mod packs;
 mod report;
 mod room;
 mod salvage;
+mod writes;
+mod writing;
 
 use std::path::PathBuf;
 use std::process::ExitCode;
@@ -50,6 +53,7 @@ fn main() -> ExitCode {
         reading(&mut judge, &wanted);
         packing(&mut judge, &wanted);
         salvaging(&mut judge, &wanted);
+        writing(&mut judge, &wanted);
     } else {
         files::run(&mut judge, &wanted.paths, wanted.damage, wanted.seed);
     }
@@ -102,6 +106,21 @@ fn salvaging(judge: &mut Judge, wanted: &Wanted) {
     });
     judge.group("salvage, bytes", |j| drawn::bytes(j, seed, long));
     judge.group("salvage, room", |j| drawn::SALVAGE.rooms(j, seed, long));
+}
+
+fn writing(judge: &mut Judge, wanted: &Wanted) {
+    let Wanted { long, seed, .. } = *wanted;
+    judge.group("writing, all short chunks", |j| writing::sequences(j, long));
+    judge.group("writing, characters", |j| writing::characters(j, long));
+    judge.group("writing, ranges", writing::ranges);
+    judge.group("writing, counts", writing::counts);
+    judge.group(
+        "writing, sequences around UTF-8",
+        writing::sequences_of_bytes,
+    );
+    judge.group("writing, lengths", writing::lengths);
+    judge.group("writing, drawn", |j| writing::drawn(j, seed, long));
+    judge.group("writing, room", |j| writing::rooms(j, seed, long));
 }
 
 fn wanted() -> Result<Wanted, String> {

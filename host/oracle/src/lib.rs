@@ -3,8 +3,10 @@
 //! raw.rs, resolve.rs and chunk.rs of typst/biblatex are compiled here unchanged, from a folder
 //! that build.rs finds; nothing of them is kept in this repository. This crate root gives them what
 //! they import from theirs (`Span`, `Spanned`, and the stand-ins in `types` and `mechanics`), and
-//! `read` turns what the Rust answers into the rows and the numbers of document 01.
+//! `read` turns what the Rust answers into the rows and the numbers of document 01. `chunks` turns
+//! rows of chunks into the Rust's own.
 
+mod chunks;
 pub mod mechanics;
 mod places;
 mod rows;
@@ -16,6 +18,7 @@ include!(concat!(env!("OUT_DIR"), "/rust.rs"));
 use std::fmt;
 
 pub use chunk::ChunksExt;
+pub use chunks::{chunks, CHUNK_NUMBERS};
 pub use rows::{read, read_into, Kind, Refusal, Row, LONGEST_FILE};
 pub use salvage::{salvage, salvage_into};
 pub use types::{TypeError, TypeErrorKind};

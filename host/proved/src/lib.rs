@@ -1,8 +1,12 @@
 //! Safe wrappers over the proved library's C functions, as include/bib.h declares them.
 
-/// Declares the functions in the one form that all of them have, and a safe wrapper of each: what
-/// is lent to be read and its length, what is lent to be written and its length, and the three
-/// numbers that come back.
+mod writing;
+
+pub use writing::{format_verbatim, to_biblatex_string};
+
+/// Declares the functions in the one form that all but the writers have, and a safe wrapper of
+/// each: what is lent to be read and its length, what is lent to be written and its length, and the
+/// three numbers that come back.
 macro_rules! functions {
     ($($(#[$comment:meta])* $name:ident($c:ident): $from:ty => $to:ty;)*) => {
         extern "C" {

@@ -22,7 +22,7 @@ use Rattle.chunk.specs.declared.answer.Checked.{Checked}
 use Rattle.chunk.specs.declared.answer.Checked.the-variants as checked
 use Rattle.chunk.specs.declared.answer.Total.{Total}
 use Rattle.chunk.specs.declared.answer.Total.the-variants as total
-use Rattle.chunk.specs.declared.answer.Writing.the-variants as writing
+use Rattle.row.specs.declared.fault.Outcome.the-variants as outcome
 use Rattle.chunk.specs.Chunk.{areChunks}
 use Rattle.chunk.specs.Put.{totalOf, Fills}
 use Rattle.chunk.specs.Write.{rowsChecked, checkedOf, Write}
@@ -57,34 +57,34 @@ are-chunks t l e = both-sound t l (validityOf t) (sym e)
 -- ---- a writer
 
 module _ {c : Checked} {w b : List ℕ} where
-  pub refused : {f : Fault} → c ≡ checked.Refused f → Write c w b (writing.Refused f) b
-  refused {f} e = subst (λ (x : Checked). Write x w b (writing.Refused f) b) (sym e) (record { answer = refl; bytes = refl })
+  pub refused : {f : Fault} → c ≡ checked.Refused f → Write c w b (outcome.Refused f) b
+  refused {f} e = subst (λ (x : Checked). Write x w b (outcome.Refused f) b) (sym e) (record { answer = refl; bytes = refl })
 
-  pub no-room : c ≡ checked.Passed → totalOf w (length b) ≡ total.More → Write c w b (writing.Refused (nowhere NoRoom)) b
-  no-room e q = subst (λ (x : Checked). Write x w b (writing.Refused (nowhere NoRoom)) b) (sym e) (by (leb (length w) (length b)) refl q)
+  pub no-room : c ≡ checked.Passed → totalOf w (length b) ≡ total.More → Write c w b (outcome.Refused (nowhere NoRoom)) b
+  no-room e q = subst (λ (x : Checked). Write x w b (outcome.Refused (nowhere NoRoom)) b) (sym e) (by (leb (length w) (length b)) refl q)
     where
       by : (x : Bool) → leb (length w) (length b) ≡ x → cond x (total.Bytes (length w)) total.More ≡ total.More →
-          Write checked.Passed w b (writing.Refused (nowhere NoRoom)) b
+          Write checked.Passed w b (outcome.Refused (nowhere NoRoom)) b
       by true p q = let z : _≡_ {A = ℕ} 0 1 = cc in absurd (omega arith)
       by false p q = record { answer = rw p refl; bytes = rw p refl }
 
   pub wrote : {n : ℕ} {r : Total} {b′ : List ℕ} → c ≡ checked.Passed → totalOf w (length b) ≡ total.Bytes n → Fills w (length b) b r b′ →
-      Write c w b (writing.Written n) b′
-  wrote {n} {b′ = b′} e q f = subst (λ (x : Checked). Write x w b (writing.Written n) b′) (sym e) (by (leb (length w) (length b)) refl q)
+      Write c w b (outcome.Count n) b′
+  wrote {n} {b′ = b′} e q f = subst (λ (x : Checked). Write x w b (outcome.Count n) b′) (sym e) (by (leb (length w) (length b)) refl q)
     where
       by : (x : Bool) → leb (length w) (length b) ≡ x → cond x (total.Bytes (length w)) total.More ≡ total.Bytes n →
-          Write checked.Passed w b (writing.Written n) b′
+          Write checked.Passed w b (outcome.Count n) b′
       by true p q =
           let m : length w ≡ n = cc in
           let l = leb-true (length w) (length b) p in
-          record { answer = rw p (ap writing.Written (sym m)); bytes = f .bytes l ∙ sets-fits w b l ∙ rw p refl }
+          record { answer = rw p (ap outcome.Count (sym m)); bytes = f .bytes l ∙ sets-fits w b l ∙ rw p refl }
       by false p q = let z : _≡_ {A = ℕ} 0 1 = cc in absurd (omega arith)
 
-pub written : (c : Checked) {w b b′ : List ℕ} {n : ℕ} → Write c w b (writing.Written n) b′ → (c ≡ checked.Passed) × (take n b′ ≡ w)
+pub written : (c : Checked) {w b b′ : List ℕ} {n : ℕ} → Write c w b (outcome.Count n) b′ → (c ≡ checked.Passed) × (take n b′ ≡ w)
 written (checked.Refused f) h = let e = h .answer in let z : _≡_ {A = ℕ} 0 1 = cc in absurd (omega arith)
 written checked.Passed {w} {b} {b′} {n} h = (refl, by (leb (length w) (length b)) (h .answer) (h .bytes))
   where
-    by : (x : Bool) → writing.Written n ≡ cond x (writing.Written (length w)) (writing.Refused (nowhere NoRoom)) →
+    by : (x : Bool) → outcome.Count n ≡ cond x (outcome.Count (length w)) (outcome.Refused (nowhere NoRoom)) →
         b′ ≡ cond x (w ++ drop (length w) b) b → take n b′ ≡ w
     by true e q = let m : length w ≡ n = cc in ap (take n) q ∙ take-at w (drop (length w) b) n m
     by false e q = let z : _≡_ {A = ℕ} 0 1 = cc in absurd (omega arith)
