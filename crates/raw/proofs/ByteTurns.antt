@@ -37,7 +37,7 @@ Answers f s at r = (r ≡ stepOf (f s at)) × Onward (length s) 0 at r
 -- ---- in quotes
 
 quoted-un : Unrolls quotedTurn
-quoted-un = many-turn quoted-turn-good
+quoted-un = many-turn (λ a. quoted-turn-good a .kept)
 
 quoted-other : (a : ℕ) (s : List ℕ) (i c n : ℕ) → see s i ≡ Char c n → is 0x22 c ≡ false → is 0x5C c ≡ false → quotedTurn a s i ≡ again n [] a
 unfolding quotedTurn
@@ -75,7 +75,7 @@ module _ {s : List ℕ} {at i : ℕ} (r : Reached quotedTurn s at 0 i) where
 -- ---- numbers
 
 number-un : Unrolls numberTurn
-number-un = many-turn number-turn-good
+number-un = many-turn (λ a. number-turn-good a .kept)
 
 -- the loop's number, before the point and after it
 abbrev pub dotted : Bool → ℕ
@@ -130,7 +130,7 @@ module _ {s : List ℕ} {at i : ℕ} (h : i < length s) (e : getD s i 0 ≡ 0x2E
 -- ---- in braces
 
 braces-un : Unrolls bracedTurn
-braces-un = many-turn braced-turn-good
+braces-un = many-turn (λ a. braced-turn-good a .kept)
 
 slash-on : (d : ℕ) (s : List ℕ) (i n : ℕ) → see s i ≡ Char 0x5C n → bracedTurn d s i ≡ escape d s n
 unfolding bracedTurn

@@ -81,7 +81,7 @@ module _ (s : List ℕ) (i : ℕ) {r : ℕ} (e : r ≡ pastOne (holdsOf test.Dig
   unfolding number numberTurn
   number-past h {q} d =
       let t : numberTurn 0 s i ≡ again r [] 0 = eaten-on (holdsOf test.Digit) s i (λ n. again n [] 0) _ e h in
-      let m : number s i ≡ number s r = many-turn number-turn-good 0 s i ∙ ap (λ (o : Out). after o (λ a p. many numberTurn a s p)) t ∙ more-none (number s r) in
+      let m : number s i ≡ number s r = many-turn (λ a. number-turn-good a .kept) 0 s i ∙ ap (λ (o : Out). after o (λ a p. many numberTurn a s p)) t ∙ more-none (number s r) in
       let k = subst (Sound 0 0 r (length s)) (sym m ∙ d) (number-good .kept .sound s r) in
       omega arith
 

@@ -19,19 +19,19 @@ use Rattle.row.specs.Row.{moved}
 use Rattle.row.specs.declared.fault.Reason.{Reason}
 use Rattle.row.specs.Fault.{numberOf}
 use Rattle.raw.specs.Strict.{Same, faultUp, shifted}
-use Rattle.raw.specs.Reader.{Out, ok, again, bad, Reader, eaten, stop, turn, refuse, put, when, sees}
+use Rattle.raw.specs.Reader.{OutOf, ok, again, bad, ReaderOf, Out, Reader, eaten, stop, turn, refuse, put, when, sees}
 use Rattle.raw.proofs.Trace.{here, none, Traced, eat-traced}
 
 -- ---- the words
 
 -- an answer's place is q
-abbrev pub Stops : Out → ℕ → Type 0
+abbrev pub Stops : {P : Type 0} → OutOf P → ℕ → Type 0
 Stops (ok q′ rs) q = q′ ≡ q
 Stops (again q′ rs a) q = q′ ≡ q
 Stops (bad f) q = ⊥
 
 -- from p a reader went on by w at least, one that says `again` by v at least, and not past n
-abbrev pub Sound : ℕ → ℕ → ℕ → ℕ → Out → Type 0
+abbrev pub Sound : {P : Type 0} → ℕ → ℕ → ℕ → ℕ → OutOf P → Type 0
 Sound v w p n (ok q rs) = (p + w ≤ q) × (q ≤ max p n)
 Sound v w p n (again q rs a) = (p + v ≤ q) × (q ≤ max p n)
 Sound v w p n (bad f) = Unit {0}
@@ -42,7 +42,7 @@ pub record Shifts (a : List ℕ) (f g : Reader) : Type 0 where
 
 -- A reader eats at least w octets (v, where it says `again`), looks at most at the l places after its end, and answers the
 -- same on a text that shows the same so far
-pub record Kept (v w l : ℕ) (f : Reader) : Type 0 where
+pub record Kept {P : Type 0} (v w l : ℕ) (f : ReaderOf P) : Type 0 where
   pub sound : (s : List ℕ) (p : ℕ) → Sound v w p (length s) (f s p)
   pub local : (s t : List ℕ) (p q : ℕ) → Stops (f s p) q → q ≤ length t → Same s t p (q + l) → f t p ≡ f s p
 
@@ -93,20 +93,20 @@ put-shifts k x a e = record { moves = λ s p. refl }
 
 -- ---- weaker, and the same
 
-sound-less : (v w v′ w′ p n : ℕ) (o : Out) → Sound v w p n o → v′ ≤ v → w′ ≤ w → Sound v′ w′ p n o
+sound-less : {P : Type 0} (v w v′ w′ p n : ℕ) (o : OutOf P) → Sound v w p n o → v′ ≤ v → w′ ≤ w → Sound v′ w′ p n o
 sound-less v w v′ w′ p n (ok q rs) x a b = omega arith
 sound-less v w v′ w′ p n (again q rs z) x a b = omega arith
 sound-less v w v′ w′ p n (bad f) x a b = tt
 
-module _ {v w l v′ w′ l′ : ℕ} {f : Reader} where
-  pub kept-weaker : Kept v w l f → (v′ ≤ v) × (w′ ≤ w) × (l ≤ l′) → Kept v′ w′ l′ f
-  kept-weaker F m =
+module _ {v w l v′ w′ l′ : ℕ} where
+  pub kept-weaker : {P : Type 0} {f : ReaderOf P} → Kept v w l f → (v′ ≤ v) × (w′ ≤ w) × (l ≤ l′) → Kept v′ w′ l′ f
+  kept-weaker {f = f} F m =
       record {
         sound = λ s p. sound-less v w v′ w′ p (length s) (f s p) (F .sound s p) (m .0) (m .1);
         local = λ s t p q h i e. F .local s t p q h i (λ j a b. e j a (omega arith));
       }
 
-  pub weaker : Good v w l f → (v′ ≤ v) × (w′ ≤ w) × (l ≤ l′) → Good v′ w′ l′ f
+  pub weaker : {f : Reader} → Good v w l f → (v′ ≤ v) × (w′ ≤ w) × (l ≤ l′) → Good v′ w′ l′ f
   weaker F m = record { kept = kept-weaker (F .kept) m; traced = F .traced; shift = F .shift }
 
 -- a reader that answers like a good one
@@ -124,7 +124,7 @@ good-same {v} {w} g F u =
 -- ---- by what is seen
 
 -- what holds of both ways holds
-pub eaten-both : (R : Out → Out → Type 0) (c : ℕ → Bool) (x : Seen) (f f′ : ℕ → Out) (o o′ : Out) → ((k n : ℕ) → x ≡ Char k n → R (f n) (f′ n)) → R o o′ → R (eaten c x f o) (eaten c x f′ o′)
+pub eaten-both : {P : Type 0} (R : OutOf P → OutOf P → Type 0) (c : ℕ → Bool) (x : Seen) (f f′ : ℕ → OutOf P) (o o′ : OutOf P) → ((k n : ℕ) → x ≡ Char k n → R (f n) (f′ n)) → R o o′ → R (eaten c x f o) (eaten c x f′ o′)
 eaten-both R c End f f′ o o′ h i = i
 eaten-both R c (Char k n) f f′ o o′ h i = by (c k)
   where
@@ -132,8 +132,8 @@ eaten-both R c (Char k n) f f′ o o′ h i = by (c k)
     by true = h k n refl
     by false = i
 
-pub eaten-holds : (P : Out → Type 0) (c : ℕ → Bool) (x : Seen) (f : ℕ → Out) (o : Out) → ((k n : ℕ) → x ≡ Char k n → P (f n)) → P o → P (eaten c x f o)
-eaten-holds P c x f o h i = eaten-both (λ o o′. P o) c x f f o o h i
+pub eaten-holds : {P : Type 0} (R : OutOf P → Type 0) (c : ℕ → Bool) (x : Seen) (f : ℕ → OutOf P) (o : OutOf P) → ((k n : ℕ) → x ≡ Char k n → R (f n)) → R o → R (eaten c x f o)
+eaten-holds R c x f o h i = eaten-both (λ o o′. R o) c x f f o o h i
 
 pub eaten-up : (d : ℕ) (c : ℕ → Bool) (x : Seen) (f f′ : ℕ → Out) (o o′ : Out) → ((n : ℕ) → f′ (n + d) ≡ shifted d (f n)) → o′ ≡ shifted d o → eaten c (seenUp d x) f′ o′ ≡ shifted d (eaten c x f o)
 eaten-up d c End f f′ o o′ h i = i
@@ -144,18 +144,18 @@ eaten-up d c (Char k n) f f′ o o′ h i = by (c k)
     by false = i
 
 -- where a sound answer stands at least
-least : (v w p n q : ℕ) (o : Out) → Sound v w p n o → Stops o q → (l : ℕ) → 1 ≤ v + l → 1 ≤ w + l → p < q + l
+least : {P : Type 0} (v w p n q : ℕ) (o : OutOf P) → Sound v w p n o → Stops o q → (l : ℕ) → 1 ≤ v + l → 1 ≤ w + l → p < q + l
 least v w p n q (ok q′ rs) x e l a b = omega arith
 least v w p n q (again q′ rs a) x e l b c = omega arith
 least v w p n q (bad f) x e l a b = absurd e
 
-sound-later : (v w v′ w′ p m n : ℕ) (o : Out) → p < m → m ≤ n → v′ ≤ suc v → w′ ≤ suc w → Sound v w m n o → Sound v′ w′ p n o
+sound-later : {P : Type 0} (v w v′ w′ p m n : ℕ) (o : OutOf P) → p < m → m ≤ n → v′ ≤ suc v → w′ ≤ suc w → Sound v w m n o → Sound v′ w′ p n o
 sound-later v w v′ w′ p m n (ok q rs) a b c d x = omega arith
 sound-later v w v′ w′ p m n (again q rs z) a b c d x = omega arith
 sound-later v w v′ w′ p m n (bad f) a b c d x = tt
 
 -- f follows a character that was eaten, g stands in its place: v, w and l are the whole's
-module _ {v w l v₁ w₁ : ℕ} (c : ℕ → Bool) {f g : Reader} (F : Kept v₁ w₁ l f) (G : Kept v w l g) (m : (v ≤ suc v₁) × (w ≤ suc w₁) × (1 ≤ v + l) × (1 ≤ w + l)) where
+module _ {P : Type 0} {v w l v₁ w₁ : ℕ} (c : ℕ → Bool) {f g : ReaderOf P} (F : Kept v₁ w₁ l f) (G : Kept v w l g) (m : (v ≤ suc v₁) × (w ≤ suc w₁) × (1 ≤ v + l) × (1 ≤ w + l)) where
   when-sound : (s : List ℕ) (p : ℕ) → Sound v w p (length s) (when c f g s p)
   when-sound s p =
       eaten-holds (Sound v w p (length s)) c (see s p) (f s) (g s p)
@@ -173,7 +173,7 @@ module _ {v w l v₁ w₁ : ℕ} (c : ℕ → Bool) {f g : Reader} (F : Kept v�
   when-kept = record { sound = when-sound; local = when-local }
 
 -- f and g stand where it is looked
-module _ {v w l : ℕ} (c : ℕ → Bool) {f g : Reader} (F : Kept v w l f) (G : Kept v w l g) (m : (1 ≤ v + l) × (1 ≤ w + l)) where
+module _ {P : Type 0} {v w l : ℕ} (c : ℕ → Bool) {f g : ReaderOf P} (F : Kept v w l f) (G : Kept v w l g) (m : (1 ≤ v + l) × (1 ≤ w + l)) where
   sees-sound : (s : List ℕ) (p : ℕ) → Sound v w p (length s) (sees c f g s p)
   sees-sound s p = eaten-holds (Sound v w p (length s)) c (see s p) (λ n. f s p) (g s p) (λ k n x. F .sound s p) (G .sound s p)
 

@@ -9,19 +9,19 @@ use native.Mathlib.Omega.{arith}
 use mathlib.Core.Path.{_≡_, refl, sym, ap, _∙_, subst}
 use mathlib.Core.List.{List, _++_}
 use lib.ListN.{length, length-append}
-use Rattle.raw.specs.Reader.{Out, ok, again, bad, Reader, more, after, loop, many}
+use Rattle.raw.specs.Reader.{OutOf, ok, again, bad, ReaderOf, Out, Reader, more, after, loop, many}
 use Rattle.raw.proofs.Trace.{here, Traced, after-traced}
 use Rattle.raw.specs.Strict.{Same, shifted}
-use Rattle.raw.proofs.Good.{Stops, Sound, Good}
+use Rattle.raw.proofs.Good.{Stops, Sound, Kept, Good}
 use Rattle.raw.proofs.Then.{more-stops, more-up, more-sound, sound-from, least-from}
 
 -- every `again` of a turn goes on, and not past the end
-module _ {w l : ℕ} {f : ℕ → Reader} (F : (a : ℕ) → Good 1 w l (f a)) where
+module _ {P : Type 0} {w l : ℕ} {f : ℕ → ReaderOf P} (F : (a : ℕ) → Kept 1 w l (f a)) where
   -- the rest of a loop with the fuel n
-  abbrev on : ℕ → List ℕ → ℕ → ℕ → Out
+  abbrev on : ℕ → List ℕ → ℕ → ℕ → OutOf P
   on n s = λ b q. loop f n b s q
 
-  fuel-after : (s : List ℕ) (p n m : ℕ) (o : Out) → Sound 1 w p (length s) o → length s ≤ p + n → length s ≤ p + m → ((b q : ℕ) → p < q → q ≤ length s → loop f n b s q ≡ loop f m b s q) → after o (on n s) ≡ after o (on m s)
+  fuel-after : (s : List ℕ) (p n m : ℕ) (o : OutOf P) → Sound 1 w p (length s) o → length s ≤ p + n → length s ≤ p + m → ((b q : ℕ) → p < q → q ≤ length s → loop f n b s q ≡ loop f m b s q) → after o (on n s) ≡ after o (on m s)
   fuel-after s p n m (ok q rs) x h k ih = refl
   fuel-after s p n m (again q rs a) x h k ih = ap (more rs) (ih a q (omega arith) (omega arith))
   fuel-after s p n m (bad j) x h k ih = refl
@@ -29,12 +29,12 @@ module _ {w l : ℕ} {f : ℕ → Reader} (F : (a : ℕ) → Good 1 w l (f a)) w
   pub loop-fuel : (n m a : ℕ) (s : List ℕ) (p : ℕ) → length s ≤ p + n → length s ≤ p + m → loop f (suc n) a s p ≡ loop f (suc m) a s p
   unfolding loop
   loop-fuel zero zero a s p h k = refl
-  loop-fuel zero (suc m) a s p h k = fuel-after s p zero (suc m) (f a s p) (F a .kept .sound s p) h k (λ b q x y. absurd (omega arith))
-  loop-fuel (suc n) zero a s p h k = fuel-after s p (suc n) zero (f a s p) (F a .kept .sound s p) h k (λ b q x y. absurd (omega arith))
+  loop-fuel zero (suc m) a s p h k = fuel-after s p zero (suc m) (f a s p) (F a .sound s p) h k (λ b q x y. absurd (omega arith))
+  loop-fuel (suc n) zero a s p h k = fuel-after s p (suc n) zero (f a s p) (F a .sound s p) h k (λ b q x y. absurd (omega arith))
   loop-fuel (suc n) (suc m) a s p h k =
-      fuel-after s p (suc n) (suc m) (f a s p) (F a .kept .sound s p) h k (λ b q x y. loop-fuel n m b s q (omega arith) (omega arith))
+      fuel-after s p (suc n) (suc m) (f a s p) (F a .sound s p) h k (λ b q x y. loop-fuel n m b s q (omega arith) (omega arith))
 
-  turn-after : (s : List ℕ) (p n : ℕ) (o : Out) → length s ≡ n → Sound 1 w p (length s) o → after o (on n s) ≡ after o (on (suc n) s)
+  turn-after : (s : List ℕ) (p n : ℕ) (o : OutOf P) → length s ≡ n → Sound 1 w p (length s) o → after o (on n s) ≡ after o (on (suc n) s)
   turn-after s p n (ok q rs) e x = refl
   turn-after s p zero (again q rs a) e x = absurd (omega arith)
   turn-after s p (suc n) (again q rs a) e x = ap (more rs) (loop-fuel n (suc n) a s q (omega arith) (omega arith))
@@ -42,9 +42,9 @@ module _ {w l : ℕ} {f : ℕ → Reader} (F : (a : ℕ) → Good 1 w l (f a)) w
 
   pub many-turn : (a : ℕ) (s : List ℕ) (p : ℕ) → many f a s p ≡ after (f a s p) (λ b q. many f b s q)
   unfolding many loop
-  many-turn a s p = turn-after s p (length s) (f a s p) refl (F a .kept .sound s p)
+  many-turn a s p = turn-after s p (length s) (f a s p) refl (F a .sound s p)
 
-  sound-after : (v : ℕ) (s : List ℕ) (p n : ℕ) (o : Out) → Sound 1 w p (length s) o → ((b q : ℕ) → Sound v w q (length s) (loop f n b s q)) → Sound v w p (length s) (after o (on n s))
+  sound-after : (v : ℕ) (s : List ℕ) (p n : ℕ) (o : OutOf P) → Sound 1 w p (length s) o → ((b q : ℕ) → Sound v w q (length s) (loop f n b s q)) → Sound v w p (length s) (after o (on n s))
   sound-after v s p n (ok q rs) x ih = x
   sound-after v s p n (again q rs a) x ih =
       more-sound v w p (length s) rs (loop f n a s q)
@@ -54,9 +54,9 @@ module _ {w l : ℕ} {f : ℕ → Reader} (F : (a : ℕ) → Good 1 w l (f a)) w
   loop-sound : (v n a : ℕ) (s : List ℕ) (p : ℕ) → Sound v w p (length s) (loop f n a s p)
   unfolding loop
   loop-sound v zero a s p = tt
-  loop-sound v (suc n) a s p = sound-after v s p n (f a s p) (F a .kept .sound s p) (λ b q. loop-sound v n b s q)
+  loop-sound v (suc n) a s p = sound-after v s p n (f a s p) (F a .sound s p) (λ b q. loop-sound v n b s q)
 
-  more-after : (s : List ℕ) (p n m r : ℕ) (o : Out) → Sound 1 w p (length s) o → Stops (after o (on n s)) r → r < p + suc m → ((b q : ℕ) → Stops (loop f n b s q) r → r < q + m → loop f m b s q ≡ loop f n b s q) → after o (on m s) ≡ after o (on n s)
+  more-after : (s : List ℕ) (p n m r : ℕ) (o : OutOf P) → Sound 1 w p (length s) o → Stops (after o (on n s)) r → r < p + suc m → ((b q : ℕ) → Stops (loop f n b s q) r → r < q + m → loop f m b s q ≡ loop f n b s q) → after o (on m s) ≡ after o (on n s)
   more-after s p n m r (ok q rs) x h k ih = refl
   more-after s p n m r (again q rs a) x h k ih = ap (more rs) (ih a q (more-stops rs (loop f n a s q) r h) (omega arith))
   more-after s p n m r (bad j) x h k ih = refl
@@ -67,19 +67,14 @@ module _ {w l : ℕ} {f : ℕ → Reader} (F : (a : ℕ) → Good 1 w l (f a)) w
   loop-more (suc n) zero a s p r h k =
       let z = least-from 0 w p (length s) r (loop f (suc n) a s p) (loop-sound 0 (suc n) a s p) h 0 0 (omega arith) (omega arith) in
       absurd (omega arith)
-  loop-more (suc n) (suc m) a s p r h k = more-after s p n m r (f a s p) (F a .kept .sound s p) h k (λ b q. loop-more n m b s q r)
-
-  loop-traced : (s : List ℕ) (n a p : ℕ) → Traced s p (loop f n a s p)
-  unfolding loop
-  loop-traced s zero a p = record { place = here; empty = refl; least = omega arith; most = omega arith }
-  loop-traced s (suc n) a p = after-traced s p (f a s p) (on n s) (F a .traced s p) (loop-traced s n)
+  loop-more (suc n) (suc m) a s p r h k = more-after s p n m r (f a s p) (F a .sound s p) h k (λ b q. loop-more n m b s q r)
 
   module _ (s t : List ℕ) (r : ℕ) (i : r ≤ length t) where
     -- one turn answers the same on t
-    turn-local : (p q a : ℕ) (o : Out) → f a s p ≡ o → Stops o q → q ≤ r → Same s t p (r + l) → f a t p ≡ o
-    turn-local p q a o d x y e = F a .kept .local s t p q (subst (λ (o : Out). Stops o q) (sym d) x) (omega arith) (λ j u z. e j u (omega arith)) ∙ d
+    turn-local : (p q a : ℕ) (o : OutOf P) → f a s p ≡ o → Stops o q → q ≤ r → Same s t p (r + l) → f a t p ≡ o
+    turn-local p q a o d x y e = F a .local s t p q (subst (λ (o : OutOf P). Stops o q) (sym d) x) (omega arith) (λ j u z. e j u (omega arith)) ∙ d
 
-    local-after : (p n a : ℕ) (o : Out) → f a s p ≡ o → Sound 1 w p (length s) o → Stops (after o (on n s)) r → Same s t p (r + l) → ((b q : ℕ) → Stops (loop f n b s q) r → Same s t q (r + l) → loop f n b t q ≡ loop f n b s q) → after (f a t p) (on n t) ≡ after o (on n s)
+    local-after : (p n a : ℕ) (o : OutOf P) → f a s p ≡ o → Sound 1 w p (length s) o → Stops (after o (on n s)) r → Same s t p (r + l) → ((b q : ℕ) → Stops (loop f n b s q) r → Same s t q (r + l) → loop f n b t q ≡ loop f n b s q) → after (f a t p) (on n t) ≡ after o (on n s)
     local-after p n a (ok q rs) d x h e ih = rw (turn-local p q a (ok q rs) d refl (omega arith) e) refl
     local-after p n a (again q rs b) d x h e ih =
         let h′ = more-stops rs (loop f n b s q) r h in
@@ -90,9 +85,27 @@ module _ {w l : ℕ} {f : ℕ → Reader} (F : (a : ℕ) → Good 1 w l (f a)) w
     loop-local : (n a p : ℕ) → Stops (loop f n a s p) r → Same s t p (r + l) → loop f n a t p ≡ loop f n a s p
     unfolding loop
     loop-local zero a p h e = absurd h
-    loop-local (suc n) a p h e = local-after p n a (f a s p) refl (F a .kept .sound s p) h e (loop-local n)
+    loop-local (suc n) a p h e = local-after p n a (f a s p) refl (F a .sound s p) h e (loop-local n)
 
-  up-after : (c s : List ℕ) (n : ℕ) (o : Out) → ((b q : ℕ) → loop f n b (c ++ s) (q + length c) ≡ shifted (length c) (loop f n b s q)) → after (shifted (length c) o) (on n (c ++ s)) ≡ shifted (length c) (after o (on n s))
+  many-local : (a : ℕ) (s t : List ℕ) (p q : ℕ) → Stops (many f a s p) q → q ≤ length t → Same s t p (q + l) → many f a t p ≡ many f a s p
+  unfolding many
+  many-local a s t p q h i e =
+      let k = loop-local s t q i (suc (length s)) a p h e in
+      loop-more (suc (length s)) (suc (length t)) a t p q (subst (λ (o : OutOf P). Stops o q) (sym k) h) (omega arith) ∙ k
+
+  pub many-kept : {v : ℕ} (a : ℕ) → Kept v w l (many f a)
+  unfolding many
+  many-kept {v} a = record { sound = λ s p. loop-sound v (suc (length s)) a s p; local = many-local a }
+
+-- ---- of rows
+
+module _ {w l : ℕ} {f : ℕ → Reader} (F : (a : ℕ) → Good 1 w l (f a)) where
+  loop-traced : (s : List ℕ) (n a p : ℕ) → Traced s p (loop f n a s p)
+  unfolding loop
+  loop-traced s zero a p = record { place = here; empty = refl; least = omega arith; most = omega arith }
+  loop-traced s (suc n) a p = after-traced s p (f a s p) (λ b q. loop f n b s q) (F a .traced s p) (loop-traced s n)
+
+  up-after : (c s : List ℕ) (n : ℕ) (o : Out) → ((b q : ℕ) → loop f n b (c ++ s) (q + length c) ≡ shifted (length c) (loop f n b s q)) → after (shifted (length c) o) (λ b q. loop f n b (c ++ s) q) ≡ shifted (length c) (after o (λ b q. loop f n b s q))
   up-after c s n (ok q rs) ih = refl
   up-after c s n (again q rs a) ih = rw (ih a q) (more-up (length c) rs (loop f n a s q))
   up-after c s n (bad k) ih = refl
@@ -102,26 +115,17 @@ module _ {w l : ℕ} {f : ℕ → Reader} (F : (a : ℕ) → Good 1 w l (f a)) w
   loop-up c s zero a p = refl
   loop-up c s (suc n) a p = rw (F a .shift c .moves s p) (up-after c s n (f a s p) (loop-up c s n))
 
-  many-local : (a : ℕ) (s t : List ℕ) (p q : ℕ) → Stops (many f a s p) q → q ≤ length t → Same s t p (q + l) → many f a t p ≡ many f a s p
-  unfolding many
-  many-local a s t p q h i e =
-      let k = loop-local s t q i (suc (length s)) a p h e in
-      loop-more (suc (length s)) (suc (length t)) a t p q (subst (λ (o : Out). Stops o q) (sym k) h) (omega arith) ∙ k
-
   many-up : (a : ℕ) (c s : List ℕ) (p : ℕ) → many f a (c ++ s) (p + length c) ≡ shifted (length c) (many f a s p)
   unfolding many
   many-up a c s p =
-      loop-fuel (length (c ++ s)) (length s) a (c ++ s) (p + length c) (omega arith) (omega (arith, length-append c s))
+      loop-fuel (λ a. F a .kept) (length (c ++ s)) (length s) a (c ++ s) (p + length c) (omega arith) (omega (arith, length-append c s))
       ∙ loop-up c s (suc (length s)) a p
 
   pub many-good : {v : ℕ} (a : ℕ) → Good v w l (many f a)
   unfolding many
   many-good {v} a =
       record {
-        kept = record {
-          sound = λ s p. loop-sound v (suc (length s)) a s p;
-          local = many-local a;
-        };
+        kept = many-kept (λ a. F a .kept) a;
         traced = λ s p. loop-traced s (suc (length s)) a p;
         shift = λ c. record { moves = many-up a c };
       }

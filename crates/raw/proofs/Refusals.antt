@@ -22,7 +22,7 @@ use Rattle.raw.proofs.Strict.{strict-by, file-refuses}
 
 module _ (s : List ℕ) (f : Fault) where
   -- a refusal that was made here
-  made : (g : Fault) → bad g ≡ bad f → ReadFault s g → ReadFault s f
+  made : (g : Fault) → _≡_ {A = Out} (bad g) (bad f) → ReadFault s g → ReadFault s f
   made g e x = let q : g ≡ f = cc in subst (ReadFault s) q x
 
   file-fault : file s 0 ≡ bad f → ReadFault s f

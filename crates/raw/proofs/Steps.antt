@@ -17,6 +17,7 @@ use Rattle.text.specs.declared.class.Test.the-variants as test
 use Rattle.text.proofs.AsciiTurns.{letters-id}
 use Rattle.row.specs.declared.fault.Reason.the-variants.{UnexpectedEof, ExpectedIdentifier, ExpectedOpeningBrace, ExpectedClosingBrace, ExpectedComma, ExpectedQuotationMark, ExpectedEquals, UnexpectedDecimalPoint}
 use Rattle.row.specs.Fault.{faultAt}
+use Rattle.row.specs.Row.{Row}
 use Rattle.raw.specs.declared.answer.Step.{Step}
 use Rattle.raw.specs.declared.answer.Step.the-variants as step
 use Rattle.raw.specs.Reader.{Out, ok, again, bad, Reader, eaten, scan}
@@ -30,7 +31,7 @@ use Rattle.raw.proofs.Eaten.{not-at, eaten-off, eaten-on, need-bare}
 -- ---- scans
 
 module _ (t : ℕ → Bool) (s : List ℕ) (i : ℕ) where
-  pub scan-on : {r : ℕ} → r ≡ skip t s i → scan t s i ≡ ok r []
+  pub scan-on : {r : ℕ} → r ≡ skip t s i → scan {P = Row} t s i ≡ ok r []
   scan-on e = scan-skip t s i ∙ ap (λ (x : ℕ). ok x []) (sym e)
 
   scan-bare : Bare (scan t s i)

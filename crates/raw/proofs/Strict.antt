@@ -42,10 +42,10 @@ use Rattle.raw.proofs.Early.{file-early}
 
 file-any : (a : ℕ) (s : List ℕ) (p : ℕ) → many fileTurn a s p ≡ file s p
 unfolding fileTurn file
-file-any a s p = many-turn file-turn-good a s p ∙ sym (many-turn file-turn-good 0 s p)
+file-any a s p = many-turn (λ a. file-turn-good a .kept) a s p ∙ sym (many-turn (λ a. file-turn-good a .kept) 0 s p)
 
 pub file-turn : (s : List ℕ) (p : ℕ) → file s p ≡ after (fileTurn 0 s p) (λ a q. file s q)
-file-turn s p = sym (file-any 0 s p) ∙ many-turn file-turn-good 0 s p ∙ by (fileTurn 0 s p)
+file-turn s p = sym (file-any 0 s p) ∙ many-turn (λ a. file-turn-good a .kept) 0 s p ∙ by (fileTurn 0 s p)
   where
     by : (o : Out) → after o (λ a q. many fileTurn a s q) ≡ after o (λ a q. file s q)
     by (ok q rs) = refl
@@ -188,7 +188,7 @@ accepts s q rs =
     (file-accepts s q rs)
 
 -- a refusal that was made here
-made : (s : List ℕ) (g f : Fault) → bad g ≡ bad f → Refusal s g → Refusal s f
+made : (s : List ℕ) (g f : Fault) → _≡_ {A = Out} (bad g) (bad f) → Refusal s g → Refusal s f
 made s g f e r = let q : g ≡ f = cc in subst (Refusal s) q r
 
 refuses : (s : List ℕ) (f : Fault) → strict s ≡ bad f → Refusal s f

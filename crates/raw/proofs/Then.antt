@@ -13,14 +13,14 @@ use lib.Dec.{eqb}
 use Rattle.row.specs.declared.form.Kind.{Kind}
 use Rattle.row.specs.Row.{Row, row, rowUp, kindOf, moved}
 use Rattle.row.proofs.Rows.{moved-append}
-use Rattle.raw.specs.Reader.{Out, ok, again, bad, Reader, more, andThen, under, _then_, over, overFrom, turn}
+use Rattle.raw.specs.Reader.{OutOf, ok, again, bad, ReaderOf, Out, Reader, more, andThen, under, _then_, over, overFrom, turn}
 use Rattle.raw.specs.Strict.{Same, shifted}
 use Rattle.raw.proofs.Good.{Stops, Sound, Shifts, Kept, Good, turn-good}
 use Rattle.raw.proofs.Trace.{chain-traced, lay-traced}
 
 -- ---- rows in front
 
-pub more-none : (o : Out) → more [] o ≡ o
+pub more-none : {P : Type 0} (o : OutOf P) → more [] o ≡ o
 more-none (ok q ss) = refl
 more-none (again q ss a) = refl
 more-none (bad f) = refl
@@ -30,12 +30,12 @@ more-up d rs (ok q ss) = rw moved-append
 more-up d rs (again q ss a) = rw moved-append
 more-up d rs (bad f) = refl
 
-pub more-stops : (rs : List Row) (o : Out) (q : ℕ) → Stops (more rs o) q → Stops o q
+pub more-stops : {P : Type 0} (rs : List P) (o : OutOf P) (q : ℕ) → Stops (more rs o) q → Stops o q
 more-stops rs (ok q′ ss) q h = h
 more-stops rs (again q′ ss a) q h = h
 more-stops rs (bad f) q h = h
 
-pub more-sound : (v w p n : ℕ) (rs : List Row) (o : Out) → Sound v w p n o → Sound v w p n (more rs o)
+pub more-sound : {P : Type 0} (v w p n : ℕ) (rs : List P) (o : OutOf P) → Sound v w p n o → Sound v w p n (more rs o)
 more-sound v w p n rs (ok q ss) x = x
 more-sound v w p n rs (again q ss a) x = x
 more-sound v w p n rs (bad f) x = tt
@@ -43,26 +43,26 @@ more-sound v w p n rs (bad f) x = tt
 -- ---- from a place further on
 
 -- a sound answer from q on is one from p on
-pub sound-from : (v w v′ w′ w₁ p q n : ℕ) (o : Out) → p + w₁ ≤ q → q ≤ max p n → v′ ≤ w₁ + v → w′ ≤ w₁ + w → Sound v w q n o → Sound v′ w′ p n o
+pub sound-from : {P : Type 0} (v w v′ w′ w₁ p q n : ℕ) (o : OutOf P) → p + w₁ ≤ q → q ≤ max p n → v′ ≤ w₁ + v → w′ ≤ w₁ + w → Sound v w q n o → Sound v′ w′ p n o
 sound-from v w v′ w′ w₁ p q n (ok q′ ss) a b c d x = omega arith
 sound-from v w v′ w′ w₁ p q n (again q′ ss z) a b c d x = omega arith
 sound-from v w v′ w′ w₁ p q n (bad f) a b c d x = tt
 
 -- how far a sound answer stands at least
-pub least-from : (v w p n q : ℕ) (o : Out) → Sound v w p n o → Stops o q → (l m : ℕ) → m ≤ v + l → m ≤ w + l → p + m ≤ q + l
+pub least-from : {P : Type 0} (v w p n q : ℕ) (o : OutOf P) → Sound v w p n o → Stops o q → (l m : ℕ) → m ≤ v + l → m ≤ w + l → p + m ≤ q + l
 least-from v w p n q (ok q′ rs) x e l m a b = omega arith
 least-from v w p n q (again q′ rs a) x e l m b c = omega arith
 least-from v w p n q (bad f) x e l m a b = absurd e
 
 -- ---- f, and from its place r on what g answers
 
-module _ {w₁ m : ℕ} {f : Reader} (F : Kept w₁ w₁ m f) (s : List ℕ) (p : ℕ) (g : ℕ → Out) where
+module _ {P : Type 0} {w₁ m : ℕ} {f : ReaderOf P} (F : Kept w₁ w₁ m f) (s : List ℕ) (p : ℕ) (g : ℕ → OutOf P) where
   module _ (v w v′ w′ : ℕ) (G : (r : ℕ) → Sound v w r (length s) (g r)) (k : (v′ ≤ w₁ + v) × (w′ ≤ w₁ + w)) where
-    from-sound : (rs : List Row) (q : ℕ) → (p + w₁ ≤ q) × (q ≤ max p (length s)) → Sound v′ w′ p (length s) (more rs (g q))
+    from-sound : (rs : List P) (q : ℕ) → (p + w₁ ≤ q) × (q ≤ max p (length s)) → Sound v′ w′ p (length s) (more rs (g q))
     from-sound rs q x =
         more-sound v′ w′ p (length s) rs (g q) (sound-from v w v′ w′ w₁ p q (length s) (g q) (x .0) (x .1) (k .0) (k .1) (G q))
 
-    out-sound : (o : Out) → Sound w₁ w₁ p (length s) o → Sound v′ w′ p (length s) (andThen o g)
+    out-sound : (o : OutOf P) → Sound w₁ w₁ p (length s) o → Sound v′ w′ p (length s) (andThen o g)
     out-sound (ok q rs) x = from-sound rs q x
     out-sound (again q rs a) x = from-sound rs q x
     out-sound (bad j) x = tt
@@ -71,18 +71,18 @@ module _ {w₁ m : ℕ} {f : Reader} (F : Kept w₁ w₁ m f) (s : List ℕ) (p 
     chain-sound = out-sound (f s p) (F .sound s p)
 
   -- where what follows answers the same on t, all does
-  module _ (v w l : ℕ) (t : List ℕ) (q : ℕ) (h : ℕ → Out)
+  module _ (v w l : ℕ) (t : List ℕ) (q : ℕ) (h : ℕ → OutOf P)
       (G : (r : ℕ) → Sound v w r (length s) (g r))
       (H : (r : ℕ) → p ≤ r → r ≤ q → Stops (g r) q → h r ≡ g r)
       (i : q ≤ length t) (e : Same s t p (q + l)) (k : (m ≤ v + l) × (m ≤ w + l)) where
-    out-local : (o : Out) (rs : List Row) (r : ℕ) → f s p ≡ o → Stops o r → p ≤ r → Stops (more rs (g r)) q → (f t p ≡ o) × (more rs (h r) ≡ more rs (g r))
+    out-local : (o : OutOf P) (rs : List P) (r : ℕ) → f s p ≡ o → Stops o r → p ≤ r → Stops (more rs (g r)) q → (f t p ≡ o) × (more rs (h r) ≡ more rs (g r))
     out-local o rs r d a b c =
         let u : Stops (g r) q = more-stops rs (g r) q c in
         let y : r + m ≤ q + l = least-from v w r (length s) q (g r) (G r) u l m (k .0) (k .1) in
         let z : r + 0 ≤ q + 0 = least-from v w r (length s) q (g r) (G r) u 0 0 (omega arith) (omega arith) in
-        (F .local s t p r (subst (λ (o : Out). Stops o r) (sym d) a) (omega arith) (λ j n o. e j n (omega arith)) ∙ d, ap (more rs) (H r b (omega arith) u))
+        (F .local s t p r (subst (λ (o : OutOf P). Stops o r) (sym d) a) (omega arith) (λ j n o. e j n (omega arith)) ∙ d, ap (more rs) (H r b (omega arith) u))
 
-    by-out : (o : Out) → f s p ≡ o → Sound w₁ w₁ p (length s) o → Stops (andThen o g) q → andThen (f t p) h ≡ andThen o g
+    by-out : (o : OutOf P) → f s p ≡ o → Sound w₁ w₁ p (length s) o → Stops (andThen o g) q → andThen (f t p) h ≡ andThen o g
     by-out (ok r rs) d x c = let y = out-local (ok r rs) rs r d refl (omega arith) c in rw (y .0) (y .1)
     by-out (again r rs a) d x c = let y = out-local (again r rs a) rs r d refl (omega arith) c in rw (y .0) (y .1)
     by-out (bad j) d x c = absurd c
@@ -97,7 +97,7 @@ chain-up d g h (bad j) G = refl
 
 -- ---- one after the other
 
-pub then-kept : {w₁ m v w l v′ w′ : ℕ} {f g : Reader} → Kept w₁ w₁ m f → Kept v w l g → (m ≤ v + l) × (m ≤ w + l) × (v′ ≤ w₁ + v) × (w′ ≤ w₁ + w) → Kept v′ w′ l (f then g)
+pub then-kept : {P : Type 0} {w₁ m v w l v′ w′ : ℕ} {f g : ReaderOf P} → Kept w₁ w₁ m f → Kept v w l g → (m ≤ v + l) × (m ≤ w + l) × (v′ ≤ w₁ + v) × (w′ ≤ w₁ + w) → Kept v′ w′ l (f then g)
 then-kept {v = v} {w = w} {l = l} {v′ = v′} {w′ = w′} {g = g} F G k =
     record {
       sound = λ s p. chain-sound F s p (g s) v w v′ w′ (G .sound s) (k .2, k .3);

@@ -32,7 +32,7 @@ Clear s j = (i c n : ℕ) → see s i ≡ Char c n → i < j → n ≤ j
 
 -- a scan ends at a place where it must, and at no later one than any such that no character goes over
 pub record Scanned (t : ℕ → Bool) (s : List ℕ) (p q : ℕ) : Type 0 where
-  pub found : scan t s p ≡ ok q []
+  pub found : scan {P = Row} t s p ≡ ok q []
   pub from : p ≤ q
   pub halts : Halts t (see s q)
   pub least : (j : ℕ) → p ≤ j → Clear s j → Halts t (see s j) → q ≤ j
@@ -44,14 +44,14 @@ pub ok-place : {q r : ℕ} {rs ss : List Row} → ok q rs ≡ ok r ss → q ≡ 
 ok-place e = cc
 
 module _ (t : ℕ → Bool) (s : List ℕ) where
-  scan-turned : (p : ℕ) → scan t s p ≡ after (eaten t (see s p) (turn 0 s) (stop s p)) (λ b q. many (scanTurn t) b s q)
-  scan-turned p = many-turn (scan-turn-good t) 0 s p
+  scan-turned : (p : ℕ) → scan {P = Row} t s p ≡ after (eaten t (see s p) (turn 0 s) (stop s p)) (λ b q. many (scanTurn t) b s q)
+  scan-turned p = many-turn (λ a. scan-turn-good t a .kept) 0 s p
 
   -- where it must stop it eats nothing
-  pub scan-stays : (p : ℕ) → Halts t (see s p) → scan t s p ≡ ok p []
+  pub scan-stays : (p : ℕ) → Halts t (see s p) → scan {P = Row} t s p ≡ ok p []
   scan-stays p h = scan-turned p ∙ go (see s p) h
     where
-      go : (x : Seen) → Halts t x → after (eaten t x (turn 0 s) (stop s p)) (λ b q. many (scanTurn t) b s q) ≡ ok p []
+      go : (x : Seen) → Halts t x → after {P = Row} (eaten t x (turn 0 s) (stop s p)) (λ b q. many (scanTurn t) b s q) ≡ ok p []
       go End h = refl
       go (Char c m) h = rw h refl
 
@@ -70,7 +70,7 @@ module _ (t : ℕ → Bool) (s : List ℕ) where
         let i = see-ahead s p c m d in
         let y : Scanned t s m (z .0) = z .1 in
         let e₁ = scan-turned p in
-        let e₂ : scan t s p ≡ more [] (scan t s m) = rw (d, k) at e₁ in (
+        let e₂ : scan {P = Row} t s p ≡ more [] (scan t s m) = rw (d, k) at e₁ in (
           z .0,
           record {
             found = e₂ ∙ ap (more []) (y .found);
