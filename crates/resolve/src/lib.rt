@@ -1,0 +1,1 @@
+// Content resolved into chunks, after `ContentParser` of resolve.rs.
