@@ -1,7 +1,7 @@
 -- Loops: enough fuel is as good as more, and a loop of good turns is a good reader.
 --     loop-fuel     any two fuels that last to the end of the text answer the same, refusals too
 --     loop-more     any fuel that lasts to the answer's place answers the same
---     many-turn     a loop is its first turn and then the loop: after this no fuel is seen
+--     many-turn     a loop is its first turn and then the loop: after this no fuel is seen; `sound-turn` asks less
 --     many-good
 -- Assumes nothing.
 use Prim.Native.Nat.{ℕ, zero, suc, _+_, _≤_, _<_}
@@ -15,36 +15,45 @@ use Rattle.raw.specs.Strict.{Same, shifted}
 use Rattle.raw.proofs.Good.{Stops, Sound, Kept, Good}
 use Rattle.raw.proofs.Then.{more-stops, more-up, more-sound, sound-from, least-from}
 
--- every `again` of a turn goes on, and not past the end
-module _ {P : Type 0} {w l : ℕ} {f : ℕ → ReaderOf P} (F : (a : ℕ) → Kept 1 w l (f a)) where
-  -- the rest of a loop with the fuel n
-  abbrev on : ℕ → List ℕ → ℕ → ℕ → OutOf P
-  on n s = λ b q. loop f n b s q
+-- the rest of a loop with the fuel n
+abbrev on : {P : Type 0} → (ℕ → ReaderOf P) → ℕ → List ℕ → ℕ → ℕ → OutOf P
+on f n s = λ b q. loop f n b s q
 
-  fuel-after : (s : List ℕ) (p n m : ℕ) (o : OutOf P) → Sound 1 w p (length s) o → length s ≤ p + n → length s ≤ p + m → ((b q : ℕ) → p < q → q ≤ length s → loop f n b s q ≡ loop f m b s q) → after o (on n s) ≡ after o (on m s)
+-- every `again` of a turn goes on, and not past the end
+module _ {P : Type 0} (w : ℕ) (f : ℕ → ReaderOf P) (F : (a : ℕ) (s : List ℕ) (p : ℕ) → Sound 1 w p (length s) (f a s p)) where
+  fuel-after : (s : List ℕ) (p n m : ℕ) (o : OutOf P) → Sound 1 w p (length s) o → length s ≤ p + n → length s ≤ p + m
+      → ((b q : ℕ) → p < q → q ≤ length s → loop f n b s q ≡ loop f m b s q) → after o (on f n s) ≡ after o (on f m s)
   fuel-after s p n m (ok q rs) x h k ih = refl
   fuel-after s p n m (again q rs a) x h k ih = ap (more rs) (ih a q (omega arith) (omega arith))
   fuel-after s p n m (bad j) x h k ih = refl
 
-  pub loop-fuel : (n m a : ℕ) (s : List ℕ) (p : ℕ) → length s ≤ p + n → length s ≤ p + m → loop f (suc n) a s p ≡ loop f (suc m) a s p
+  sound-fuel : (n m a : ℕ) (s : List ℕ) (p : ℕ) → length s ≤ p + n → length s ≤ p + m → loop f (suc n) a s p ≡ loop f (suc m) a s p
   unfolding loop
-  loop-fuel zero zero a s p h k = refl
-  loop-fuel zero (suc m) a s p h k = fuel-after s p zero (suc m) (f a s p) (F a .sound s p) h k (λ b q x y. absurd (omega arith))
-  loop-fuel (suc n) zero a s p h k = fuel-after s p (suc n) zero (f a s p) (F a .sound s p) h k (λ b q x y. absurd (omega arith))
-  loop-fuel (suc n) (suc m) a s p h k =
-      fuel-after s p (suc n) (suc m) (f a s p) (F a .sound s p) h k (λ b q x y. loop-fuel n m b s q (omega arith) (omega arith))
+  sound-fuel zero zero a s p h k = refl
+  sound-fuel zero (suc m) a s p h k = fuel-after s p zero (suc m) (f a s p) (F a s p) h k (λ b q x y. absurd (omega arith))
+  sound-fuel (suc n) zero a s p h k = fuel-after s p (suc n) zero (f a s p) (F a s p) h k (λ b q x y. absurd (omega arith))
+  sound-fuel (suc n) (suc m) a s p h k =
+      fuel-after s p (suc n) (suc m) (f a s p) (F a s p) h k (λ b q x y. sound-fuel n m b s q (omega arith) (omega arith))
 
-  turn-after : (s : List ℕ) (p n : ℕ) (o : OutOf P) → length s ≡ n → Sound 1 w p (length s) o → after o (on n s) ≡ after o (on (suc n) s)
+  turn-after : (s : List ℕ) (p n : ℕ) (o : OutOf P) → length s ≡ n → Sound 1 w p (length s) o → after o (on f n s) ≡ after o (on f (suc n) s)
   turn-after s p n (ok q rs) e x = refl
   turn-after s p zero (again q rs a) e x = absurd (omega arith)
-  turn-after s p (suc n) (again q rs a) e x = ap (more rs) (loop-fuel n (suc n) a s q (omega arith) (omega arith))
+  turn-after s p (suc n) (again q rs a) e x = ap (more rs) (sound-fuel n (suc n) a s q (omega arith) (omega arith))
   turn-after s p n (bad j) e x = refl
 
-  pub many-turn : (a : ℕ) (s : List ℕ) (p : ℕ) → many f a s p ≡ after (f a s p) (λ b q. many f b s q)
+  pub sound-turn : (a : ℕ) (s : List ℕ) (p : ℕ) → many f a s p ≡ after (f a s p) (λ b q. many f b s q)
   unfolding many loop
-  many-turn a s p = turn-after s p (length s) (f a s p) refl (F a .sound s p)
+  sound-turn a s p = turn-after s p (length s) (f a s p) refl (F a s p)
 
-  sound-after : (v : ℕ) (s : List ℕ) (p n : ℕ) (o : OutOf P) → Sound 1 w p (length s) o → ((b q : ℕ) → Sound v w q (length s) (loop f n b s q)) → Sound v w p (length s) (after o (on n s))
+-- the same of turns that answer the same on a text that shows the same
+module _ {P : Type 0} {w l : ℕ} {f : ℕ → ReaderOf P} (F : (a : ℕ) → Kept 1 w l (f a)) where
+  pub loop-fuel : (n m a : ℕ) (s : List ℕ) (p : ℕ) → length s ≤ p + n → length s ≤ p + m → loop f (suc n) a s p ≡ loop f (suc m) a s p
+  loop-fuel = sound-fuel w f (λ a. F a .sound)
+
+  pub many-turn : (a : ℕ) (s : List ℕ) (p : ℕ) → many f a s p ≡ after (f a s p) (λ b q. many f b s q)
+  many-turn = sound-turn w f (λ a. F a .sound)
+
+  sound-after : (v : ℕ) (s : List ℕ) (p n : ℕ) (o : OutOf P) → Sound 1 w p (length s) o → ((b q : ℕ) → Sound v w q (length s) (loop f n b s q)) → Sound v w p (length s) (after o (on f n s))
   sound-after v s p n (ok q rs) x ih = x
   sound-after v s p n (again q rs a) x ih =
       more-sound v w p (length s) rs (loop f n a s q)
@@ -56,7 +65,7 @@ module _ {P : Type 0} {w l : ℕ} {f : ℕ → ReaderOf P} (F : (a : ℕ) → Ke
   loop-sound v zero a s p = tt
   loop-sound v (suc n) a s p = sound-after v s p n (f a s p) (F a .sound s p) (λ b q. loop-sound v n b s q)
 
-  more-after : (s : List ℕ) (p n m r : ℕ) (o : OutOf P) → Sound 1 w p (length s) o → Stops (after o (on n s)) r → r < p + suc m → ((b q : ℕ) → Stops (loop f n b s q) r → r < q + m → loop f m b s q ≡ loop f n b s q) → after o (on m s) ≡ after o (on n s)
+  more-after : (s : List ℕ) (p n m r : ℕ) (o : OutOf P) → Sound 1 w p (length s) o → Stops (after o (on f n s)) r → r < p + suc m → ((b q : ℕ) → Stops (loop f n b s q) r → r < q + m → loop f m b s q ≡ loop f n b s q) → after o (on f m s) ≡ after o (on f n s)
   more-after s p n m r (ok q rs) x h k ih = refl
   more-after s p n m r (again q rs a) x h k ih = ap (more rs) (ih a q (more-stops rs (loop f n a s q) r h) (omega arith))
   more-after s p n m r (bad j) x h k ih = refl
@@ -74,7 +83,7 @@ module _ {P : Type 0} {w l : ℕ} {f : ℕ → ReaderOf P} (F : (a : ℕ) → Ke
     turn-local : (p q a : ℕ) (o : OutOf P) → f a s p ≡ o → Stops o q → q ≤ r → Same s t p (r + l) → f a t p ≡ o
     turn-local p q a o d x y e = F a .local s t p q (subst (λ (o : OutOf P). Stops o q) (sym d) x) (omega arith) (λ j u z. e j u (omega arith)) ∙ d
 
-    local-after : (p n a : ℕ) (o : OutOf P) → f a s p ≡ o → Sound 1 w p (length s) o → Stops (after o (on n s)) r → Same s t p (r + l) → ((b q : ℕ) → Stops (loop f n b s q) r → Same s t q (r + l) → loop f n b t q ≡ loop f n b s q) → after (f a t p) (on n t) ≡ after o (on n s)
+    local-after : (p n a : ℕ) (o : OutOf P) → f a s p ≡ o → Sound 1 w p (length s) o → Stops (after o (on f n s)) r → Same s t p (r + l) → ((b q : ℕ) → Stops (loop f n b s q) r → Same s t q (r + l) → loop f n b t q ≡ loop f n b s q) → after (f a t p) (on f n t) ≡ after o (on f n s)
     local-after p n a (ok q rs) d x h e ih = rw (turn-local p q a (ok q rs) d refl (omega arith) e) refl
     local-after p n a (again q rs b) d x h e ih =
         let h′ = more-stops rs (loop f n b s q) r h in
