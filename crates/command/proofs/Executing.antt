@@ -46,13 +46,13 @@ module _ (name : List ℕ) (m : Meaning) (o : List ℕ) (at from to : ℕ) (af :
   pub runs-as : (k : Meaning) (w : List ℕ) (r : ℕ) (o′ : List ℕ) → m ≡ k → w ≡ executed name (given (part o from to)) k → Lays at w o r o′ → Runs r o′
   runs-as k w r o′ e h x = lays-as at w _ o r o′ (h ∙ sym (ap (executed name (given (part o from to))) e)) x
 
-  no-lead : leading name m ≡ [] → from ≡ at
-  no-lead e = omega (arith, af, length-part o at from af (omega (arith, ft, l)), ap length (q ∙ e))
+  pub no-lead : (k : Meaning) → m ≡ k → leading name k ≡ [] → from ≡ at
+  no-lead k e n = omega (arith, af, length-part o at from af (omega (arith, ft, l)), ap length (q ∙ ap (leading name) e ∙ n))
 
   -- a command that writes nothing before its argument may write over it
   pub as-from : (k : Meaning) (w : List ℕ) (r : ℕ) (o′ : List ℕ) → m ≡ k → leading name k ≡ [] → w ≡ executed name (given (part o from to)) k
       → Lays from w o r o′ → Runs r o′
-  as-from k w r o′ e n h x = runs-as k w r o′ e h (subst (λ (i : ℕ). Lays i w o r o′) (no-lead (ap (leading name) e ∙ n)) x)
+  as-from k w r o′ e n h x = runs-as k w r o′ e h (subst (λ (i : ℕ). Lays i w o r o′) (no-lead k e n) x)
 
   joined : Lays at (leading name m ++ part o from to) o to o
   joined =

@@ -7,7 +7,7 @@ use text::scanner;
 use text::scanner::Seen;
 ghost use mathlib.Core.Path.{_≡_};
 ghost use mathlib.Core.Bool.{true};
-ghost use Prim.Native.Nat.{_+_, _*_, _≤_, _<_, max};
+ghost use Prim.Native.Nat.{_+_, _≤_, _<_, max};
 ghost use lib.ListN.{length};
 ghost use Rattle.text.specs.Scan.{part, code as codeOf};
 ghost use Rattle.text.specs.Utf8.{isScalar};
@@ -103,7 +103,7 @@ pub fn last_char_combine(marks: &[u32], out: &mut [u8], from: usize, to: usize, 
 pub fn execute_before(m: Meaning, s: &[u8], a: usize, e: usize, out: &mut [u8], at: usize) -> usize
     requires { ⌜ (a < e) × (e ≤ length (now s)) × (at + e + 2 ≤ length (now out) + a) ⌝ }
     ensures { λ r. ⌜ Lays at (leading (part (now (s .entry)) a e) m) (now (out .entry)) r (now (out .exit)) ⌝ }
-    ensures { λ r. ⌜ r + 2 * a ≤ at + 2 * e + 2 ⌝ }
+    ensures { λ r. ⌜ r + a ≤ at + e + 2 ⌝ }
 {
     match m {
         Meaning::Copyright => stack::put_code(out, at, 0xa9),
@@ -121,7 +121,7 @@ pub fn execute_before(m: Meaning, s: &[u8], a: usize, e: usize, out: &mut [u8], 
 }
 
 // A command with an argument. Its name stands in s from a to e, what it writes before the argument from `at` to `from`, and the argument's text
-// from there to `to`.
+// from there to `to`. It needs, and writes, one byte more than its argument, or two where it writes nothing before it.
 pub fn execute_command(
     marks: &[u32],
     m: Meaning,
@@ -134,11 +134,10 @@ pub fn execute_command(
     to: usize,
 ) -> usize
     requires { ⌜ (now marks ≡ numbers composites) × Sane m × (a ≤ e) × (e ≤ length (now s)) × (at + e ≤ length (now out) + a) ⌝ }
-    requires { ⌜ (at ≤ from) × (from ≤ to) × (to + 2 ≤ length (now out)) × (at + 3 ≤ length (now out)) ×
-        (part (now out) at from ≡ leading (part (now s) a e) m) ⌝ }
+    requires { ⌜ (at ≤ from) × (from ≤ to) × (to < length (now out)) × (at + to + 2 ≤ length (now out) + from) × (at + 3 ≤ length (now out)) × (part (now out) at from ≡ leading (part (now s) a e) m) ⌝ }
     ensures { λ r. ⌜ Lays at (executed (part (now (s .entry)) a e) (given (part (now (out .entry)) from to)) m) (now (out .entry)) r (now (out .exit))
         ⌝ }
-    ensures { λ r. ⌜ r + a ≤ max (to + 2 + a) (at + 3 + e) ⌝ }
+    ensures { λ r. ⌜ r + from + a ≤ max (max (to + 1 + from + a) (at + 3 + e + from)) (at + to + 2 + a) ⌝ }
 {
     match m {
         Meaning::Itself => stack::copy(s, a, e, out, at),

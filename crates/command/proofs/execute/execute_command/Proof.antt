@@ -36,7 +36,7 @@ put-code-requires c κs =
     let p = c .before .before .before .before .before .before .before .pre .0 in
     let q = c .before .before .before .before .before .before .before .pre .1 in
     let s = subst Sane (c .before .before .m .given .1) (p .1) in
-    (s .0, omega (arith, octets-three _ (s .1), q .3))
+    (s .0, omega (arith, octets-three _ (s .1), q .4))
 
 enum-known-m-2 : tie.Need-enum-known-m-2
 enum-known-m-2 c = search needs
@@ -47,7 +47,9 @@ last-char-combine-requires c κs =
     let p = c .before .before .before .before .before .before .before .pre .0 in
     let q = c .before .before .before .before .before .before .before .pre .1 in
     let s = subst Sane (c .before .before .m2 .given .1) (p .1) in
-    (p .0, q .1, q .2, s .0, s .1)
+    let n = laws.no-lead (part (a .s .now) (a .a) (a .e)) (a .m) (a .out .now) (a .at) (a .from) (a .to) (q .0) (q .1) (omega (arith, q .2)) (q .5) _
+        (c .before .before .m2 .given .1) refl in
+    (p .0, q .1, omega (arith, n, q .3), s .0, s .1)
 
 enum-told-2 : tie.Need-enum-told-2
 enum-told-2 c = search needs
@@ -58,7 +60,9 @@ last-char-combine-requires-2 c κs =
     let a = c .before .before .before .before .before .before .args in
     let p = c .before .before .before .before .before .before .pre .0 in
     let q = c .before .before .before .before .before .before .pre .1 in
-    (p .0, q .1, q .2, refl, omega arith)
+    let n = laws.no-lead (part (a .s .now) (a .a) (a .e)) (a .m) (a .out .now) (a .at) (a .from) (a .to) (q .0) (q .1) (omega (arith, q .2)) (q .5)
+        Slash (c .before .enum-told2 .given .1) refl in
+    (p .0, q .1, omega (arith, n, q .3), refl, omega arith)
 
 enum-told-3 : tie.Need-enum-told-3
 enum-told-3 c = search needs
@@ -81,7 +85,7 @@ returns c =
     let p = c .before .before .before .before .before .before .before .before .before .pre .0 in
     let q = c .before .before .before .before .before .before .before .before .before .pre .1 in
     let y = c .before .before .copy in (
-      laws.runs-as (part (a .s .now) (a .a) (a .e)) (a .m) (a .out .now) (a .at) (a .from) (a .to) (q .0) (q .1) (omega (arith, q .2)) (q .4) Itself _
+      laws.runs-as (part (a .s .now) (a .a) (a .e)) (a .m) (a .out .now) (a .at) (a .from) (a .to) (q .0) (q .1) (omega (arith, q .2)) (q .5) Itself _
           (y .result) _ (c .before .before .before .before .enum-told .given .1) refl (y .ensures .0),
       omega (arith, y .ensures .1),
     )
@@ -96,7 +100,7 @@ returns-2 c =
     let q = c .before .before .before .before .before .before .before .before .before .before .pre .1 in
     let y = c .before .before .put-code in
     let s = subst Sane (c .before .before .before .before .before .m .given .1) (p .1) in (
-      laws.runs-as (part (a .s .now) (a .a) (a .e)) (a .m) (a .out .now) (a .at) (a .from) (a .to) (q .0) (q .1) (omega (arith, q .2)) (q .4) _ _
+      laws.runs-as (part (a .s .now) (a .a) (a .e)) (a .m) (a .out .now) (a .at) (a .from) (a .to) (q .0) (q .1) (omega (arith, q .2)) (q .5) _ _
           (y .result) _ (c .before .before .before .before .before .m .given .1) refl (y .ensures),
       omega
           (arith, y .ensures .end, octets-three _ (s .1), p .2),
@@ -110,10 +114,12 @@ returns-3 c =
     let a = c .before .before .before .before .before .before .before .before .before .before .args in
     let p = c .before .before .before .before .before .before .before .before .before .before .pre .0 in
     let q = c .before .before .before .before .before .before .before .before .before .before .pre .1 in
+    let n = laws.no-lead (part (a .s .now) (a .a) (a .e)) (a .m) (a .out .now) (a .at) (a .from) (a .to) (q .0) (q .1) (omega (arith, q .2)) (q .5) _
+        (c .before .before .before .before .before .m2 .given .1) refl in
     let y = c .before .before .last-char-combine in (
-      laws.as-from (part (a .s .now) (a .a) (a .e)) (a .m) (a .out .now) (a .at) (a .from) (a .to) (q .0) (q .1) (omega (arith, q .2)) (q .4) _ _
+      laws.as-from (part (a .s .now) (a .a) (a .e)) (a .m) (a .out .now) (a .at) (a .from) (a .to) (q .0) (q .1) (omega (arith, q .2)) (q .5) _ _
           (y .result) _ (c .before .before .before .before .before .m2 .given .1) refl refl (y .ensures .0),
-      omega (arith, y .ensures .1),
+      omega (arith, y .ensures .1, n),
     )
 
 same-length-4 : tie.Need-same-length-4
@@ -124,10 +130,12 @@ returns-4 c =
     let a = c .before .before .before .before .before .before .before .before .before .args in
     let p = c .before .before .before .before .before .before .before .before .before .pre .0 in
     let q = c .before .before .before .before .before .before .before .before .before .pre .1 in
+    let n = laws.no-lead (part (a .s .now) (a .a) (a .e)) (a .m) (a .out .now) (a .at) (a .from) (a .to) (q .0) (q .1) (omega (arith, q .2)) (q .5)
+        Slash (c .before .before .before .before .enum-told2 .given .1) refl in
     let y = c .before .before .last-char-combine2 in (
-      laws.as-from (part (a .s .now) (a .a) (a .e)) (a .m) (a .out .now) (a .at) (a .from) (a .to) (q .0) (q .1) (omega (arith, q .2)) (q .4) Slash _
+      laws.as-from (part (a .s .now) (a .a) (a .e)) (a .m) (a .out .now) (a .at) (a .from) (a .to) (q .0) (q .1) (omega (arith, q .2)) (q .5) Slash _
           (y .result) _ (c .before .before .before .before .enum-told2 .given .1) refl refl (y .ensures .0),
-      omega (arith, y .ensures .1),
+      omega (arith, y .ensures .1, n),
     )
 
 returns-5 : tie.Need-returns-5
@@ -135,7 +143,7 @@ returns-5 c =
     let a = c .before .before .before .before .before .args in
     let p = c .before .before .before .before .before .pre .0 in
     let q = c .before .before .before .before .before .pre .1 in (
-      laws.copyright (part (a .s .now) (a .a) (a .e)) (a .m) (a .out .now) (a .at) (a .from) (a .to) (q .0) (q .1) (omega (arith, q .2)) (q .4)
+      laws.copyright (part (a .s .now) (a .a) (a .e)) (a .m) (a .out .now) (a .at) (a .from) (a .to) (q .0) (q .1) (omega (arith, q .2)) (q .5)
           (c .enum-told3 .given .1),
       omega arith,
     )
@@ -145,7 +153,7 @@ returns-6 c =
     let a = c .before .before .before .before .before .args in
     let p = c .before .before .before .before .before .pre .0 in
     let q = c .before .before .before .before .before .pre .1 in (
-      laws.runs-as (part (a .s .now) (a .a) (a .e)) (a .m) (a .out .now) (a .at) (a .from) (a .to) (q .0) (q .1) (omega (arith, q .2)) (q .4)
+      laws.runs-as (part (a .s .now) (a .a) (a .e)) (a .m) (a .out .now) (a .at) (a .from) (a .to) (q .0) (q .1) (omega (arith, q .2)) (q .5)
           Hyphenation [] (a .at) _ (c .enum-told4 .given .1) refl (lays-none (a .at) (a .out .now)),
       omega (arith, p .2),
     )
@@ -159,7 +167,7 @@ returns-7 c =
     let p = c .before .before .before .before .before .before .before .before .before .pre .0 in
     let q = c .before .before .before .before .before .before .before .before .before .pre .1 in
     let y = c .before .before .push in (
-      laws.unknown (part (a .s .now) (a .a) (a .e)) (a .m) (a .out .now) (a .at) (a .from) (a .to) (q .0) (q .1) (omega (arith, q .2)) (q .4)
+      laws.unknown (part (a .s .now) (a .a) (a .e)) (a .m) (a .out .now) (a .at) (a .from) (a .to) (q .0) (q .1) (omega (arith, q .2)) (q .5)
           (y .result) _ (c .before .before .before .before .enum-told5 .given .1) (y .ensures .0),
       omega (arith, y .ensures .1),
     )
