@@ -98,18 +98,18 @@ past t s p = ok (skip t s p) []
 
 -- ---- [resolve.rs:command]
 
--- "A command's argument ends at its counted brace with no regard for backslashes" [01:Resolving and writing]: braces inside are counted
+-- "A command's argument ends at its counted brace with no regard for backslashes" [01:Resolving and writing]: with d braces open inside it
 unfoldable pub endTurn : ℕ → Reader
 endTurn zero =
+    past (fails test.Brace) then
     sees (is 0x7D) stop
     (when (is 0x7B) (turn 1)
-    (when any (turn 0)
-    (refuse UnexpectedEof)))
+    (refuse UnexpectedEof))
 endTurn (suc d) =
+    past (fails test.Brace) then
     when (is 0x7D) (turn d)
     (when (is 0x7B) (turn (suc (suc d)))
-    (when any (turn (suc d))
-    (refuse UnexpectedEof)))
+    (refuse UnexpectedEof))
 
 unfoldable pub argumentEnd : Reader
 argumentEnd = many endTurn 0
@@ -120,10 +120,16 @@ ran p name (ok q xs) g = g (executeCommand name (given (formatVerbatim (chunksOf
 ran p name (again q xs a) g = g (executeCommand name (given (formatVerbatim (chunksOf p q xs))))
 ran p name (bad f) g = bad f
 
+-- by where an argument ends
+abbrev pub endsAt : OutOf Part → (ℕ → OutOf Part) → OutOf Part
+endsAt (ok e xs) g = g e
+endsAt (again e xs a) g = g e
+endsAt (bad f) g = bad f
+
 -- a command with an argument, which begins at b behind its brace. "That end is sought before the inside is read" [01:Resolving and writing]
 unfoldable pub braced : Reader → List ℕ → Reader
 braced argument name s b =
-    andThen (argumentEnd s b) (λ e.
+    endsAt (argumentEnd s b) (λ e.
     ran b name (argument (take e s) b) (λ w. ok (e + 1) (put w ∷ [])))
 
 abbrev pub opensAt : Seen → Bool

@@ -1,3 +1,4 @@
 pub mod Content
 pub mod Literal
+pub mod Inner
 pub mod Worked
