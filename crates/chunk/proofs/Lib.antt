@@ -1,3 +1,13 @@
 pub mod Rows
 pub mod Joins
 pub mod Worked
+pub mod Parts
+pub mod Puts
+pub mod Ends
+pub mod Lines
+pub mod Escapes
+pub mod Copies
+pub mod Checks
+pub mod Passes
+pub mod Answers
+pub mod Turns

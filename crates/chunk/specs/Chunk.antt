@@ -6,10 +6,11 @@
 --     chunkRows, chunkOf, chunksOf         the rows of lent numbers, and their chunks over a text
 --     isChunk, areChunks                   the check of lent rows
 -- Assumes nothing.
-use Prim.Native.Nat.{ℕ, zero, suc, _%_}
+use Prim.Native.Nat.{ℕ, zero, suc, _+_, _%_, _≤_}
+use mathlib.Core.Path.{_≡_}
 use mathlib.Core.Bool.{Bool, true, _&&_}
 use mathlib.Core.List.{List, [], _∷_, map}
-use lib.ListN.{length}
+use lib.ListN.{length, getD}
 use lib.Dec.{eqb, leb}
 use Rattle.text.specs.Utf8.{isBoundary}
 use Rattle.text.specs.Scan.{part}
@@ -72,6 +73,13 @@ chunkRows (a ∷ b ∷ []) = []
 chunkRows (a ∷ b ∷ c ∷ []) = []
 chunkRows (a ∷ b ∷ c ∷ d ∷ []) = []
 chunkRows (a ∷ b ∷ c ∷ d ∷ e ∷ l) = chunkRow a b c d e ∷ chunkRows l
+
+-- from number i on stands a row of the kind k, with the text from f to t; a number has 32 bits
+pub record Stores (l : List ℕ) (i k f t : ℕ) : Type 0 where
+  pub kind : k ≡ getD l i 0
+  pub from : f ≡ getD l (i + 1) 0
+  pub to : t ≡ getD l (i + 2) 0
+  pub small : t ≤ 4294967295
 
 -- the chunk of a row over the text t
 abbrev pub chunkOf : List ℕ → ChunkRow → Chunk

@@ -1,6 +1,8 @@
 // The chunk row: kind, text start and end, span start and end, five numbers to a row in lent numbers [01:Resolving and writing].
 ghost use mathlib.Core.Path.{_≡_};
-ghost use Rattle.chunk.specs.Chunk.{kindOf, kindFrom, chunkRow, putChunk};
+ghost use Prim.Native.Nat.{_+_, _≤_};
+ghost use lib.ListN.{length};
+ghost use Rattle.chunk.specs.Chunk.{kindOf, kindFrom, chunkRow, putChunk, Stores};
 
 // What a chunk is. Document 01 gives the numbers.
 pub enum Kind {
@@ -42,5 +44,24 @@ pub fn write_chunk(rows: &mut [u32], n: usize, kind: Kind, from: u32, to: u32, s
         rows[i + 2] = to;
         rows[i + 3] = start;
         rows[i + 4] = end;
+    }
+}
+
+// What a writer looks at in a row: its kind's number, and its text.
+pub struct Stored {
+    pub kind: u32,
+    pub from: usize,
+    pub to: usize,
+}
+
+// The one place that reads a chunk row: the row from number i on.
+pub fn row_at(rows: &[u32], i: usize) -> Stored
+    requires { ⌜ i + 5 ≤ length (now rows) ⌝ }
+    ensures { λ r. ⌜ Stores (now (rows .entry)) i (r .kind) (r .from) (r .to) ⌝ }
+{
+    Stored {
+        kind: rows[i],
+        from: rows[i + 1] as usize,
+        to: rows[i + 2] as usize,
     }
 }

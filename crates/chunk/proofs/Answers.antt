@@ -1,0 +1,75 @@
+-- What the check and the writers answer.
+--     ill-formed, bad-rows, sound      the check
+--     refused, no-room, wrote          a writer, by what the check says and its first pass counts
+-- Assumes nothing.
+use Prim.Native.Nat.{ℕ}
+use native.Mathlib.Omega.{arith}
+use mathlib.Core.Path.{_≡_, refl, sym, ap, subst, _∙_}
+use mathlib.Core.Bool.{Bool, true, false, cond}
+use mathlib.Core.List.{List}
+use lib.ListN.{length}
+use lib.Dec.{leb}
+use borrow.Author.Tests.{leb-true}
+use Rattle.text.specs.Utf8.{validityOf}
+use Rattle.text.specs.declared.utf8.Validity.{Validity}
+use Rattle.text.specs.declared.utf8.Validity.the-variants as validity
+use Rattle.row.specs.declared.fault.Reason.the-variants.{NotUtf8, NoRoom, BadRows}
+use Rattle.row.specs.declared.fault.Fault.{Fault}
+use Rattle.row.specs.Fault.{faultAt, nowhere}
+use Rattle.chunk.specs.declared.answer.Checked.{Checked}
+use Rattle.chunk.specs.declared.answer.Checked.the-variants as checked
+use Rattle.chunk.specs.declared.answer.Total.{Total}
+use Rattle.chunk.specs.declared.answer.Total.the-variants as total
+use Rattle.chunk.specs.declared.answer.Writing.the-variants as writing
+use Rattle.chunk.specs.Chunk.{areChunks}
+use Rattle.chunk.specs.Put.{totalOf, Fills}
+use Rattle.chunk.specs.Write.{rowsChecked, checkedOf, Write}
+use Rattle.chunk.proofs.Puts.{sets-fits}
+
+-- ---- the check
+
+pub ill-formed : (t l : List ℕ) (n : ℕ) → validityOf t ≡ validity.IllFormed n → checked.Refused (faultAt NotUtf8 n) ≡ checkedOf t l
+unfolding checkedOf
+ill-formed t l n e = sym (ap (rowsChecked t l) e)
+
+pub sound : (t l : List ℕ) → validityOf t ≡ validity.Valid → areChunks t l ≡ true → checked.Sound ≡ checkedOf t l
+unfolding checkedOf
+sound t l e h = sym (ap (rowsChecked t l) e ∙ rw h refl)
+
+pub bad-rows : (t l : List ℕ) → validityOf t ≡ validity.Valid → areChunks t l ≡ false → checked.Refused (nowhere BadRows) ≡ checkedOf t l
+unfolding checkedOf
+bad-rows t l e h = sym (ap (rowsChecked t l) e ∙ rw h refl)
+
+both-sound : (t l : List ℕ) (v : Validity) → checked.Sound ≡ rowsChecked t l v → areChunks t l ≡ true
+both-sound t l validity.Valid e = by (areChunks t l) e
+  where
+    by : (x : Bool) → checked.Sound ≡ cond x checked.Sound (checked.Refused (nowhere BadRows)) → x ≡ true
+    by true e = refl
+    by false e = let z : _≡_ {A = ℕ} 0 1 = cc in absurd (omega arith)
+both-sound t l (validity.IllFormed n) e = let z : _≡_ {A = ℕ} 0 1 = cc in absurd (omega arith)
+
+pub are-chunks : (t l : List ℕ) → checkedOf t l ≡ checked.Sound → areChunks t l ≡ true
+unfolding checkedOf
+are-chunks t l e = both-sound t l (validityOf t) (sym e)
+
+-- ---- a writer
+
+pub refused : (c : Checked) (w b : List ℕ) (f : Fault) → c ≡ checked.Refused f → Write c w b (writing.Refused f) b
+refused c w b f e = subst (λ (x : Checked). Write x w b (writing.Refused f) b) (sym e) (record { answer = refl; bytes = refl })
+
+pub no-room : (c : Checked) (w b : List ℕ) → c ≡ checked.Sound → totalOf w (length b) ≡ total.More → Write c w b (writing.Refused (nowhere NoRoom)) b
+no-room c w b e q = subst (λ (x : Checked). Write x w b (writing.Refused (nowhere NoRoom)) b) (sym e) (by (leb (length w) (length b)) refl q)
+  where
+    by : (x : Bool) → leb (length w) (length b) ≡ x → cond x (total.Bytes (length w)) total.More ≡ total.More → Write checked.Sound w b (writing.Refused (nowhere NoRoom)) b
+    by true p q = let z : _≡_ {A = ℕ} 0 1 = cc in absurd (omega arith)
+    by false p q = record { answer = rw p refl; bytes = rw p refl }
+
+pub wrote : (c : Checked) (w b : List ℕ) (n : ℕ) (r : Total) (b′ : List ℕ) → c ≡ checked.Sound → totalOf w (length b) ≡ total.Bytes n → Fills w (length b) b r b′ → Write c w b (writing.Written n) b′
+wrote c w b n r b′ e q f = subst (λ (x : Checked). Write x w b (writing.Written n) b′) (sym e) (by (leb (length w) (length b)) refl q)
+  where
+    by : (x : Bool) → leb (length w) (length b) ≡ x → cond x (total.Bytes (length w)) total.More ≡ total.Bytes n → Write checked.Sound w b (writing.Written n) b′
+    by true p q =
+        let m : length w ≡ n = cc in
+        let l = leb-true (length w) (length b) p in
+        record { answer = rw p (ap writing.Written (sym m)); bytes = f .bytes l ∙ sets-fits w b l ∙ rw p refl }
+    by false p q = let z : _≡_ {A = ℕ} 0 1 = cc in absurd (omega arith)

@@ -1,0 +1,66 @@
+-- The check of chunk rows.
+--     rows-open, rows-end          the row from a number on, and no row at the end
+--     told                         a row's numbers as the code reads them
+--     check-turn, check-stop       a row that is a chunk's, and one that is none
+--     check-count, check-done      numbers that are no whole count of rows; the check's end
+-- Assumes nothing.
+use Prim.Native.Nat.{ℕ, _+_, _-_, _%_, _≤_, _<_}
+use native.Mathlib.Omega.{arith}
+use mathlib.Core.Path.{_≡_, refl, sym, ap, ap₂, _∙_}
+use mathlib.Core.Bool.{Bool, true, false, _&&_}
+use mathlib.Core.List.{List, [], _∷_}
+use lib.ListN.{length, getD, drop, drop-of-length-le}
+use borrow.Author.Tests.{eq-eqb, ne-eqb}
+use Rattle.text.proofs.Places.{drop-next, drop-more}
+use Rattle.chunk.specs.Chunk.{ChunkRow, chunkRow, chunkRows, Stores, isChunk, everyChunk, areChunks}
+
+-- the row of the five numbers from i on
+abbrev pub rowAt : List ℕ → ℕ → ChunkRow
+rowAt l i = chunkRow (getD l i 0) (getD l (i + 1) 0) (getD l (i + 2) 0) (getD l (i + 3) 0) (getD l (i + 4) 0)
+
+pub rows-open : (l : List ℕ) (i : ℕ) → i + 5 ≤ length l → chunkRows (drop i l) ≡ rowAt l i ∷ chunkRows (drop (i + 5) l)
+unfolding chunkRows
+rows-open l i h =
+    rw (drop-next l i (omega arith), drop-more l i 1 2 (omega arith) refl, drop-more l i 2 3 (omega arith) refl, drop-more l i 3 4 (omega arith) refl, drop-more l i 4 5 (omega arith) refl)
+
+pub rows-end : (l : List ℕ) (i : ℕ) → length l ≤ i → chunkRows (drop i l) ≡ []
+unfolding chunkRows
+rows-end l i h = ap chunkRows (drop-of-length-le l h)
+
+-- a test of a row, of its numbers as the code reads them
+pub told : (t l : List ℕ) (i : ℕ) {k a e : ℕ} {x : Bool} → Stores l i k a e → isChunk t (chunkRow k a e 0 0) ≡ x → isChunk t (rowAt l i) ≡ x
+told t l i {k} {a} {e} r h =
+    sym (ap₂ (λ (x y : ℕ). isChunk t (chunkRow x y e 0 0)) (r .kind) (r .from) ∙ ap (λ (y : ℕ). isChunk t (chunkRow (getD l i 0) (getD l (i + 1) 0) y 0 0)) (r .to)) ∙ h
+
+-- ---- the loop, where the rows before number i are chunks'
+
+pub record Checking (t l : List ℕ) (i : ℕ) : Type 0 where
+  pub same : everyChunk t (chunkRows (drop i l)) ≡ areChunks t l
+  pub whole : (length l - i) % 5 ≡ 0
+  pub inside : i ≤ length l
+
+pub checking : (t l : List ℕ) → length l % 5 ≡ 0 → Checking t l 0
+unfolding areChunks
+checking t l h = record { same = rw (eq-eqb (length l % 5) 0 h) refl; whole = omega arith; inside = omega arith }
+
+pub five : (t l : List ℕ) (i : ℕ) → Checking t l i → i < length l → i + 5 ≤ length l
+five t l i g h = omega (arith, g .whole)
+
+module _ (t l : List ℕ) (i : ℕ) (g : Checking t l i) (h : i < length l) where
+  pub opened : isChunk t (rowAt l i) && everyChunk t (chunkRows (drop (i + 5) l)) ≡ areChunks t l
+  unfolding everyChunk
+  opened = sym (ap (everyChunk t) (rows-open l i (five t l i g h))) ∙ g .same
+
+  pub check-turn : isChunk t (rowAt l i) ≡ true → Checking t l (i + 5)
+  check-turn e = record { same = rw e at opened; whole = omega (arith, g .whole); inside = five t l i g h }
+
+  pub check-stop : isChunk t (rowAt l i) ≡ false → false ≡ areChunks t l
+  check-stop e = rw e at opened
+
+pub check-count : (t l : List ℕ) → (length l % 5 ≡ 0 → ⊥) → false ≡ areChunks t l
+unfolding areChunks
+check-count t l h = rw (ne-eqb (length l % 5) 0 h) refl
+
+pub check-done : (t l : List ℕ) (i : ℕ) → Checking t l i → length l ≤ i → true ≡ areChunks t l
+unfolding everyChunk
+check-done t l i g h = sym (ap (everyChunk t) (rows-end l i h)) ∙ g .same

@@ -1,0 +1,114 @@
+-- The last character of a text, sought from its end.
+--     last-pass, last-found, last-none      a tail is passed; anything else is the last character; nothing but tails
+--     last-less                             the last character of some text lies in it
+--     code-seen                             the code point at a place
+--     white-none, white-last                whether a text ends in white space
+-- Assumes nothing.
+use Prim.Native.Nat.{ℕ, suc, _+_, _-_, _≤_, _<_, min}
+use native.Mathlib.Omega.{arith}
+use mathlib.Core.Path.{_≡_, refl, sym, ap, _∙_}
+use mathlib.Core.Bool.{Bool, true, false, cond}
+use mathlib.Core.List.{List, [], _∷_, _++_}
+use lib.ListN.{length, getD, take, drop}
+use borrow.Author.Tests.{not-true, not-false}
+use Rattle.text.specs.Range.{within}
+use Rattle.text.specs.Utf8.{tail, isBoundary}
+use Rattle.text.specs.Class.{isWhitespace}
+use Rattle.text.specs.Scan.{part, code, seeFrom}
+use Rattle.text.specs.declared.scanner.Seen.{Seen}
+use Rattle.text.specs.declared.scanner.Seen.the-variants.{End, Char}
+use Rattle.text.proofs.Places.{boundary-in}
+use Rattle.chunk.specs.Format.{lastFrom, lastAt, lastCode, endsWhite}
+use Rattle.chunk.proofs.Parts.{part-none, part-more, length-part, drop-take, drop-part}
+
+-- ---- its place
+
+last-snoc : (t : List ℕ) (best i b : ℕ) → lastFrom best i (t ++ b ∷ []) ≡ cond (within tail b) (lastFrom best i t) (i + length t)
+unfolding lastFrom
+last-snoc [] best i b = ap (cond (within tail b) best) (zeroed i)
+  where
+    zeroed : (i : ℕ) → i ≡ i + 0
+    zeroed i = omega arith
+last-snoc (a ∷ t) best i b =
+    last-snoc t (cond (within tail a) best i) (suc i) b
+    ∙ ap (cond (within tail b) (lastFrom (cond (within tail a) best i) (suc i) t)) (moved i (length t))
+  where
+    moved : (i n : ℕ) → suc i + n ≡ i + suc n
+    moved i n = omega arith
+
+-- one step back, from i to j
+module _ (t : List ℕ) (a i j : ℕ) (h : a ≤ j) (e : i ≡ j + 1) (l : i ≤ length t) where
+  back : lastAt (part t a i) ≡ cond (within tail (getD t j 0)) (lastAt (part t a j)) (0 + length (part t a j))
+  back = ap lastAt (ap (part t a) e ∙ part-more t a j h (omega arith)) ∙ last-snoc (part t a j) 0 0 (getD t j 0)
+
+  pub last-pass : isBoundary t j ≡ false → lastAt (part t a i) ≡ lastAt (part t a j)
+  last-pass q = back ∙ rw (not-false (within tail (getD t j 0)) (boundary-in t j (omega arith) ∙ q)) refl
+
+  pub last-found : isBoundary t j ≡ true → j ≡ a + lastAt (part t a i)
+  last-found q = sum a j _ _ (length-part t a j h (omega arith)) h (back ∙ rw (not-true (within tail (getD t j 0)) (boundary-in t j (omega arith) ∙ q)) refl)
+    where
+      sum : (a j n k : ℕ) → n ≡ j - a → a ≤ j → k ≡ 0 + n → j ≡ a + k
+      sum a j n k p q r = omega arith
+
+pub last-none : (t : List ℕ) (a i n : ℕ) → i ≡ a → lastAt (part t a i) ≡ n → i ≡ a + n
+unfolding lastFrom
+last-none t a i n e h = sum a i n e (sym h ∙ ap lastAt (ap (part t a) e ∙ part-none t a))
+  where
+    sum : (a i n : ℕ) → i ≡ a → n ≡ 0 → i ≡ a + n
+    sum a i n p q = omega arith
+
+last-below : (t : List ℕ) (best i b : ℕ) → best ≤ b → i + length t ≤ b + 1 → lastFrom best i t ≤ b
+unfolding lastFrom
+last-below [] best i b h l = h
+last-below (x ∷ t) best i b h l = last-below t (cond (within tail x) best i) (suc i) b (by (within tail x)) (omega arith)
+  where
+    by : (w : Bool) → cond w best i ≤ b
+    by true = h
+    by false = omega arith
+
+pub last-less : (t : List ℕ) (a e at : ℕ) → a < e → e ≤ length t → at ≡ a + lastAt (part t a e) → at < e
+last-less t a e at h l q =
+    let n = length-part t a e (omega arith) l in
+    let k = last-below (part t a e) 0 0 (length (part t a e) - 1) (omega arith) (omega (arith, n)) in omega (arith, k, n)
+
+-- ---- its code point
+
+abbrev codeIn : Seen → ℕ
+codeIn End = 0
+codeIn (Char c n) = c
+
+seen : (t : List ℕ) (i : ℕ) → 0 < length t → codeIn (seeFrom t i) ≡ code t
+unfolding seeFrom
+seen [] i h = absurd (omega arith)
+seen (b ∷ t) i h = refl
+
+pub code-seen : (t v : List ℕ) (at to : ℕ) (r r₁ : Seen) → v ≡ take to t → at < to → to ≤ length t → r ≡ seeFrom (drop at v) at → r ≡ r₁ → codeIn r₁ ≡ code (part t at to)
+code-seen t v at to r r₁ e l n h q =
+    sym (ap codeIn q)
+    ∙ ap codeIn h
+    ∙ ap (λ (x : List ℕ). codeIn (seeFrom (drop at x) at)) e
+    ∙ ap (λ (x : List ℕ). codeIn (seeFrom x at)) same
+    ∙ seen (part t at to) at (omega (arith, length-part t at to (omega arith) n))
+  where
+    least : (to n : ℕ) → to ≤ n → to ≡ min to n
+    least to n h = omega arith
+
+    same : drop at (take to t) ≡ part t at to
+    same = drop-take at to t ∙ ap (λ (m : ℕ). take (m - at) (drop at t)) (least to (length t) n)
+
+-- ---- white space
+
+pub white-none : (t : List ℕ) (a e : ℕ) → e ≤ a → a ≤ e → false ≡ endsWhite (part t a e)
+white-none t a e h l = sym (ap endsWhite (ap (λ (n : ℕ). part t n e) same ∙ part-none t e))
+  where
+    same : a ≡ e
+    same = omega arith
+
+pub white-last : (t : List ℕ) (a e at c : ℕ) → a < e → e ≤ length t → at ≡ a + lastAt (part t a e) → c ≡ code (part t at e) → isWhitespace c ≡ endsWhite (part t a e)
+white-last t a e at c l n p q =
+    ap isWhitespace (q ∙ ap (λ (n : ℕ). code (part t n e)) p ∙ sym (ap code (drop-part t a e (lastAt (part t a e)))))
+    ∙ by (part t a e) (omega (arith, l, length-part t a e (omega arith) n))
+  where
+    by : (t : List ℕ) → 0 < length t → isWhitespace (lastCode t) ≡ endsWhite t
+    by [] h = absurd (omega arith)
+    by (b ∷ t) h = refl

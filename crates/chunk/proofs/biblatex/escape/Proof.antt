@@ -1,0 +1,55 @@
+-- `chunk::biblatex::escape` meets its contract. Assumes nothing.
+use native.Mathlib.Omega.{arith}
+use mathlib.Core.Path.{sym, _∙_}
+use borrow.Author.Needs.{needs}
+use Rattle.chunk.proofs.Puts.{puts-on, puts-as}
+use Rattle.chunk.proofs.Escapes.{escape-some, escape-none}
+use Rattle.chunk.proofs.biblatex.escape.Statement.{statement}
+use Rattle.chunk.proofs.biblatex.escape.Tie as tie
+
+is-escapable-requires : tie.Need-is-escapable-requires
+is-escapable-requires c κs = search needs
+
+put-requires : tie.Need-put-requires
+put-requires c κs = search needs
+
+put-requires-2 : tie.Need-put-requires-2
+put-requires-2 c κs = search needs
+
+same-length : tie.Need-same-length
+same-length c = search needs
+
+returns : tie.Need-returns
+returns c =
+    let a = c .before .before .before .before .before .before .before .before .before .before .before .args in
+    let e = sym (c .before .before .before .before .before .before .before .before .before .is-escapable .ensures) ∙ c .before .before .before .before .before .before .before .before .if1 .taken in
+    let x = c .before .before .before .before .before .before .put in
+    let y = c .before .before .put2 in
+    let two = puts-on _ _ (a .out .now) (a .at) (x .result) _ (y .result) _ (x .ensures .0) (y .ensures .0) in
+    (puts-as _ _ (a .out .now) (a .at) (y .result) _ (escape-some (a .verb) (a .b) e) two, omega (arith, x .ensures .1, y .ensures .1))
+
+put-requires-3 : tie.Need-put-requires-3
+put-requires-3 c κs = search needs
+
+same-length-2 : tie.Need-same-length-2
+same-length-2 c = search needs
+
+returns-2 : tie.Need-returns-2
+returns-2 c =
+    let a = c .before .before .before .before .before .before .before .args in
+    let e = sym (c .before .before .before .before .before .is-escapable .ensures) ∙ c .before .before .before .before .if1 .left in
+    let x = c .before .before .put3 in
+    (puts-as _ _ (a .out .now) (a .at) (x .result) _ (escape-none (a .verb) (a .b) e) (x .ensures .0), omega (arith, x .ensures .1))
+
+pub escape-spec : {M : Type 1} → statement M
+escape-spec =
+    tie.close
+    (tie.spec
+    is-escapable-requires
+    put-requires
+    put-requires-2
+    same-length
+    returns
+    put-requires-3
+    same-length-2
+    returns-2)

@@ -1,0 +1,82 @@
+-- `chunk::biblatex::put_body` meets its contract. Assumes nothing.
+use native.Mathlib.Omega.{arith}
+use mathlib.Core.Path.{sym, ap}
+use borrow.Author.Needs.{needs}
+use Rattle.text.specs.Scan.{part}
+use Rattle.chunk.specs.declared.form.Kind.{Kind}
+use Rattle.chunk.specs.Format.{bodyOf}
+use Rattle.chunk.proofs.Puts.{puts-on, puts-as}
+use Rattle.chunk.proofs.biblatex.put_body.Statement.{statement}
+use Rattle.chunk.proofs.biblatex.put_body.Tie as tie
+
+enum-told : tie.Need-enum-told
+enum-told c = search needs
+
+escaped-requires : tie.Need-escaped-requires
+escaped-requires c κs = search needs
+
+enum-told-2 : tie.Need-enum-told-2
+enum-told-2 c = search needs
+
+escaped-requires-2 : tie.Need-escaped-requires-2
+escaped-requires-2 c κs = search needs
+
+enum-told-3 : tie.Need-enum-told-3
+enum-told-3 c = search needs
+
+copy-requires : tie.Need-copy-requires
+copy-requires c κs = search needs
+
+put-requires : tie.Need-put-requires
+put-requires c κs = search needs
+
+same-length : tie.Need-same-length
+same-length c = search needs
+
+returns : tie.Need-returns
+returns c =
+    let a = c .before .before .before .before .before .before .before .before .args in
+    let x = c .before .before .escaped in
+    let e = sym (ap (λ (k : Kind). bodyOf (a .verb) k (part (a .t .now) (a .from) (a .to))) (c .before .before .before .before .enum-told .given .1)) in
+    (puts-as _ _ (a .out .now) (a .at) (x .result) _ e (x .ensures .0), omega (arith, x .ensures .1))
+
+same-length-2 : tie.Need-same-length-2
+same-length-2 c = search needs
+
+returns-2 : tie.Need-returns-2
+returns-2 c =
+    let a = c .before .before .before .before .before .before .before .before .args in
+    let x = c .before .before .escaped2 in
+    let e = sym (ap (λ (k : Kind). bodyOf (a .verb) k (part (a .t .now) (a .from) (a .to))) (c .before .before .before .before .enum-told2 .given .1)) in
+    (puts-as _ _ (a .out .now) (a .at) (x .result) _ e (x .ensures .0), omega (arith, x .ensures .1))
+
+same-length-3 : tie.Need-same-length-3
+same-length-3 c = search needs
+
+returns-3 : tie.Need-returns-3
+returns-3 c =
+    let a = c .before .before .before .before .before .before .before .before .before .before .before .before .args in
+    let p = c .before .before .before .before .before .before .before .before .before .before .before .before .pre in
+    let x = c .before .before .before .before .before .before .copy in
+    let y = c .before .before .put in
+    let e = sym (ap (λ (k : Kind). bodyOf (a .verb) k (part (a .t .now) (a .from) (a .to))) (c .before .before .before .before .before .before .before .before .enum-told3 .given .1)) in
+    let two = puts-on _ _ (a .out .now) (a .at) (x .result) _ (y .result) _ (x .ensures .0) (y .ensures .0) in
+    (puts-as _ _ (a .out .now) (a .at) (y .result) _ e two, omega (arith, x .ensures .1, y .ensures .1, p .0))
+
+pub put-body-spec : {M : Type 1} → statement M
+put-body-spec =
+    tie.close
+    (tie.spec
+    enum-told
+    escaped-requires
+    enum-told-2
+    escaped-requires-2
+    enum-told-3
+    copy-requires
+    put-requires
+    same-length
+    returns
+    same-length-2
+    returns-2
+    same-length-3
+    returns-3)

@@ -1,0 +1,38 @@
+-- `chunk::biblatex::put_closing` meets its contract. Assumes nothing.
+use native.Mathlib.Omega.{arith}
+use mathlib.Core.Path.{sym, ap}
+use borrow.Author.Needs.{needs}
+use Rattle.chunk.specs.Format.{closing}
+use Rattle.chunk.proofs.Puts.{puts-on, puts-as}
+use Rattle.chunk.proofs.biblatex.put_closing.Statement.{statement}
+use Rattle.chunk.proofs.biblatex.put_closing.Tie as tie
+
+put-requires : tie.Need-put-requires
+put-requires c κs = search needs
+
+put-requires-2 : tie.Need-put-requires-2
+put-requires-2 c κs = search needs
+
+same-length : tie.Need-same-length
+same-length c = search needs
+
+returns : tie.Need-returns
+returns c =
+    let a = c .before .before .before .before .before .before .before .before .before .before .args in
+    let x = c .before .before .before .before .before .before .before .put in
+    let y = c .before .before .put2 in
+    let two = puts-on _ _ (a .out .now) (a .at) (x .result) _ (y .result) _ (x .ensures .0) (y .ensures .0) in
+    (puts-as _ _ (a .out .now) (a .at) (y .result) _ (sym (ap closing (c .before .before .before .before .if1 .taken))) two, omega (arith, x .ensures .1, y .ensures .1))
+
+same-length-2 : tie.Need-same-length-2
+same-length-2 c = search needs
+
+returns-2 : tie.Need-returns-2
+returns-2 c =
+    let a = c .before .before .before .before .before .before .args in
+    let x = c .before .before .before .put in
+    (puts-as _ _ (a .out .now) (a .at) (x .result) _ (sym (ap closing (c .if1 .left))) (x .ensures .0), omega (arith, x .ensures .1))
+
+pub put-closing-spec : {M : Type 1} → statement M
+put-closing-spec =
+    tie.close (tie.spec put-requires put-requires-2 same-length returns same-length-2 returns-2)

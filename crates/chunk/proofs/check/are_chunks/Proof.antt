@@ -1,0 +1,71 @@
+-- `chunk::check::are_chunks` meets its contract. Assumes nothing.
+use Prim.Native.Nat.{_-_}
+use mathlib.Core.Path.{sym, _∙_}
+use lib.ListN.{length}
+use borrow.Author.Needs.{needs}
+use Rattle.chunk.proofs.Checks as laws
+use Rattle.chunk.proofs.check.are_chunks.Statement.{statement}
+use Rattle.chunk.proofs.check.are_chunks.Tie as tie
+
+abbrev Inv-loop : tie.InvT-loop
+Inv-loop t rows i₀ i = laws.Checking t rows i
+
+abbrev μ-loop : tie.MeasureT-loop
+μ-loop t rows i₀ i = length rows - i
+
+returns : tie.Need-returns Inv-loop μ-loop
+returns c = let a = c .before .before .before .args in laws.check-count (a .t .now) (a .rows .now) (c .if1 .taken)
+
+loop-holds : tie.Need-loop-holds Inv-loop μ-loop
+loop-holds c = let a = c .before .before .before .args in laws.checking (a .t .now) (a .rows .now) (c .if1 .left)
+
+row-at-requires : tie.Need-row-at-requires Inv-loop μ-loop
+row-at-requires c κs =
+    let a = c .before .before .before .before .before .args in
+    let b = c .before .loop in
+    laws.five (a .t .now) (a .rows .now) (b .i) (b .inv) (c .loop-test .taken)
+
+is-chunk-requires : tie.Need-is-chunk-requires Inv-loop μ-loop
+is-chunk-requires c κs = search needs
+
+add-i : tie.Need-add-i Inv-loop μ-loop
+add-i c = search needs
+
+loop-less : tie.Need-loop-less Inv-loop μ-loop
+loop-less c = search needs
+
+loop-again : tie.Need-loop-again Inv-loop μ-loop
+loop-again c =
+    let a = c .before .before .before .before .before .before .before .before .args in
+    let b = c .before .before .before .before .loop in
+    let e = laws.told (a .t .now) (a .rows .now) (b .i) (c .before .before .row-at .ensures) (sym (c .before .is-chunk .ensures) ∙ c .if2 .taken) in
+    laws.check-turn (a .t .now) (a .rows .now) (b .i) (b .inv) (c .before .before .before .loop-test .taken) e
+
+returns-2 : tie.Need-returns-2 Inv-loop μ-loop
+returns-2 c =
+    let a = c .before .before .before .before .before .before .before .before .args in
+    let b = c .before .before .before .before .loop in
+    let e = laws.told (a .t .now) (a .rows .now) (b .i) (c .before .before .row-at .ensures) (sym (c .before .is-chunk .ensures) ∙ c .if2 .left) in
+    laws.check-stop (a .t .now) (a .rows .now) (b .i) (b .inv) (c .before .before .before .loop-test .taken) e
+
+returns-3 : tie.Need-returns-3 Inv-loop μ-loop
+returns-3 c =
+    let a = c .before .before .before .before .before .args in
+    let b = c .before .loop in
+    laws.check-done (a .t .now) (a .rows .now) (b .i) (b .inv) (c .loop-test .left)
+
+pub are-chunks-spec : {M : Type 1} → statement M
+are-chunks-spec =
+    tie.close
+    (tie.spec
+    Inv-loop
+    μ-loop
+    returns
+    loop-holds
+    row-at-requires
+    is-chunk-requires
+    add-i
+    loop-less
+    loop-again
+    returns-2
+    returns-3)

@@ -1,0 +1,36 @@
+-- `chunk::ending::code_at` meets its contract. Assumes nothing.
+use mathlib.Core.Path.{refl, sym}
+use lib.Seq.{length-take-le}
+use borrow.Author.Needs.{needs}
+use Rattle.chunk.proofs.Ends.{code-seen}
+use Rattle.chunk.proofs.ending.code_at.Statement.{statement}
+use Rattle.chunk.proofs.ending.code_at.Tie as tie
+
+slice-aggregate-peek : tie.Need-slice-aggregate-peek
+slice-aggregate-peek c = sym (length-take-le (c .before .before .args .to) (c .before .before .args .t .now) (c .before .before .pre .1))
+
+peek-requires : tie.Need-peek-requires
+peek-requires c κs = search needs
+
+enum-told : tie.Need-enum-told
+enum-told c = search needs
+
+enum-known-code : tie.Need-enum-known-code
+enum-known-code c = search needs
+
+returns : tie.Need-returns
+returns c =
+    let a = c .before .before .before .before .before .args in
+    let p = c .before .before .before .before .before .pre in
+    code-seen (a .t .now) _ (a .at) (a .to) _ _ refl (p .0) (p .1) (c .before .before .peek .ensures .0) (c .enum-told .given .1)
+
+returns-2 : tie.Need-returns-2
+returns-2 c =
+    let a = c .before .before .before .before .before .before .args in
+    let p = c .before .before .before .before .before .before .pre in
+    code-seen (a .t .now) _ (a .at) (a .to) _ _ refl (p .0) (p .1) (c .before .before .before .peek .ensures .0) (c .before .code .given .1)
+
+pub code-at-spec : {M : Type 1} → statement M
+code-at-spec =
+    tie.close
+    (tie.spec slice-aggregate-peek peek-requires enum-told enum-known-code returns returns-2)

@@ -1,0 +1,33 @@
+-- `chunk::ending::ends_white` meets its contract. Assumes nothing.
+use mathlib.Core.Path.{_∙_}
+use borrow.Author.Needs.{needs}
+use Rattle.chunk.proofs.Ends.{last-less, white-none, white-last}
+use Rattle.chunk.proofs.ending.ends_white.Statement.{statement}
+use Rattle.chunk.proofs.ending.ends_white.Tie as tie
+
+returns : tie.Need-returns
+returns c = let a = c .before .before .args in white-none (a .t .now) (a .from) (a .to) (c .if1 .taken) (c .before .before .pre .0)
+
+last-at-requires : tie.Need-last-at-requires
+last-at-requires c κs = search needs
+
+code-at-requires : tie.Need-code-at-requires
+code-at-requires c κs =
+    let a = c .before .before .before .args in
+    let p = c .before .before .before .pre in
+    (last-less (a .t .now) (a .from) (a .to) _ (c .before .if1 .left) (p .1) (c .last-at .ensures), p .1)
+
+is-whitespace-requires : tie.Need-is-whitespace-requires
+is-whitespace-requires c κs = search needs
+
+returns-2 : tie.Need-returns-2
+returns-2 c =
+    let a = c .before .before .before .before .before .args in
+    let last = c .before .before .last-at in
+    let code = c .before .code-at in
+    let l = c .before .before .before .if1 .left in
+    c .is-whitespace .ensures ∙ white-last (a .t .now) (a .from) (a .to) (last .result) (code .result) l (c .before .before .before .before .before .pre .1) (last .ensures) (code .ensures)
+
+pub ends-white-spec : {M : Type 1} → statement M
+ends-white-spec =
+    tie.close (tie.spec returns last-at-requires code-at-requires is-whitespace-requires returns-2)

@@ -1,0 +1,72 @@
+-- `chunk::ending::last_at` meets its contract. Assumes nothing.
+use Prim.Native.Nat.{ℕ, _+_, _-_, _≤_}
+use native.Mathlib.Omega.{arith}
+use mathlib.Core.Path.{_≡_, sym, ap, _∙_}
+use lib.ListN.{length}
+use borrow.Author.Needs.{needs}
+use Rattle.text.specs.Scan.{part}
+use Rattle.chunk.specs.Format.{lastAt}
+use Rattle.chunk.proofs.Ends as laws
+use Rattle.chunk.proofs.ending.last_at.Statement.{statement}
+use Rattle.chunk.proofs.ending.last_at.Tie as tie
+
+abbrev Inv-loop : tie.InvT-loop
+Inv-loop t from to i₀ i = (from ≤ i) × (i ≤ to) × (lastAt (part t from i) ≡ lastAt (part t from to))
+
+abbrev μ-loop : tie.MeasureT-loop
+μ-loop t from to i₀ i = i
+
+loop-holds : tie.Need-loop-holds Inv-loop μ-loop
+loop-holds c = search needs
+
+sub-i : tie.Need-sub-i Inv-loop μ-loop
+sub-i c = search needs
+
+is-boundary-requires : tie.Need-is-boundary-requires Inv-loop μ-loop
+is-boundary-requires c κs = search needs
+
+returns : tie.Need-returns Inv-loop μ-loop
+returns c =
+    let a = c .before .before .before .before .before .args in
+    let p = c .before .before .before .before .before .pre in
+    let b = c .before .before .before .loop in
+    let l = c .before .before .loop-test .taken in
+    let h : a .from ≤ b .i - 1 = omega (arith, l) in
+    let e : b .i ≡ b .i - 1 + 1 = omega (arith, l) in
+    laws.last-found (a .t .now) (a .from) (b .i) (b .i - 1) h e (omega (arith, b .inv .1, p .1)) (sym (c .before .is-boundary .ensures) ∙ c .if1 .taken)
+    ∙ ap (λ (k : ℕ). a .from + k) (b .inv .2)
+
+loop-less : tie.Need-loop-less Inv-loop μ-loop
+loop-less c = search needs
+
+loop-again : tie.Need-loop-again Inv-loop μ-loop
+loop-again c =
+    let a = c .before .before .before .before .before .args in
+    let p = c .before .before .before .before .before .pre in
+    let b = c .before .before .before .loop in
+    let l = c .before .before .loop-test .taken in
+    let h : a .from ≤ b .i - 1 = omega (arith, l) in
+    let e : b .i ≡ b .i - 1 + 1 = omega (arith, l) in
+    let n : b .i ≤ length (a .t .now) = omega (arith, b .inv .1, p .1) in
+    let q = laws.last-pass (a .t .now) (a .from) (b .i) (b .i - 1) h e n (sym (c .before .is-boundary .ensures) ∙ c .if1 .left) in
+    (h, omega (arith, b .inv .1), sym q ∙ b .inv .2)
+
+returns-2 : tie.Need-returns-2 Inv-loop μ-loop
+returns-2 c =
+    let a = c .before .before .before .args in
+    let b = c .before .loop in
+    laws.last-none (a .t .now) (a .from) (b .i) _ (omega (arith, c .loop-test .left, b .inv .0)) (b .inv .2)
+
+pub last-at-spec : {M : Type 1} → statement M
+last-at-spec =
+    tie.close
+    (tie.spec
+    Inv-loop
+    μ-loop
+    loop-holds
+    sub-i
+    is-boundary-requires
+    returns
+    loop-less
+    loop-again
+    returns-2)

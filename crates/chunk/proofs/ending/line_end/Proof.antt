@@ -1,0 +1,71 @@
+-- `chunk::ending::line_end` meets its contract. Assumes nothing.
+use Prim.Native.Nat.{_-_, _≤_, _<_}
+use native.Mathlib.Omega.{arith}
+use mathlib.Core.Path.{_≡_, sym, _∙_}
+use mathlib.Core.Bool.{true}
+use lib.ListN.{length}
+use borrow.Author.Needs.{needs}
+use Rattle.text.specs.Scan.{part}
+use Rattle.chunk.specs.Inner.{plain}
+use Rattle.chunk.proofs.Lines as laws
+use Rattle.chunk.proofs.ending.line_end.Statement.{statement}
+use Rattle.chunk.proofs.ending.line_end.Tie as tie
+
+abbrev Inv-loop : tie.InvT-loop
+Inv-loop t from to i₀ i = (from ≤ i) × (i ≤ to) × (plain (part t from i) ≡ true)
+
+abbrev μ-loop : tie.MeasureT-loop
+μ-loop t from to i₀ i = to - i
+
+loop-holds : tie.Need-loop-holds Inv-loop μ-loop
+loop-holds c = let a = c .before .args in (omega arith, c .before .pre .0, laws.plain-start (a .t .now) (a .from))
+
+shared-slice-read-is-line-end : tie.Need-shared-slice-read-is-line-end Inv-loop μ-loop
+shared-slice-read-is-line-end c = search needs
+
+is-line-end-requires : tie.Need-is-line-end-requires Inv-loop μ-loop
+is-line-end-requires c κs = search needs
+
+returns : tie.Need-returns Inv-loop μ-loop
+returns c =
+    let a = c .before .before .before .before .before .before .args in
+    let b = c .before .before .before .before .loop in
+    let l = c .before .before .before .loop-test .taken in
+    let stop = laws.stops-at (a .t .now) (b .i) (a .to) l (c .before .before .before .before .before .before .pre .1) (sym (c .before .is-line-end .ensures) ∙ c .if1 .taken) in
+    (b .inv .2, stop, b .inv .0, b .inv .1)
+
+add-i : tie.Need-add-i Inv-loop μ-loop
+add-i c = search needs
+
+loop-less : tie.Need-loop-less Inv-loop μ-loop
+loop-less c = search needs
+
+loop-again : tie.Need-loop-again Inv-loop μ-loop
+loop-again c =
+    let a = c .before .before .before .before .before .before .args in
+    let b = c .before .before .before .before .loop in
+    let l = c .before .before .before .loop-test .taken in
+    let h : b .i < length (a .t .now) = omega (arith, l, c .before .before .before .before .before .before .pre .1) in
+    let on = laws.plain-on (a .t .now) (a .from) (b .i) (b .inv .0) h (b .inv .2) (sym (c .before .is-line-end .ensures) ∙ c .if1 .left) in
+    (omega (arith, b .inv .0), omega (arith, l), on)
+
+returns-2 : tie.Need-returns-2 Inv-loop μ-loop
+returns-2 c =
+    let a = c .before .before .before .args in
+    let b = c .before .loop in
+    (b .inv .2, laws.stops-end (a .t .now) (b .i) (a .to) (omega (arith, c .loop-test .left, b .inv .1)), b .inv .0, b .inv .1)
+
+pub line-end-spec : {M : Type 1} → statement M
+line-end-spec =
+    tie.close
+    (tie.spec
+    Inv-loop
+    μ-loop
+    loop-holds
+    shared-slice-read-is-line-end
+    is-line-end-requires
+    returns
+    add-i
+    loop-less
+    loop-again
+    returns-2)

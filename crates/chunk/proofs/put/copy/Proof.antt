@@ -1,0 +1,84 @@
+-- `chunk::put::copy` meets its contract. Assumes nothing.
+use Prim.Native.Nat.{_+_, _-_, _≤_}
+use native.Mathlib.Omega.{arith}
+use mathlib.Core.Path.{_≡_, refl, _∙_}
+use lib.ListN.{length}
+use borrow.Author.Needs.{needs}
+use Rattle.text.specs.Scan.{part}
+use Rattle.chunk.specs.Put.{Puts}
+use Rattle.chunk.proofs.Copies as laws
+use Rattle.chunk.proofs.put.copy.Statement.{statement}
+use Rattle.chunk.proofs.put.copy.Tie as tie
+
+abbrev Inv-loop : tie.InvT-loop
+Inv-loop s from to out₀ at i₀ j₀ out i j = Puts out₀ at (part s from i) j out × (from ≤ i) × (i ≤ to) × (j + from ≡ at + i) × (length out ≡ length out₀)
+
+abbrev μ-loop : tie.MeasureT-loop
+μ-loop s from to out₀ at i₀ j₀ out i j = to - i
+
+sub-result : tie.Need-sub-result Inv-loop μ-loop
+sub-result c = search needs
+
+add-result : tie.Need-add-result Inv-loop μ-loop
+add-result c = omega arith
+
+returns : tie.Need-returns Inv-loop μ-loop
+returns c =
+    let a = c .before .before .before .args in
+    let p = c .before .before .before .pre in
+    (laws.copy-past (a .s .now) (a .out .now) (a .from) (a .to) (a .at) (p .0) (p .1) (c .if1 .taken), omega arith)
+
+loop-holds : tie.Need-loop-holds Inv-loop μ-loop
+loop-holds c =
+    let a = c .before .before .before .args in
+    (laws.copy-start (a .s .now) (a .out .now) (a .from) (a .at), omega arith, c .before .before .before .pre .0, refl, refl)
+
+shared-slice-read-put : tie.Need-shared-slice-read-put Inv-loop μ-loop
+shared-slice-read-put c = search needs
+
+put-requires : tie.Need-put-requires Inv-loop μ-loop
+put-requires c κs = omega arith
+
+add-i : tie.Need-add-i Inv-loop μ-loop
+add-i c = omega arith
+
+loop-less : tie.Need-loop-less Inv-loop μ-loop
+loop-less c = omega arith
+
+loop-again : tie.Need-loop-again Inv-loop μ-loop
+loop-again c =
+    let a = c .before .before .before .before .before .before .before .before .before .before .args in
+    let p = c .before .before .before .before .before .before .before .before .before .before .pre in
+    let b = c .before .before .before .before .before .before .loop in
+    let l = c .before .before .before .before .before .loop-test .taken in
+    let y = c .before .before .put in
+    let put = laws.copy-on (a .s .now) (a .out .now) (a .from) (a .at) (b .i) (b .j) (b .out) (y .result) _ (b .inv .1) (omega (arith, l, p .1)) (b .inv .0) (y .ensures .0) in
+    (put, omega arith, omega arith, omega (arith, y .ensures .1), y .kept .0 ∙ b .inv .4)
+
+same-length : tie.Need-same-length Inv-loop μ-loop
+same-length c = c .before .loop .inv .4
+
+returns-2 : tie.Need-returns-2 Inv-loop μ-loop
+returns-2 c =
+    let a = c .before .before .before .before .before .args in
+    let b = c .before .loop in
+    let q : b .i ≡ a .to = omega arith in
+    (laws.copied (a .s .now) (a .out .now) (a .from) (a .to) (a .at) (b .i) (b .j) (b .out) q (b .inv .0), omega arith)
+
+pub copy-spec : {M : Type 1} → statement M
+copy-spec =
+    tie.close
+    (tie.spec
+    Inv-loop
+    μ-loop
+    sub-result
+    add-result
+    returns
+    loop-holds
+    shared-slice-read-put
+    put-requires
+    add-i
+    loop-less
+    loop-again
+    same-length
+    returns-2)

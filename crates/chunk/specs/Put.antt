@@ -1,0 +1,35 @@
+-- Octets put into lent bytes, each only where it fits; so that the code that writes also counts, over no bytes.
+--     Puts              octets from a place on, and the place after them
+--     totalOf, Fills    a pass over chunks
+-- Assumes nothing.
+use Prim.Native.Nat.{ℕ, _+_, _≤_}
+use mathlib.Core.Path.{_≡_}
+use mathlib.Core.Bool.{cond}
+use mathlib.Core.List.{List}
+use lib.ListN.{length}
+use lib.Seq.{sets}
+use lib.Dec.{leb}
+use Rattle.chunk.specs.declared.answer.Total.{Total}
+use Rattle.chunk.specs.declared.answer.Total.the-variants as total
+
+-- the last number of a place, and of a room: a slice has less than 2 ^ 63 bytes
+abbrev pub lastPlace : ℕ
+lastPlace = 18446744073709551615
+
+abbrev pub mostRoom : ℕ
+mostRoom = 9223372036854775807
+
+-- putting the octets w over the lent bytes o, from place n on, leads to the place r and leaves o′. `sets` stores element by element, and
+-- changes nothing past the end
+pub record Puts (o : List ℕ) (n : ℕ) (w : List ℕ) (r : ℕ) (o′ : List ℕ) : Type 0 where
+  pub end : r ≡ n + length w
+  pub bytes : o′ ≡ sets o n w
+
+-- the number of octets, or that they are more than the room
+abbrev pub totalOf : List ℕ → ℕ → Total
+totalOf w room = cond (leb (length w) room) (total.Bytes (length w)) total.More
+
+-- a pass that puts w from the first byte on. Where w is more than the room, nothing is said of the lent bytes: the pass is then over none
+pub record Fills (w : List ℕ) (room : ℕ) (o : List ℕ) (r : Total) (o′ : List ℕ) : Type 0 where
+  pub answer : r ≡ totalOf w room
+  pub bytes : length w ≤ room → o′ ≡ sets o 0 w

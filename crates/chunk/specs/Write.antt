@@ -1,0 +1,56 @@
+-- The contracts of `format_verbatim` and `to_biblatex_string` [01:Numbers a caller can get]: "Order: 1 for a file, 2, 17, .. then 16 exactly
+-- if an answer exists and needs more rows or bytes than a lent output has. All output stays as it was on refusal; on success the room past
+-- the answer stays as it was". 2 is at the first byte of the text's first ill-formed sequence, 17 and 16 at 0..0.
+--     checkedOf         2, then 17
+--     Write             a writer's answer and what it leaves in the lent bytes
+-- Assumes nothing.
+use Prim.Native.Nat.{ℕ}
+use mathlib.Core.Path.{_≡_}
+use mathlib.Core.Bool.{Bool, cond}
+use mathlib.Core.List.{List, _++_}
+use lib.ListN.{length, drop}
+use lib.Dec.{leb}
+use Rattle.text.specs.Utf8.{validityOf}
+use Rattle.text.specs.declared.utf8.Validity.{Validity}
+use Rattle.text.specs.declared.utf8.Validity.the-variants as validity
+use Rattle.row.specs.declared.fault.Reason.the-variants.{NotUtf8, NoRoom, BadRows}
+use Rattle.row.specs.Fault.{faultAt, nowhere}
+use Rattle.chunk.specs.declared.answer.Checked.{Checked}
+use Rattle.chunk.specs.declared.answer.Checked.the-variants as checked
+use Rattle.chunk.specs.declared.answer.Writing.{Writing}
+use Rattle.chunk.specs.declared.answer.Writing.the-variants as writing
+use Rattle.chunk.specs.Chunk.{areChunks, chunksOf}
+use Rattle.chunk.specs.Format.{formatVerbatim, toBiblatexString}
+
+-- ---- the check of the lent text t and the lent numbers l
+
+abbrev pub rowsChecked : List ℕ → List ℕ → Validity → Checked
+rowsChecked t l validity.Valid = cond (areChunks t l) checked.Sound (checked.Refused (nowhere BadRows))
+rowsChecked t l (validity.IllFormed n) = checked.Refused (faultAt NotUtf8 n)
+
+unfoldable pub checkedOf : List ℕ → List ℕ → Checked
+checkedOf t l = rowsChecked t l (validityOf t)
+
+-- ---- a writer, by what the check says and what it has to write
+
+abbrev pub writingOf : Checked → List ℕ → ℕ → Writing
+writingOf checked.Sound w size = cond (leb (length w) size) (writing.Written (length w)) (writing.Refused (nowhere NoRoom))
+writingOf (checked.Refused f) w size = writing.Refused f
+
+-- the lent bytes: the text in front of what they held, or as they were
+abbrev pub writtenInto : Checked → List ℕ → List ℕ → List ℕ
+writtenInto checked.Sound w b = cond (leb (length w) (length b)) (w ++ drop (length w) b) b
+writtenInto (checked.Refused f) w b = b
+
+-- a writer of w over the lent bytes b answers r and leaves b′
+pub record Write (c : Checked) (w b : List ℕ) (r : Writing) (b′ : List ℕ) : Type 0 where
+  pub answer : r ≡ writingOf c w (length b)
+  pub bytes : b′ ≡ writtenInto c w b
+
+-- ---- the calls, of the text t and the chunk rows in the numbers l
+
+abbrev pub FormatVerbatim : List ℕ → List ℕ → List ℕ → Writing → List ℕ → Type 0
+FormatVerbatim t l b r b′ = Write (checkedOf t l) (formatVerbatim (chunksOf t l)) b r b′
+
+abbrev pub ToBiblatexString : Bool → List ℕ → List ℕ → List ℕ → Writing → List ℕ → Type 0
+ToBiblatexString verb t l b r b′ = Write (checkedOf t l) (toBiblatexString verb (chunksOf t l)) b r b′
