@@ -1,5 +1,4 @@
--- A mark onto the last character of an argument: for `code_at` and `last_char_combine`.
---     code-seen                                  what `peek` sees in the text up to a place
+-- A mark onto the last character of an argument: for `last_char_combine`.
 --     composed-fine, dotted-fine, bare-fine      the characters that are written are of Unicode, and short
 --     empty, composes, behind, dots              the four ways through `last_char_combine`
 --     char-room, bare-room, dot-room             there is room for them
@@ -14,9 +13,7 @@ use lib.Seq.{take-all, length-take-le}
 use lib.Dec.{eqb, leb}
 use borrow.Author.Tests.{eq-eqb, ne-eqb, leb-true}
 use Rattle.text.specs.Utf8.{isScalar, octets, width, value, gather}
-use Rattle.text.specs.Scan.{part, code, seeFrom}
-use Rattle.text.specs.declared.scanner.Seen.{Seen}
-use Rattle.text.specs.declared.scanner.Seen.the-variants.{End, Char}
+use Rattle.text.specs.Scan.{part, code}
 use Rattle.compose.specs.declared.Composed.{Composed}
 use Rattle.compose.specs.declared.Composed.the-variants as composed
 use Rattle.compose.specs.Lookup.{Row, numbers, lookup}
@@ -27,28 +24,11 @@ use Rattle.compose.proofs.Composition.{composition}
 use Rattle.compose.proofs.Rows.{both}
 use Rattle.command.specs.Stack.{Lays}
 use Rattle.chunk.specs.Format.{lastAt, lastCode}
+use Rattle.chunk.proofs.Parts.{length-part, drop-part}
+use Rattle.chunk.proofs.Ends.{last-less}
 use Rattle.command.specs.Execute.{front, dotted, bare, marked, withMark, lastCharCombine, given}
-use Rattle.command.proofs.Parts.{length-part, drop-part, take-part, part-take}
+use Rattle.command.proofs.Parts.{take-part}
 use Rattle.command.proofs.Stacks.{lays-as, lays-on, octets-few, octets-one, octets-two, octets-three}
-use Rattle.command.proofs.LastPlace.{last-less}
-
--- ---- `code_at`
-
-abbrev codeIn : Seen → ℕ
-codeIn End = 0
-codeIn (Char c n) = c
-
-seen : (t : List ℕ) (i : ℕ) → 0 < length t → codeIn (seeFrom t i) ≡ code t
-unfolding seeFrom
-seen [] i h = absurd (omega arith)
-seen (b ∷ t) i h = refl
-
-pub code-seen : (o v : List ℕ) (at to : ℕ) (r r₁ : Seen) → v ≡ take to o → at < to → to ≤ length o
-    → r ≡ seeFrom (drop at v) at → r ≡ r₁ → codeIn r₁ ≡ code (part o at to)
-code-seen o v at to r r₁ e l n h q =
-    sym (ap codeIn q) ∙ ap codeIn h ∙ ap (λ (t : List ℕ). codeIn (seeFrom (drop at t) at)) e
-    ∙ ap (λ (t : List ℕ). codeIn (seeFrom t at)) (part-take o at to n)
-    ∙ seen (part o at to) at (omega (arith, length-part o at to (omega arith) n))
 
 -- ---- the characters that are written
 
@@ -120,8 +100,8 @@ module _ (o : List ℕ) (a e : ℕ) (ae : a ≤ e) (eo : e ≤ length o) where
           by [] q = absurd (omega arith)
           by (b ∷ t) q = refl
 
-      pub place : (at : ℕ) → at ≡ a + lastAt t → at < e
-      place at q = let l = last-less t some in omega (arith, q, l, t-length)
+      last-inside : lastAt t ≤ length t
+      last-inside = omega (arith, last-less o a e (a + lastAt t) h eo refl, t-length)
 
       -- c is the last character, which stands at `at`
       module _ (at c : ℕ) (p : at ≡ a + lastAt t) (q : c ≡ code (part o at e)) where
@@ -132,7 +112,7 @@ module _ (o : List ℕ) (a e : ℕ) (ae : a ≤ e) (eo : e ≤ length o) where
         to-c = ap (λ (c : ℕ). withMark t c m (lookup composites (dotted c) m)) (sym is-last)
 
         at-last : (w : List ℕ) (r : ℕ) (o′ : List ℕ) → Lays at w o r o′ → Lays a (front t ++ w) o r o′
-        at-last w r o′ l = edit (lastAt t) w r o′ (omega (arith, last-less t some)) (subst (λ (n : ℕ). Lays n w o r o′) p l)
+        at-last w r o′ l = edit (lastAt t) w r o′ last-inside (subst (λ (n : ℕ). Lays n w o r o′) p l)
 
         -- they compose
         pub composes : (x r : ℕ) (o′ : List ℕ) → lookup composites (dotted c) m ≡ composed.Char x → Lays at (octets x) o r o′

@@ -1,6 +1,5 @@
 pub mod Parts
 pub mod Stacks
-pub mod LastPlace
 pub mod Tests
 pub mod Rows
 pub mod Combining

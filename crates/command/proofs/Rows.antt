@@ -18,9 +18,10 @@ use Rattle.text.specs.Scan.{part}
 use Rattle.command.specs.declared.meaning.Meaning.{Meaning}
 use Rattle.command.specs.declared.meaning.Meaning.the-variants.{Unknown}
 use Rattle.chunk.specs.Worked.{utf8}
+use Rattle.chunk.proofs.Parts.{part-head, length-part}
 use Rattle.command.specs.Commands.{Named, same, commands, meaningIn, meaningOf}
 use Rattle.command.specs.Names.{Row, codeOf, decoded, flat, meaningBy, rowOf, rowsOf, long, names}
-use Rattle.command.proofs.Parts.{part-none, part-head, length-part}
+use Rattle.command.proofs.Parts.{part-empty}
 
 -- texts of different lengths are not the same
 same-long : (s t : List ℕ) → (length s ≡ length t → ⊥) → same s t ≡ false
@@ -108,7 +109,7 @@ module _ (t : List ℕ) (i : ℕ) (s : List ℕ) (a n : ℕ) (ht : i + n ≤ len
 
   pub left-end : (k : ℕ) → n ≤ k → true ≡ left k
   unfolding same
-  left-end k h = sym (ap₂ same (part-none t (i + k) (i + n) (omega arith)) (part-none s (a + k) (a + n) (omega arith)))
+  left-end k h = sym (ap₂ same (part-empty t (i + k) (i + n) (omega arith)) (part-empty s (a + k) (a + n) (omega arith)))
 
 pub other-length : (t : List ℕ) (i m : ℕ) (s : List ℕ) (a n : ℕ) → i + m ≤ length t → a + n ≤ length s → (m ≡ n → ⊥)
     → false ≡ same (part t i (i + m)) (part s a (a + n))
@@ -125,7 +126,7 @@ name-part s a e n h l = ap (part s a) (omega arith)
 pub name-one : (s : List ℕ) (a e b : ℕ) → e - a ≡ 1 → e ≤ length s → b ≡ getD s a 0 → b ∷ [] ≡ part s a e
 name-one s a e b h l q =
     ap (λ (c : ℕ). c ∷ []) q
-    ∙ sym (part-head s a e (omega arith) l ∙ ap (λ (t : List ℕ). getD s a 0 ∷ t) (part-none s (a + 1) e (omega arith)))
+    ∙ sym (part-head s a e (omega arith) l ∙ ap (λ (t : List ℕ). getD s a 0 ∷ t) (part-empty s (a + 1) e (omega arith)))
 
 pub name-long : (s : List ℕ) (a e : ℕ) → a ≤ e → e ≤ length s → (e - a ≡ 1 → ⊥) → length (part s a e) ≡ 1 → ⊥
 name-long s a e h l n q = n (sym (length-part s a e h l) ∙ q)

@@ -17,8 +17,9 @@ use Rattle.text.specs.Utf8.{isScalar, octets, further, fits, Encode}
 use Rattle.text.specs.declared.utf8.Encoded.{Encoded}
 use Rattle.text.specs.declared.utf8.Encoded.the-variants as encoded
 use Rattle.text.specs.Scan.{part}
+use Rattle.chunk.proofs.Parts.{part-more, length-part}
 use Rattle.command.specs.Stack.{Lays}
-use Rattle.command.proofs.Parts.{part-more, length-part, take-part}
+use Rattle.command.proofs.Parts.{take-part}
 
 -- ---- any texts
 

@@ -2,14 +2,13 @@
 // writes before it (`execute_before`), so that most commands leave it where it is.
 use crate::meaning::Meaning;
 use crate::stack;
+use chunk::ending;
 use compose::Composed;
-use text::scanner;
-use text::scanner::Seen;
 ghost use mathlib.Core.Path.{_≡_};
 ghost use mathlib.Core.Bool.{true};
 ghost use Prim.Native.Nat.{_+_, _≤_, _<_, max};
 ghost use lib.ListN.{length};
-ghost use Rattle.text.specs.Scan.{part, code as codeOf};
+ghost use Rattle.text.specs.Scan.{part};
 ghost use Rattle.text.specs.Utf8.{isScalar};
 ghost use Rattle.compose.specs.Composites.{composites};
 ghost use Rattle.compose.specs.Lookup.{numbers};
@@ -40,17 +39,6 @@ pub fn is_single_char_func(c: u32, ws: bool) -> bool
                 | (c == 0x72)
                 | (c == 0x75)
                 | (c == 0x76)))
-}
-
-// The code point of the character at a place of the text that ends at another.
-fn code_at(t: &[u8], at: usize, to: usize) -> u32
-    requires { ⌜ (at < to) × (to ≤ length (now t)) ⌝ }
-    ensures { λ r. ⌜ r ≡ codeOf (part (now (t .entry)) at to) ⌝ }
-{
-    match scanner::peek(&t[..to], at) {
-        Seen::End => 0,
-        Seen::Char { code, next: _ } => code,
-    }
 }
 
 fn dotted(c: u32) -> u32
@@ -84,8 +72,8 @@ pub fn last_char_combine(marks: &[u32], out: &mut [u8], from: usize, to: usize, 
         let b = bare(mark);
         return stack::put_code(out, from, b);
     }
-    let at = stack::last_at(out, from, to);
-    let c = code_at(out, at, to);
+    let at = ending::last_at(out, from, to);
+    let c = ending::code_at(out, at, to);
     let d = dotted(c);
     match compose::find(marks, d, mark) {
         Composed::Char(x) => stack::put_code(out, at, x),

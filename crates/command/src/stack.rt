@@ -7,11 +7,9 @@ ghost use mathlib.Core.Bool.{true};
 ghost use mathlib.Core.List.{[], _∷_};
 ghost use Prim.Native.Nat.{_+_, _≤_, _<_};
 ghost use lib.ListN.{length, replicate};
-ghost use Rattle.text.specs.Range.{within};
 ghost use Rattle.text.specs.Scan.{part};
-ghost use Rattle.text.specs.Utf8.{isScalar, octets, tail};
+ghost use Rattle.text.specs.Utf8.{isScalar, octets};
 ghost use Rattle.command.specs.Stack.{Lays};
-ghost use Rattle.chunk.specs.Format.{lastAt};
 
 // The bytes of s from a place to another.
 pub fn copy(s: &[u8], from: usize, to: usize, out: &mut [u8], at: usize) -> usize
@@ -49,28 +47,6 @@ pub fn put_code(out: &mut [u8], at: usize, c: u32) -> usize
         Encoded::NotScalar => at,
         Encoded::NoRoom => at,
     }
-}
-
-// Whether a byte continues a sequence.
-fn is_tail(b: u8) -> bool
-    ensures { λ r. ⌜ r ≡ within tail b ⌝ }
-{
-    (0x80 <= b) & (b <= 0xbf)
-}
-
-// The place of the last character of the text from a place to another.
-pub fn last_at(out: &[u8], from: usize, to: usize) -> usize
-    requires { ⌜ (from ≤ to) × (to ≤ length (now out)) ⌝ }
-    ensures { λ r. ⌜ r ≡ from + lastAt (part (now (out .entry)) from to) ⌝ }
-{
-    let mut i = to;
-    while from < i {
-        i -= 1;
-        if !is_tail(out[i]) {
-            return i;
-        }
-    }
-    i
 }
 
 // Zeros over all the bytes.

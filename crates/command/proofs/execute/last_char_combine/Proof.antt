@@ -11,17 +11,18 @@ use Rattle.command.specs.Stack.{Lays}
 use Rattle.compose.specs.Lookup.{numbers}
 use Rattle.compose.specs.Composites.{composites}
 use Rattle.command.proofs.Stacks.{lays-as, octets-two}
+use Rattle.chunk.proofs.Ends.{last-less}
 use Rattle.command.proofs.Combining as laws
 use Rattle.command.proofs.execute.last_char_combine.Statement.{statement}
 use Rattle.command.proofs.execute.last_char_combine.Tie as tie
 use Rattle.command.proofs.execute.last_char_combine.Reads as reads
 use Rattle.command.proofs.execute.last_char_combine.Lts as lts
 use Rattle.compose.proofs.find.Reads as find-reads
-use Rattle.command.proofs.execute.code_at.Reads as code-at-reads
+use Rattle.chunk.proofs.ending.code_at.Reads as code-at-reads
 use Rattle.command.proofs.execute.bare.Reads as bare-reads
 use Rattle.command.proofs.execute.dotted.Reads as dotted-reads
 use Rattle.command.proofs.stack.put_code.Reads as put-code-reads
-use Rattle.command.proofs.stack.last_at.Reads as last-at-reads
+use Rattle.chunk.proofs.ending.last_at.Reads as last-at-reads
 
 bare-requires : tie.Need-bare-requires
 bare-requires c κs = search needs
@@ -59,7 +60,7 @@ code-at-requires c κs =
     let p = c .before .before .before .before .before .before .pre in
     let o = a .out .now in
     let eo : a .to ≤ length o = omega (arith, p .2) in
-    (laws.place o (a .from) (a .to) (p .1) eo (a .mark) (c .before .before .before .if1 .left) _ (c .before .last-at .ensures), eo)
+    (last-less o (a .from) (a .to) _ (c .before .before .before .if1 .left) eo (c .before .last-at .ensures), eo)
 
 dotted-requires : tie.Need-dotted-requires
 dotted-requires c κs = search needs
@@ -80,7 +81,7 @@ put-code-requires-2 c κs =
     let last = dot .before .before .before .last-at in
     let char = dot .before .code-at in
     let eo : a .to ≤ length o = omega (arith, p .2) in
-    let h = laws.place o (a .from) (a .to) (p .1) eo (a .mark) l (last .result) (last .ensures) in
+    let h = last-less o (a .from) (a .to) (last .result) l eo (last .ensures) in
     let find = c .before .before .before .before .find in
     let f = laws.looked (a .marks .now) (dot .dotted .result) (a .mark) (char .result) (find .result) _ (find .ensures) (p .0) (dot .dotted .ensures)
     (c .before .before .x .given .1) in
@@ -135,7 +136,7 @@ put-code-requires-4 c κs =
     let last = dot .before .before .before .last-at in
     let char = dot .before .code-at in
     let eo : a .to ≤ length o = omega (arith, p .2) in
-    let h = laws.place o (a .from) (a .to) (p .1) eo (a .mark) l (last .result) (last .ensures) in
+    let h = last-less o (a .from) (a .to) (last .result) l eo (last .ensures) in
     let y = laws.dot-room (last .result) (a .to) (char .result) (dot .dotted .result) h (dot .dotted .ensures) (c .before .if2 .left) in
     (y .0, omega (arith, y .1, h, p .2))
 
@@ -149,7 +150,7 @@ put-code-requires-5 c κs =
     let last = dot .before .before .before .last-at in
     let char = dot .before .code-at in
     let eo : a .to ≤ length o = omega (arith, p .2) in
-    let h = laws.place o (a .from) (a .to) (p .1) eo (a .mark) l (last .result) (last .ensures) in
+    let h = last-less o (a .from) (a .to) (last .result) l eo (last .ensures) in
     let y = laws.dot-room (last .result) (a .to) (char .result) (dot .dotted .result) h (dot .dotted .ensures)
     (c .before .before .before .before .before .if2 .left) in
     let z = c .before .before .before .put-code4 in
@@ -168,7 +169,7 @@ returns-3 c =
     let last = dot .before .before .before .last-at in
     let char = dot .before .code-at in
     let eo : a .to ≤ length o = omega (arith, p .2) in
-    let h = laws.place o (a .from) (a .to) (p .1) eo (a .mark) l (last .result) (last .ensures) in
+    let h = last-less o (a .from) (a .to) (last .result) l eo (last .ensures) in
     let find = c .before .before .before .before .before .before .before .find in
     let f = laws.looked (a .marks .now) (dot .dotted .result) (a .mark) (char .result) (find .result) _ (find .ensures) (p .0) (dot .dotted .ensures)
     (c .before .before .before .before .before .x .given .1) in
@@ -192,7 +193,7 @@ returns-4 c =
     let last = dot .before .before .before .last-at in
     let char = dot .before .code-at in
     let eo : a .to ≤ length o = omega (arith, p .2) in
-    let h = laws.place o (a .from) (a .to) (p .1) eo (a .mark) l (last .result) (last .ensures) in
+    let h = last-less o (a .from) (a .to) (last .result) l eo (last .ensures) in
     let find = c .before .before .before .before .before .before .before .before .before .before .before .find in
     let f = laws.looked (a .marks .now) (dot .dotted .result) (a .mark) (char .result) (find .result) _ (find .ensures) (p .0) (dot .dotted .ensures)
     (c .before .before .before .before .before .before .before .before .before .enum-told .given .1) in

@@ -6,7 +6,7 @@ use mathlib.Core.Path.{_≡_, refl, sym, ap, _∙_}
 use mathlib.Core.List.{List, _++_, append-nil}
 use lib.ListN.{length, take, replicate, length-set}
 use Rattle.text.specs.Scan.{part}
-use Rattle.command.proofs.Parts.{part-none}
+use Rattle.chunk.proofs.Parts.{part-none}
 use Rattle.command.proofs.Stacks as laws
 use Rattle.command.proofs.stack.copy.Statement.{statement}
 use Rattle.command.proofs.stack.copy.Tie as tie
@@ -28,7 +28,7 @@ loop-holds c =
       refl,
       refl,
       sym (append-nil (take (a .at) (a .out .now)))
-          ∙ ap (λ (t : List ℕ). take (a .at) (a .out .now) ++ t) (sym (part-none (a .s .now) (a .from) (a .from) (omega arith))),
+          ∙ ap (λ (t : List ℕ). take (a .at) (a .out .now) ++ t) (sym (part-none (a .s .now) (a .from))),
     )
 
 shared-slice-read-out : tie.Need-shared-slice-read-out Inv-loop μ-loop
