@@ -4,4 +4,5 @@ pub mod Tests
 pub mod Rows
 pub mod Combining
 pub mod Executing
+pub mod Settling
 pub mod Unique

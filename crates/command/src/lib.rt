@@ -4,4 +4,5 @@
 pub mod execute;
 pub mod meaning;
 pub mod names;
+pub mod settle;
 pub mod stack;

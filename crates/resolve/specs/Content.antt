@@ -1,5 +1,5 @@
 -- Content [resolve.rs:ContentParser], in the Rust's order: readers that emit parts, and the chunks that come of the parts.
---     Part, State, steps, chunksOf       parts, and [resolve.rs:turnaround], [resolve.rs:default_chunk]
+--     Part, State, steps, chunksOf       parts, and [resolve.rs:turnaround]
 --     backslash, command, maths          the Rust's functions of the same names
 --     contentTurn                        one turn of the loop of [resolve.rs:parse_impl]
 --     inside, content                    content, with so many arguments left to open
@@ -25,6 +25,7 @@ use Rattle.chunk.specs.declared.form.Kind.{Kind}
 use Rattle.chunk.specs.declared.form.Kind.the-variants.{Normal, Verbatim, Math}
 use Rattle.chunk.specs.Chunk.{Chunk, chunk}
 use Rattle.chunk.specs.Format.{formatVerbatim, isEscapable}
+use Rattle.command.specs.Stack.{defaultChunk}
 use Rattle.command.specs.Commands.{isSingleCharFunc}
 use Rattle.command.specs.Execute.{Argument, absent, given, executeCommand}
 
@@ -38,11 +39,6 @@ pub data Part : Type 0 where
 
 abbrev pub Reader : Type 0
 Reader = ReaderOf Part
-
--- [resolve.rs:default_chunk] by the number of open braces
-abbrev pub defaultChunk : ℕ → Kind
-defaultChunk zero = Normal
-defaultChunk (suc d) = Verbatim
 
 -- the chunks that are done; the kind, text and start of the one under construction
 pub record State : Type 0 where

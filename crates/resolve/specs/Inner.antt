@@ -23,7 +23,7 @@ use Rattle.chunk.specs.Format.{formatVerbatim, whiteFrom}
 use Rattle.compose.specs.Lookup.{numbers}
 use Rattle.compose.specs.Composites.{composites}
 use Rattle.command.specs.declared.meaning.Meaning.{Meaning}
-use Rattle.command.specs.Stack.{Lays}
+use Rattle.command.specs.Stack.{Lays, defaultChunk}
 use Rattle.command.specs.Commands.{meaningOf}
 use Rattle.command.specs.Names.{names as allNames}
 use Rattle.command.specs.Execute.{given, executeCommand, leading}
@@ -36,7 +36,7 @@ use Rattle.resolve.specs.declared.content.Made.{Made}
 use Rattle.resolve.specs.declared.content.Made.the-variants as made
 use Rattle.resolve.specs.declared.content.Stepped.{Stepped}
 use Rattle.resolve.specs.declared.content.Stepped.the-variants as stepped
-use Rattle.resolve.specs.Content.{Part, put, Reader, State, beginning, defaultChunk, steps, chunksOf, contentTurn, ran, isEscape, flatten}
+use Rattle.resolve.specs.Content.{Part, put, Reader, State, beginning, steps, chunksOf, contentTurn, ran, isEscape, flatten}
 use Rattle.resolve.specs.Literal.{chunkUp}
 
 -- ---- rows

@@ -1,4 +1,5 @@
 // A turn of content that writes text: a run of characters, hyphens, white space, or what follows a backslash.
+use chunk::biblatex;
 use command::execute;
 use command::meaning;
 use command::meaning::Meaning;
@@ -16,7 +17,6 @@ ghost use Prim.Native.Nat.{_+_, _*_, _≤_, _<_};
 ghost use lib.ListN.{length, getD};
 ghost use Rattle.text.specs.Class.{isWhitespace, isControl};
 ghost use Rattle.text.specs.Scan.{see, Ahead};
-ghost use Rattle.chunk.specs.Format.{isEscapable};
 ghost use Rattle.resolve.specs.Content.{isEscape, argumentEnd, nameEnd, opensAt, takesOne};
 ghost use Rattle.resolve.specs.Inner.{isPlain, PlainTo, Ordinary, Behind, SaysText, GrowsText, endOf, EndInside};
 
@@ -37,22 +37,11 @@ pub enum Text {
     },
 }
 
-// Whether a backslash goes before the character.
-fn is_escapable(c: u32, verb: bool, read: bool) -> bool
-    ensures { λ r. ⌜ r ≡ isEscapable c verb read ⌝ }
-{
-    (c == 0x7b)
-        | (c == 0x7d)
-        | (c == 0x5c)
-        | (((c == 0x7e) | (c == 0x5e) | (c == 0x23) | (c == 0x26) | (c == 0x25) | (c == 0x24) | (c == 0x5f)) & !verb)
-        | ((c == 0x3a) & read)
-}
-
 // The characters that stand for themselves behind a backslash.
 fn is_escape(c: u32, verb: bool) -> bool
     ensures { λ r. ⌜ r ≡ isEscape verb c ⌝ }
 {
-    (c != 0x5e) & (c != 0x7e) & is_escapable(c, verb, true)
+    (c != 0x5e) & (c != 0x7e) & biblatex::is_escapable(c, verb, true)
 }
 
 fn is_plain(b: u8) -> bool
@@ -93,7 +82,10 @@ fn hyphens(s: &[u8], at: usize, out: &mut [u8], len: usize) -> Text
         return Text::Put { next: two, len: l };
     }
     let l = stack::put_code(out, len, 0x2014);
-    Text::Put { next: three, len: l }
+    Text::Put {
+        next: three,
+        len: l,
+    }
 }
 
 // White space, which is one blank; or any other character.
@@ -108,7 +100,10 @@ fn other(s: &[u8], verb: bool, at: usize, out: &mut [u8], len: usize) -> Text
             if class::is_whitespace(code) {
                 let l = stack::push(out, len, 0x20);
                 let after = scanner::eat_whitespace(s, at);
-                return Text::Put { next: after, len: l };
+                return Text::Put {
+                    next: after,
+                    len: l,
+                };
             }
             let l = stack::copy(s, at, next, out, len);
             Text::Put { next, len: l }
@@ -125,7 +120,10 @@ fn back_blank(s: &[u8], at: usize, code: u32, next: usize, out: &mut [u8], len: 
     let k = stack::copy(s, at, next, out, len);
     let l = stack::push(out, k, 0x20);
     let after = scanner::eat_whitespace(s, at + 1);
-    Text::Put { next: after, len: l }
+    Text::Put {
+        next: after,
+        len: l,
+    }
 }
 
 // A backslash before a control character, which is written with it and once more.

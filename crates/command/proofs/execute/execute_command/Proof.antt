@@ -48,7 +48,7 @@ last-char-combine-requires c κs =
     let q = c .before .before .before .before .before .before .before .pre .1 in
     let s = subst Sane (c .before .before .m2 .given .1) (p .1) in
     let n = laws.no-lead (part (a .s .now) (a .a) (a .e)) (a .m) (a .out .now) (a .at) (a .from) (a .to) (q .0) (q .1) (omega (arith, q .2)) (q .5) _
-        (c .before .before .m2 .given .1) refl in
+    (c .before .before .m2 .given .1) refl in
     (p .0, q .1, omega (arith, n, q .3), s .0, s .1)
 
 enum-told-2 : tie.Need-enum-told-2
@@ -61,7 +61,7 @@ last-char-combine-requires-2 c κs =
     let p = c .before .before .before .before .before .before .pre .0 in
     let q = c .before .before .before .before .before .before .pre .1 in
     let n = laws.no-lead (part (a .s .now) (a .a) (a .e)) (a .m) (a .out .now) (a .at) (a .from) (a .to) (q .0) (q .1) (omega (arith, q .2)) (q .5)
-        Slash (c .before .enum-told2 .given .1) refl in
+    Slash (c .before .enum-told2 .given .1) refl in
     (p .0, q .1, omega (arith, n, q .3), refl, omega arith)
 
 enum-told-3 : tie.Need-enum-told-3
@@ -115,7 +115,7 @@ returns-3 c =
     let p = c .before .before .before .before .before .before .before .before .before .before .pre .0 in
     let q = c .before .before .before .before .before .before .before .before .before .before .pre .1 in
     let n = laws.no-lead (part (a .s .now) (a .a) (a .e)) (a .m) (a .out .now) (a .at) (a .from) (a .to) (q .0) (q .1) (omega (arith, q .2)) (q .5) _
-        (c .before .before .before .before .before .m2 .given .1) refl in
+    (c .before .before .before .before .before .m2 .given .1) refl in
     let y = c .before .before .last-char-combine in (
       laws.as-from (part (a .s .now) (a .a) (a .e)) (a .m) (a .out .now) (a .at) (a .from) (a .to) (q .0) (q .1) (omega (arith, q .2)) (q .5) _ _
           (y .result) _ (c .before .before .before .before .before .m2 .given .1) refl refl (y .ensures .0),
@@ -131,7 +131,7 @@ returns-4 c =
     let p = c .before .before .before .before .before .before .before .before .before .pre .0 in
     let q = c .before .before .before .before .before .before .before .before .before .pre .1 in
     let n = laws.no-lead (part (a .s .now) (a .a) (a .e)) (a .m) (a .out .now) (a .at) (a .from) (a .to) (q .0) (q .1) (omega (arith, q .2)) (q .5)
-        Slash (c .before .before .before .before .enum-told2 .given .1) refl in
+    Slash (c .before .before .before .before .enum-told2 .given .1) refl in
     let y = c .before .before .last-char-combine2 in (
       laws.as-from (part (a .s .now) (a .a) (a .e)) (a .m) (a .out .now) (a .at) (a .from) (a .to) (q .0) (q .1) (omega (arith, q .2)) (q .5) Slash _
           (y .result) _ (c .before .before .before .before .enum-told2 .given .1) refl refl (y .ensures .0),
