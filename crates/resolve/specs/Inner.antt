@@ -26,7 +26,7 @@ use Rattle.command.specs.declared.meaning.Meaning.{Meaning}
 use Rattle.command.specs.Stack.{Lays, defaultChunk}
 use Rattle.command.specs.Commands.{meaningOf}
 use Rattle.command.specs.Names.{names as allNames}
-use Rattle.command.specs.Execute.{given, executeCommand, leading}
+use Rattle.command.specs.Execute.{Argument, given, executeCommand, leading}
 use Rattle.resolve.specs.declared.making.Rows.{Rows}
 use Rattle.resolve.specs.declared.making.Making.{Making}
 use Rattle.resolve.specs.declared.making.Place.{Place}
@@ -136,6 +136,12 @@ pub record Behind (s : List ℕ) (p c n : ℕ) : Type 0 where
   -- and does not stand for itself
   pub command : isEscape false c ≡ false
 
+-- the name of a command, whose backslash stands at p, ends at `end`, and the white space behind it at w
+pub record Command (s : List ℕ) (p end w : ℕ) : Type 0 where
+  pub name : p + 2 ≤ end
+  pub white : end ≤ w
+  pub inside : w ≤ length s
+
 -- content from p on, with d braces open
 abbrev pub turns : Reader → Bool → ℕ → List ℕ → ℕ → OutOf Part
 turns argument verb d s p = many (contentTurn argument verb) d s p
@@ -175,6 +181,12 @@ SaysText verb s p n o (text.Refused f) o′ = (argument : Reader) (d : ℕ) → 
 SaysText verb s p n o (text.Argument k end a e) o′ =
     ((argument : Reader) (d : ℕ) → turns argument verb d s p ≡ opened argument verb d s p end a e)
     × (k ≡ meaningOf (part s (p + 1) end)) × (o′ ≡ o)
+
+-- a command whose name ends at `end`, and the white space behind it at w, has this argument and is written up to q
+pub record Took (s : List ℕ) (p end : ℕ) (arg : Argument) (q n : ℕ) (o : List ℕ) (r : Text) (o′ : List ℕ) : Type 0 where
+  pub len : ℕ
+  pub told : r ≡ text.Put q len
+  pub lays : Lays n (executeCommand (part s (p + 1) end) arg) o len o′
 
 -- turns with their parts, behind which the content goes on
 pub record Onto (place : Place) (verb : Bool) (s : List ℕ) (m : Making) (o b : List ℕ) (m′ : Making) (o′ b′ : List ℕ) : Type 0 where
