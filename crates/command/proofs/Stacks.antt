@@ -10,14 +10,14 @@ use mathlib.Core.Path.{_≡_, refl, sym, ap, subst, _∙_}
 use mathlib.Core.Bool.{Bool, true, false, cond}
 use mathlib.Core.List.{List, [], _∷_, _++_, append-assoc, append-nil}
 use lib.ListN.{length, getD, take, drop, set, replicate, length-append, length-drop, length-take, replicate-append-replicate}
-use lib.Seq.{take-suc-set, take-length, take-all, length-take-le, take-append-add, take-at}
+use lib.Seq.{take-suc-set, take-length, take-all, take-take, length-take-le, take-append-add, take-at, drop-append-seam}
 use lib.Dec.{leb}
 use borrow.Author.Tests.{le-leb}
 use Rattle.text.specs.Utf8.{isScalar, octets, further, fits, Encode}
 use Rattle.text.specs.declared.utf8.Encoded.{Encoded}
 use Rattle.text.specs.declared.utf8.Encoded.the-variants as encoded
 use Rattle.text.specs.Scan.{part}
-use Rattle.chunk.proofs.Parts.{part-more, length-part}
+use Rattle.chunk.proofs.Parts.{part-more, length-part, drop-take}
 use Rattle.command.specs.Stack.{Lays}
 use Rattle.command.proofs.Parts.{take-part}
 
@@ -172,3 +172,44 @@ octets-three c h = rw (le-leb c 0xFFFF h) (by (leb c 0x7F) (leb c 0x7FF))
     by true q = omega arith
     by false true = omega arith
     by false false = omega arith
+
+-- ---- two texts, one behind the other
+
+-- what is below a text's end is as it was
+pub lays-below : (n : ℕ) (w o : List ℕ) (r : ℕ) (o′ : List ℕ) → Lays n w o r o′ → n ≤ length o → take n o′ ≡ take n o
+lays-below n w o r o′ h l =
+    sym (take-take n r o′ (omega (arith, h .end))) ∙ ap (take n) (h .text)
+    ∙ take-at (take n o) w n (length-take-le n o l)
+
+-- and what was laid stands there
+pub lays-part : (n : ℕ) (w o : List ℕ) (r : ℕ) (o′ : List ℕ) → Lays n w o r o′ → n ≤ length o → r ≤ length o′ → part o′ n r ≡ w
+lays-part n w o r o′ h l k =
+    ap (λ (m : ℕ). take (m - n) (drop n o′)) (least r (length o′) k) ∙ sym (drop-take n r o′) ∙ ap (drop n) (h .text)
+    ∙ ap (λ (m : ℕ). drop m (take n o ++ w)) (sym (length-take-le n o l)) ∙ drop-append-seam (take n o) w
+  where
+    least : (r k : ℕ) → r ≤ k → min r k ≡ r
+    least r k h = omega arith
+
+pub lays-over : (n : ℕ) (w o o₁ : List ℕ) (r : ℕ) (o′ : List ℕ) → take n o₁ ≡ take n o → Lays n w o₁ r o′ → Lays n w o r o′
+lays-over n w o o₁ r o′ e h = record { end = h .end; text = h .text ∙ ap (λ (t : List ℕ). t ++ w) e }
+
+-- w and then v: the part of each, and what is below them
+module _ (n : ℕ) (w o : List ℕ) (f : ℕ) (o₁ v : List ℕ) (e : ℕ) (o₂ : List ℕ) (x : Lays n w o f o₁) (y : Lays f v o₁ e o₂)
+    (l : n ≤ length o) (k : f ≤ length o₁) (m : e ≤ length o₂) where
+  pub both-first : part o₂ n f ≡ w
+  both-first =
+      ap (λ (i : ℕ). take (i - n) (drop n o₂)) (least f (length o₂) e (omega (arith, y .end)) m) ∙ sym (drop-take n f o₂)
+      ∙ ap (drop n) (lays-below f v o₁ e o₂ y k)
+      ∙ drop-take n f o₁ ∙ ap (λ (i : ℕ). take (i - n) (drop n o₁)) (sym (least f (length o₁) f (omega arith) k))
+      ∙ lays-part n w o f o₁ x l k
+    where
+      least : (f k e : ℕ) → f ≤ e → e ≤ k → min f k ≡ f
+      least f k e h i = omega arith
+
+  pub both-second : part o₂ f e ≡ v
+  both-second = lays-part f v o₁ e o₂ y k m
+
+  pub both-below : take n o₂ ≡ take n o
+  both-below =
+      sym (take-take n f o₂ (omega (arith, x .end))) ∙ ap (take n) (lays-below f v o₁ e o₂ y k) ∙ take-take n f o₁ (omega (arith, x .end))
+      ∙ lays-below n w o f o₁ x l

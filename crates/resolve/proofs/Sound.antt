@@ -71,7 +71,7 @@ skip-inside t s p h = let a = skip-ahead t s p in (a .from, omega (arith, a .to,
 
 -- ---- where an argument ends
 
-abbrev Ends : ℕ → ℕ → OutOf Part → Type 0
+abbrev pub Ends : ℕ → ℕ → OutOf Part → Type 0
 Ends len p (ok e xs) = (p ≤ e) × (e < len)
 Ends len p (again e xs a) = ⊥
 Ends len p (bad f) = Unit {0}
@@ -93,21 +93,26 @@ module _ (s : List ℕ) (p : ℕ) (h : p ≤ length s) where
   unfolding endTurn
   end-turn zero = by (see s j) refl
     where
-      by : (v : Seen) → see s j ≡ v → EndsTurn (length s) p (more [] (eaten (is 0x7D) v (λ n. ok j []) (eaten (is 0x7B) v (λ n. again n [] 1) (bad (faultAt UnexpectedEof j)))))
+      by : (v : Seen) → see s j ≡ v → EndsTurn (length s) p (more [] (eaten (is 0x7D) v (λ n. ok j [])
+          (eaten (is 0x7B) v (λ n. again n [] 1) (bad (faultAt UnexpectedEof j)))))
       by End e = tt
-      by (Char c n) e = let a = see-ahead s j c n e in two (eqb c 0x7D) (eqb c 0x7B) (omega (arith, j-from)) (omega (arith, a .0, a .1)) (omega (arith, a .0, j-from)) (a .1)
+      by (Char c n) e = let a = see-ahead s j c n e in two (eqb c 0x7D) (eqb c 0x7B) (omega (arith, j-from)) (omega (arith, a .0, a .1))
+          (omega (arith, a .0, j-from)) (a .1)
         where
-          two : (x y : Bool) → p ≤ j → j < length s → p < n → n ≤ length s → EndsTurn (length s) p (more [] (cond x (ok j []) (cond y (again n [] 1) (bad (faultAt UnexpectedEof j)))))
+          two : (x y : Bool) → p ≤ j → j < length s → p < n → n ≤ length s → EndsTurn (length s) p
+              (more [] (cond x (ok j []) (cond y (again n [] 1) (bad (faultAt UnexpectedEof j)))))
           two true y a b k l = (a, b)
           two false true a b k l = (k, l)
           two false false a b k l = tt
   end-turn (suc d) = by (see s j) refl
     where
-      by : (v : Seen) → see s j ≡ v → EndsTurn (length s) p (more [] (eaten (is 0x7D) v (λ n. again n [] d) (eaten (is 0x7B) v (λ n. again n [] (suc (suc d))) (bad (faultAt UnexpectedEof j)))))
+      by : (v : Seen) → see s j ≡ v → EndsTurn (length s) p (more [] (eaten (is 0x7D) v (λ n. again n [] d)
+          (eaten (is 0x7B) v (λ n. again n [] (suc (suc d))) (bad (faultAt UnexpectedEof j)))))
       by End e = tt
       by (Char c n) e = let a = see-ahead s j c n e in two (eqb c 0x7D) (eqb c 0x7B) (omega (arith, a .0, j-from)) (a .1)
         where
-          two : (x y : Bool) → p < n → n ≤ length s → EndsTurn (length s) p (more [] (cond x (again n [] d) (cond y (again n [] (suc (suc d))) (bad (faultAt UnexpectedEof j)))))
+          two : (x y : Bool) → p < n → n ≤ length s → EndsTurn (length s) p (more []
+              (cond x (again n [] d) (cond y (again n [] (suc (suc d))) (bad (faultAt UnexpectedEof j)))))
           two true y k l = (k, l)
           two false true k l = (k, l)
           two false false k l = tt
@@ -160,12 +165,13 @@ braced-fine argument name s q b h k = by (argumentEnd s b) (end-inside s b k)
     run e l m (ok r xs) = fine-ok s q (e + 1) (omega (arith, h, l)) (omega (arith, m))
     run e l m (again r xs a) = fine-ok s q (e + 1) (omega (arith, h, l)) (omega (arith, m))
     run e l m (bad f) = tt
+
     by : (o : OutOf Part) → Ends (length s) b o → Fine s q (endsAt o (λ e. ran b name (argument (take e s) b) (λ w. ok (e + 1) (put w ∷ []))))
     by (ok e xs) x = run e (x .0) (x .1) (argument (take e s) b)
     by (again e xs a) x = absurd x
     by (bad f) x = tt
 
-opens-inside : (s : List ℕ) (w : ℕ) → opensAt (see s w) ≡ true → w + 1 ≤ length s
+pub opens-inside : (s : List ℕ) (w : ℕ) → opensAt (see s w) ≡ true → w + 1 ≤ length s
 opens-inside s w = by (see s w) refl
   where
     by : (v : Seen) → see s w ≡ v → opensAt v ≡ true → w + 1 ≤ length s
@@ -191,7 +197,8 @@ module _ (argument : Reader) (c n : ℕ) (s : List ℕ) (q : ℕ) (h : q ≤ n) 
     last-fine = fine-ok s q w (omega (arith, h, a, w-in .0)) (w-in .1)
 
     two : (x : Bool) → opensAt (see s w) ≡ x → (y : Bool) → Fine s q (cond (y && x) (braced argument (part s q e) s (w + 1)) last)
-    two true o y = fine-cond s q (y && true) _ _ (braced-fine argument (part s q e) s q (w + 1) (omega (arith, h, a, w-in .0)) (opens-inside s w o)) last-fine
+    two true o y = fine-cond s q (y && true) _ _ (braced-fine argument (part s q e) s q (w + 1) (omega (arith, h, a, w-in .0)) (opens-inside s w o))
+        last-fine
     two false o true = last-fine
     two false o false = last-fine
 
@@ -248,11 +255,13 @@ unfolding maths
 maths-sound d s p h = by (skip (fails test.Dollar) s (p + 1)) (skip-inside (fails test.Dollar) s (p + 1) (omega (arith, h)))
   where
     by : (e : ℕ) → (p + 1 ≤ e) × (e ≤ length s)
-        → Sound 1 0 p (length s) (andThen (cond (ltb e (length s)) (ok (e + 1) (cut d p (e + 1) ∷ math (part s (p + 1) e) (p + 1) e ∷ [])) (bad (faultAt UnexpectedEof e))) (turn d s))
+        → Sound 1 0 p (length s) (andThen (cond (ltb e (length s)) (ok (e + 1) (cut d p (e + 1) ∷ math (part s (p + 1) e) (p + 1) e ∷ []))
+        (bad (faultAt UnexpectedEof e))) (turn d s))
     by e l = two (ltb e (length s)) (ltb-true e (length s))
       where
         two : (b : Bool) → (b ≡ true → e < length s)
-            → Sound 1 0 p (length s) (andThen (cond b (ok (e + 1) (cut d p (e + 1) ∷ math (part s (p + 1) e) (p + 1) e ∷ [])) (bad (faultAt UnexpectedEof e))) (turn d s))
+            → Sound 1 0 p (length s) (andThen (cond b (ok (e + 1) (cut d p (e + 1) ∷ math (part s (p + 1) e) (p + 1) e ∷ []))
+            (bad (faultAt UnexpectedEof e))) (turn d s))
         two true m = let k = m refl in (omega (arith, l .0), omega (arith, k))
         two false m = tt
 
@@ -263,20 +272,26 @@ hyphens-sound d s p c n e t =
     rw (e, t) (by (see s n) refl (a .0) (a .1))
   where
     three : (v : Seen) (m : ℕ) → see s m ≡ v → p < m → m ≤ length s
-        → Sound 1 0 p (length s) (andThen (eaten (is 0x2D) v (λ r. ok r (put (0xE2 ∷ 0x80 ∷ 0x94 ∷ []) ∷ [])) (ok m (put (0xE2 ∷ 0x80 ∷ 0x93 ∷ []) ∷ []))) (turn d s))
+        → Sound 1 0 p (length s) (andThen (eaten (is 0x2D) v (λ r. ok r (put (0xE2 ∷ 0x80 ∷ 0x94 ∷ []) ∷ []))
+        (ok m (put (0xE2 ∷ 0x80 ∷ 0x93 ∷ []) ∷ []))) (turn d s))
     three End m e h k = (omega (arith, h), omega (arith, k))
     three (Char c r) m e h k = let a = see-ahead s m c r e in two (eqb c 0x2D)
       where
-        two : (b : Bool) → Sound 1 0 p (length s) (andThen (cond b (ok r (put (0xE2 ∷ 0x80 ∷ 0x94 ∷ []) ∷ [])) (ok m (put (0xE2 ∷ 0x80 ∷ 0x93 ∷ []) ∷ []))) (turn d s))
+        two : (b : Bool) → Sound 1 0 p (length s) (andThen (cond b (ok r (put (0xE2 ∷ 0x80 ∷ 0x94 ∷ []) ∷ []))
+            (ok m (put (0xE2 ∷ 0x80 ∷ 0x93 ∷ []) ∷ []))) (turn d s))
         two true = let a = see-ahead s m c r e in (omega (arith, h, a .0), omega (arith, a .1))
         two false = (omega (arith, h), omega (arith, k))
+
     by : (v : Seen) → see s n ≡ v → p < n → n ≤ length s
-        → Sound 1 0 p (length s) (andThen (eaten (is 0x2D) v (λ m. eaten (is 0x2D) (see s m) (λ r. ok r (put (0xE2 ∷ 0x80 ∷ 0x94 ∷ []) ∷ [])) (ok m (put (0xE2 ∷ 0x80 ∷ 0x93 ∷ []) ∷ []))) (ok n (put (0x2D ∷ []) ∷ []))) (turn d s))
+        → Sound 1 0 p (length s) (andThen (eaten (is 0x2D) v (λ m. eaten (is 0x2D) (see s m) (λ r. ok r (put (0xE2 ∷ 0x80 ∷ 0x94 ∷ []) ∷ []))
+        (ok m (put (0xE2 ∷ 0x80 ∷ 0x93 ∷ []) ∷ []))) (ok n (put (0x2D ∷ []) ∷ []))) (turn d s))
     by End f h k = (omega (arith, h), omega (arith, k))
     by (Char c₁ m) f h k = let a = see-ahead s n c₁ m f in two (eqb c₁ 0x2D) (three (see s m) m refl (omega (arith, h, a .0)) (a .1))
       where
-        two : (b : Bool) → Sound 1 0 p (length s) (andThen (eaten (is 0x2D) (see s m) (λ r. ok r (put (0xE2 ∷ 0x80 ∷ 0x94 ∷ []) ∷ [])) (ok m (put (0xE2 ∷ 0x80 ∷ 0x93 ∷ []) ∷ []))) (turn d s))
-            → Sound 1 0 p (length s) (andThen (cond b (eaten (is 0x2D) (see s m) (λ r. ok r (put (0xE2 ∷ 0x80 ∷ 0x94 ∷ []) ∷ [])) (ok m (put (0xE2 ∷ 0x80 ∷ 0x93 ∷ []) ∷ []))) (ok n (put (0x2D ∷ []) ∷ []))) (turn d s))
+        two : (b : Bool) → Sound 1 0 p (length s) (andThen (eaten (is 0x2D) (see s m) (λ r. ok r (put (0xE2 ∷ 0x80 ∷ 0x94 ∷ []) ∷ []))
+            (ok m (put (0xE2 ∷ 0x80 ∷ 0x93 ∷ []) ∷ []))) (turn d s))
+            → Sound 1 0 p (length s) (andThen (cond b (eaten (is 0x2D) (see s m) (λ r. ok r (put (0xE2 ∷ 0x80 ∷ 0x94 ∷ []) ∷ []))
+            (ok m (put (0xE2 ∷ 0x80 ∷ 0x93 ∷ []) ∷ []))) (ok n (put (0x2D ∷ []) ∷ []))) (turn d s))
         two true x = x
         two false x = (omega (arith, h), omega (arith, k))
 
@@ -298,9 +313,11 @@ content-sound argument verb d s p =
     closes : (d : ℕ) → p < length s → Sound 1 0 p (length s) (closing d s p)
     closes zero h = tt
     closes (suc d) h = (omega arith, omega (arith, h))
+
     blank : (c n : ℕ) → see s p ≡ Char c n → p < n → n ≤ length s → isWhitespace c ≡ true
         → Sound 1 0 p (length s) (again (skip isWhitespace s p) (put (0x20 ∷ []) ∷ []) d)
     blank c n e h k t = let a = skip-inside isWhitespace s n k in let b = white-on s p c n e t in (omega (arith, h, a .0, b), omega (arith, a .1, b))
+
     one : (c n : ℕ) → see s p ≡ Char c n → p < n → n ≤ length s → Sound 1 0 p (length s) (andThen (copy s p) (turn d s))
     one c n e h k = rw e (omega (arith, h), omega (arith, k))
 

@@ -9,7 +9,7 @@ use mathlib.Core.Bool.{Bool, true, false, cond, not, _&&_}
 use mathlib.Core.List.{List, [], _∷_, _++_, map, append-assoc, append-nil}
 use lib.ListN.{length, take, drop, getD}
 use lib.Dec.{T, eqb, ltb}
-use borrow.Author.Tests.{ltb-true}
+use borrow.Author.Tests.{ltb-true, eqb-true, eqb-false}
 use Rattle.text.specs.Class.{isWhitespace, whiteSpace}
 use Rattle.text.specs.Scan.{see, part}
 use Rattle.text.specs.declared.scanner.Seen.the-variants.{End, Char}
@@ -40,10 +40,11 @@ unfolding concat
 wrote-one verb s p n o q l o′ w t k = record {
   texts = w ∷ [];
   leads = λ argument d. leads argument verb d s p q (put w ∷ []) d (t argument d);
-  lays = lays-as n w (w ++ []) o l o′ (sym (append-nil w)) k
+  lays = lays-as n w (w ++ []) o l o′ (sym (append-nil w)) k;
 }
 
-pub wrote-two : (verb : Bool) (s : List ℕ) (p n : ℕ) (o : List ℕ) (q l : ℕ) (o′ w : List ℕ) (r : ℕ) (v : List ℕ) → Turns verb s p w r → Turns verb s r v q
+pub wrote-two : (verb : Bool) (s : List ℕ) (p n : ℕ) (o : List ℕ) (q l : ℕ) (o′ w : List ℕ) (r : ℕ) (v : List ℕ) → Turns verb s p w r
+    → Turns verb s r v q
     → Lays n (w ++ v) o l o′ → Wrote verb s p n o q l o′
 unfolding concat
 wrote-two verb s p n o q l o′ w r v t u k = record {
@@ -52,7 +53,7 @@ wrote-two verb s p n o q l o′ w r v t u k = record {
       leads argument verb d s p r (put w ∷ []) d (t argument d)
       ∙ ap (more (put w ∷ [])) (leads argument verb d s r q (put v ∷ []) d (u argument d))
       ∙ more-more (put w ∷ []) (put v ∷ []) (turns argument verb d s q);
-  lays = lays-as n (w ++ v) (w ++ (v ++ [])) o l o′ (ap (λ (t : List ℕ). w ++ t) (sym (append-nil v))) k
+  lays = lays-as n (w ++ v) (w ++ (v ++ [])) o l o′ (ap (λ (t : List ℕ). w ++ t) (sym (append-nil v))) k;
 }
 
 -- ---- a run
@@ -93,8 +94,22 @@ plain-itself verb b h =
       opening = is-not _ (i .0);
       closing = is-not _ (o .0);
       hyphen = nor (eqb b 0x2D) (not verb) (is-not _ (u .0));
-      white = is-not _ (u .1)
+      white = is-not _ (u .1);
     }
+
+-- how far a run goes
+pub plain-start : (s : List ℕ) (p : ℕ) → PlainTo s p p
+plain-start s p = (omega arith, omega arith, λ i a b. absurd (omega (arith, a, b)))
+
+pub plain-more : (s : List ℕ) (p i : ℕ) → PlainTo s p i → i < length s → isPlain (getD s i 0) ≡ true → PlainTo s p (i + 1)
+plain-more s p i h l e = (omega (arith, h .0), omega (arith, l), on)
+  where
+    on : (k : ℕ) → p ≤ k → k < i + 1 → isPlain (getD s k 0) ≡ true
+    on k a b = by (eqb k i) refl
+      where
+        by : (w : Bool) → eqb k i ≡ w → isPlain (getD s k 0) ≡ true
+        by true q = ap (λ (j : ℕ). isPlain (getD s j 0)) (eqb-true k i q) ∙ e
+        by false q = h .2 k a (omega (arith, b, eqb-false k i q))
 
 -- each octet of a text by itself
 unfoldable singles : List ℕ → List (List ℕ)
@@ -116,6 +131,7 @@ module _ (argument : Reader) (verb : Bool) (d : ℕ) (s : List ℕ) where
     where
       same : p ≡ r
       same = omega (arith, e)
+
       none : (o : OutOf Part) → more [] o ≡ o
       none (ok q xs) = refl
       none (again q xs a) = refl
@@ -125,18 +141,20 @@ module _ (argument : Reader) (verb : Bool) (d : ℕ) (s : List ℕ) where
       let b = getD s p 0 in
       let plain = h p (omega arith) (omega (arith, e)) in
       leads argument verb d s p (p + 1) (put (part s p (p + 1)) ∷ []) d
-        (turn-copy argument verb d s p b (p + 1) (at-byte s p b inside refl (omega (arith, plain-ascii b plain))) (plain-itself verb b plain))
+      (turn-copy argument verb d s p b (p + 1) (at-byte s p b inside refl (omega (arith, plain-ascii b plain))) (plain-itself verb b plain))
       ∙ ap (more (put (part s p (p + 1)) ∷ [])) (run-leads k (p + 1) r (omega (arith, e)) l (λ i x y. h i (omega (arith, x)) y))
       ∙ more-more (put (part s p (p + 1)) ∷ []) (map put (singles (part s (p + 1) r))) (turns argument verb d s r)
-      ∙ rw (part-head s p (p + 1) (omega arith) (omega (arith, inside)) ∙ ap (λ (t : List ℕ). b ∷ t) (part-none s (p + 1)),
-            part-head s p r (omega (arith, e)) l) refl
+      ∙ rw (
+        part-head s p (p + 1) (omega arith) (omega (arith, inside)) ∙ ap (λ (t : List ℕ). b ∷ t) (part-none s (p + 1)),
+        part-head s p r (omega (arith, e)) l,
+      ) refl
 
 pub wrote-run : (verb : Bool) (s : List ℕ) (p n : ℕ) (o : List ℕ) (r l : ℕ) (o′ : List ℕ) → PlainTo s p r → r ≤ length s → Lays n (part s p r) o l o′
     → Wrote verb s p n o r l o′
 wrote-run verb s p n o r l o′ h k y = record {
   texts = singles (part s p r);
   leads = λ argument d. run-leads argument verb d s (r - p) p r (omega (arith, h .0)) k (h .2);
-  lays = lays-as n (part s p r) _ o l o′ (sym (concat-singles (part s p r))) y
+  lays = lays-as n (part s p r) _ o l o′ (sym (concat-singles (part s p r))) y;
 }
 
 -- ---- by what a function answers
@@ -148,8 +166,10 @@ says-put verb s p n o r o′ q l e h = rw e h
 pub grows-put : (len p n : ℕ) (r : Text) (q l : ℕ) → r ≡ text.Put q l → Grows len 1 p n q l → GrowsText len p n r
 grows-put len p n r q l e h = rw e h
 
-pub says-by : (verb : Bool) (s : List ℕ) (p n : ℕ) (o : List ℕ) (r r′ : Text) (o′ : List ℕ) → r ≡ r′ → SaysText verb s p n o r o′ → SaysText verb s p n o r′ o′
+pub says-by : (verb : Bool) (s : List ℕ) (p n : ℕ) (o : List ℕ) (r r′ : Text) (o′ : List ℕ) → r ≡ r′ → SaysText verb s p n o r o′
+    → SaysText verb s p n o r′ o′
 says-by verb s p n o r r′ o′ e h = rw e at h
 
-pub says-as : (verb verb′ : Bool) (s : List ℕ) (p n : ℕ) (o : List ℕ) (r : Text) (o′ : List ℕ) → verb ≡ verb′ → SaysText verb s p n o r o′ → SaysText verb′ s p n o r o′
+pub says-as : (verb verb′ : Bool) (s : List ℕ) (p n : ℕ) (o : List ℕ) (r : Text) (o′ : List ℕ) → verb ≡ verb′ → SaysText verb s p n o r o′
+    → SaysText verb′ s p n o r o′
 says-as verb verb′ s p n o r o′ e h = rw e at h

@@ -107,14 +107,16 @@ module _ (argument : Reader) (verb : Bool) (d : ℕ) (s : List ℕ) (p : ℕ) (l
 -- ---- white space, and characters that stand for themselves
 
 white-other : (c x : ℕ) → isWhitespace x ≡ false → isWhitespace c ≡ true → eqb c x ≡ false
-white-other c x h w = ne-eqb c x (λ e. let z : _≡_ {A = ℕ} 0 1 = ap (λ (b : Bool). cond b 0 1) (sym w ∙ ap isWhitespace e ∙ h) in absurd (omega (arith, z)))
+white-other c x h w = ne-eqb c x (λ e. let z : _≡_ {A = ℕ} 0 1 = ap (λ (b : Bool). cond b 0 1) (sym w ∙ ap isWhitespace e ∙ h) in absurd
+    (omega (arith, z)))
 
 pub turn-blank : (argument : Reader) (verb : Bool) (d : ℕ) (s : List ℕ) (p c n : ℕ) → see s p ≡ Char c n → isWhitespace c ≡ true
     → contentTurn argument verb d s p ≡ again (skip isWhitespace s p) (put (0x20 ∷ []) ∷ []) d
 unfolding isWhitespace whiteSpace
 turn-blank argument verb d s p c n e w =
     turn-char argument verb d s p c n e
-    ∙ rw (white-other c 0x5C refl w, white-other c 0x24 refl w, white-other c 0x7B refl w, white-other c 0x7D refl w, white-other c 0x2D refl w, w) refl
+    ∙ rw (white-other c 0x5C refl w, white-other c 0x24 refl w, white-other c 0x7B refl w, white-other c 0x7D refl w, white-other c 0x2D refl w, w)
+    refl
 
 -- a character that is no other case of a turn
 pub record Itself (verb : Bool) (c : ℕ) : Type 0 where
@@ -171,16 +173,20 @@ module _ (argument : Reader) (d : ℕ) (s : List ℕ) (p : ℕ) (l : p < length 
         by-name o q = slash-command k ∙ ap (λ (o : OutOf Part). andThen o (turn d s)) (named ∙ q)
 
         pub took-one : takesOne c n f w s ≡ true
-            → contentTurn argument false d s p ≡ again (nextOf w (see s w)) (put (executeCommand (part s (p + 1) f) (given (part s w (nextOf w (see s w))))) ∷ []) d
+            → contentTurn argument false d s p ≡ again (nextOf w (see s w)) (put (executeCommand (part s (p + 1) f)
+            (given (part s w (nextOf w (see s w))))) ∷ []) d
         unfolding withName
-        took-one t = by-name (ok (nextOf w (see s w)) (put (executeCommand (part s (p + 1) f) (given (part s w (nextOf w (see s w))))) ∷ [])) (rw t refl)
+        took-one t = by-name (ok (nextOf w (see s w)) (put (executeCommand (part s (p + 1) f) (given (part s w (nextOf w (see s w))))) ∷ []))
+            (rw t refl)
 
         module _ (t : takesOne c n f w s ≡ false) where
-          pub took-none : (eqb f w && opensAt (see s w)) ≡ false → contentTurn argument false d s p ≡ again w (put (executeCommand (part s (p + 1) f) absent) ∷ []) d
+          pub took-none : (eqb f w && opensAt (see s w)) ≡ false → contentTurn argument false d s p ≡ again w
+              (put (executeCommand (part s (p + 1) f) absent) ∷ []) d
           unfolding withName
           took-none q = by-name (ok w (put (executeCommand (part s (p + 1) f) absent) ∷ [])) (rw (t, q) refl)
 
-          took-braces : (eqb f w && opensAt (see s w)) ≡ true → contentTurn argument false d s p ≡ andThen (braced argument (part s (p + 1) f) s (w + 1)) (turn d s)
+          took-braces : (eqb f w && opensAt (see s w)) ≡ true → contentTurn argument false d s p ≡ andThen
+              (braced argument (part s (p + 1) f) s (w + 1)) (turn d s)
           unfolding withName
           took-braces q = by-name (braced argument (part s (p + 1) f) s (w + 1)) (rw (t, q) refl)
 
@@ -196,8 +202,10 @@ module _ (argument : Reader) (d : ℕ) (s : List ℕ) (p : ℕ) (l : p < length 
             run a (again r xs b) = refl
             run a (bad g) = refl
 
-            pub took-argument : (a : ℕ) (xs : List Part) → argumentEnd s (w + 1) ≡ ok a xs → turns argument false d s p ≡ opened argument false d s p f (w + 1) a
+            pub took-argument : (a : ℕ) (xs : List Part) → argumentEnd s (w + 1) ≡ ok a xs
+                → turns argument false d s p ≡ opened argument false d s p f (w + 1) a
             unfolding braced
             took-argument a xs r =
-                on argument false d s p (andThen (ran (w + 1) (part s (p + 1) f) (argument (take a s) (w + 1)) (λ v. ok (a + 1) (put v ∷ []))) (turn d s))
+                on argument false d s p (andThen (ran (w + 1) (part s (p + 1) f) (argument (take a s) (w + 1)) (λ v. ok (a + 1) (put v ∷ [])))
+                (turn d s))
                 (took-braces q ∙ rw r refl) ∙ run a (argument (take a s) (w + 1))
