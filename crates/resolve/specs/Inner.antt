@@ -18,7 +18,7 @@ use Rattle.row.specs.declared.fault.Fault.{Fault}
 use Rattle.raw.specs.declared.answer.Step.{Step}
 use Rattle.raw.specs.declared.answer.Step.the-variants as step
 use Rattle.raw.specs.Reader.{OutOf, ok, again, bad, more, many}
-use Rattle.chunk.specs.Chunk.{Chunk, kindOf, ChunkRow, chunkRow, putChunk}
+use Rattle.chunk.specs.Chunk.{Chunk}
 use Rattle.chunk.specs.Format.{formatVerbatim, whiteFrom}
 use Rattle.compose.specs.Lookup.{numbers}
 use Rattle.compose.specs.Composites.{composites}
@@ -27,7 +27,7 @@ use Rattle.command.specs.Stack.{Lays, defaultChunk}
 use Rattle.command.specs.Commands.{meaningOf}
 use Rattle.command.specs.Names.{names as allNames}
 use Rattle.command.specs.Execute.{Argument, given, executeCommand, leading}
-use Rattle.resolve.specs.declared.making.Rows.{Rows}
+use Rattle.resolve.specs.declared.rows.Rows.{Rows}
 use Rattle.resolve.specs.declared.making.Making.{Making}
 use Rattle.resolve.specs.declared.making.Place.{Place}
 use Rattle.resolve.specs.declared.turn.Text.{Text}
@@ -36,48 +36,9 @@ use Rattle.resolve.specs.declared.content.Made.{Made}
 use Rattle.resolve.specs.declared.content.Made.the-variants as made
 use Rattle.resolve.specs.declared.content.Stepped.{Stepped}
 use Rattle.resolve.specs.declared.content.Stepped.the-variants as stepped
-use Rattle.resolve.specs.Content.{Part, put, Reader, State, beginning, steps, chunksOf, contentTurn, ran, isEscape, flatten}
+use Rattle.resolve.specs.Content.{Part, put, cut, Reader, State, beginning, steps, chunksOf, contentTurn, ran, isEscape, flatten}
+use Rattle.resolve.specs.Rows.{RowsHold, textsOf}
 use Rattle.resolve.specs.Literal.{chunkUp}
-
--- ---- rows
-
--- the rows of chunks, where the text of the first begins at t
-unfoldable pub rowsFrom : ℕ → List Chunk → List ChunkRow
-rowsFrom t [] = []
-rowsFrom t (c ∷ cs) = chunkRow (kindOf (c .kind)) t (t + length (c .text)) (c .start) (c .end) ∷ rowsFrom (t + length (c .text)) cs
-
--- rows written from row n on, each where it fits
-unfoldable pub writes : List ℕ → ℕ → List ChunkRow → List ℕ
-writes b n [] = b
-writes b n (r ∷ rs) = writes (putChunk b n r) (suc n) rs
-
-unfoldable pub textsOf : List Chunk → List ℕ
-textsOf [] = []
-textsOf (c ∷ cs) = c .text ++ textsOf cs
-
--- of the last chunk: its kind's number, or 3 where there is none; where its text begins; where its span begins
-unfoldable pub lastKind : List Chunk → ℕ
-lastKind [] = 3
-lastKind (c ∷ []) = kindOf (c .kind)
-lastKind (c ∷ d ∷ cs) = lastKind (d ∷ cs)
-
-unfoldable pub lastText : ℕ → List Chunk → ℕ
-lastText t [] = t
-lastText t (c ∷ []) = t
-lastText t (c ∷ d ∷ cs) = lastText (t + length (c .text)) (d ∷ cs)
-
-unfoldable pub lastStart : List Chunk → ℕ
-lastStart [] = 0
-lastStart (c ∷ []) = c .start
-lastStart (c ∷ d ∷ cs) = lastStart (d ∷ cs)
-
--- k and the numbers b hold the rows of the chunks cs; the numbers were b₀ before any row was written
-pub record RowsHold (cs : List Chunk) (b₀ : List ℕ) (k : Rows) (b : List ℕ) : Type 0 where
-  pub numbers : b ≡ writes b₀ 0 (rowsFrom 0 cs)
-  pub count : k .n ≡ length cs
-  pub last : k .last ≡ lastKind cs
-  pub from : k .from ≡ lastText 0 cs
-  pub start : k .start ≡ lastStart cs
 
 -- ---- content under construction
 
@@ -111,6 +72,24 @@ pub record Holds (place : Place) (t₀ : List ℕ) (ps : List Chunk) (b₀ : Lis
 abbrev pub Goes : Place → List Part → Making → List ℕ → List ℕ → Making → List ℕ → List ℕ → Type 0
 Goes place xs m o b m′ o′ b′ =
     (t₀ : List ℕ) (ps : List Chunk) (b₀ : List ℕ) (σ : State) → Holds place t₀ ps b₀ σ m o b → Holds place t₀ ps b₀ (steps σ xs) m′ o′ b′
+
+-- what ending a chunk asks: the text lies in the bytes, and the places are small enough for rows
+pub record Fits (place : Place) (m : Making) (len : ℕ) : Type 0 where
+  pub from : m .from ≤ m .len
+  pub to : m .len ≤ len
+  pub text : place .text + m .len ≤ 4294967295
+  pub start : place .base + m .start ≤ 4294967295
+  pub rows : m .rows .n ≤ 2000000000000
+
+-- the chunk of m is done and ends at e, and one with d braces open begins at p
+pub record Turned (place : Place) (m : Making) (e d p : ℕ) (o b : List ℕ) (m′ : Making) (o′ b′ : List ℕ) : Type 0 where
+  pub goes : Goes place (cut d e p ∷ []) m o b m′ o′ b′
+  pub at : m′ .at ≡ p
+  pub braces : m′ .braces ≡ d
+  pub start : m′ .start ≡ p
+  pub from : m′ .from ≡ m′ .len
+  pub len : m′ .len ≤ m .len
+  pub rows : m′ .rows .n ≤ m .rows .n + 1
 
 -- ---- a turn
 

@@ -1,17 +1,14 @@
 // Content under construction: the text so far, and the chunks that are done.
-use chunk::form;
+use crate::rows;
+use crate::rows::Rows;
 use chunk::form::Kind;
+use command::settle;
+use command::stack;
 ghost use mathlib.Core.Path.{_≡_};
 ghost use Prim.Native.Nat.{_+_, _≤_, _<_};
 ghost use lib.ListN.{length};
-
-// The rows of chunks so far: how many; of the last one its kind's number, or 3 where there is none, and where its text and its span begin.
-pub struct Rows {
-    pub n: usize,
-    pub last: u32,
-    pub from: usize,
-    pub start: usize,
-}
+ghost use Rattle.command.specs.Stack.{defaultChunk as kindAt};
+ghost use Rattle.resolve.specs.Inner.{Turned, Fits};
 
 // A place in the content and the braces open there; whether a chunk is done; where the chunk under construction starts in the content, and
 // where its text starts and ends; in an argument, whether white space came last; and the rows.
@@ -32,4 +29,66 @@ pub struct Place {
     pub argument: bool,
     pub base: usize,
     pub text: usize,
+}
+
+fn default_chunk(braces: usize) -> Kind
+    ensures { λ r. ⌜ r ≡ kindAt braces ⌝ }
+{
+    if braces == 0 {
+        return Kind::Normal;
+    }
+    Kind::Verbatim
+}
+
+fn narrow(n: usize) -> u32
+    requires { ⌜ n ≤ 4294967295 ⌝ }
+    ensures { λ r. ⌜ r ≡ n ⌝ }
+{
+    n as u32
+}
+
+// The chunk under construction ends at a place, and one with so many braces open begins at another. In an argument its text is formatted, in a
+// literal it becomes a row.
+pub fn turnaround(
+    st: Making,
+    place: Place,
+    end: usize,
+    braces: usize,
+    start: usize,
+    out: &mut [u8],
+    numbers: &mut [u32],
+) -> Making
+    requires { ⌜ Fits place st (length (now out)) × (place .base + end ≤ 4294967295) ⌝ }
+    ensures { λ r. ⌜ Turned place st end braces start (now (out .entry)) (now (numbers .entry)) r (now (out .exit)) (now (numbers .exit)) ⌝ }
+{
+    let have = st.rows;
+    if place.argument {
+        let w = settle::settle(out, st.braces, st.from, st.len, st.white);
+        return Making {
+            at: start,
+            braces,
+            pushed: true,
+            start,
+            from: w.at,
+            len: w.at,
+            white: w.white,
+            rows: have,
+        };
+    }
+    let kind = default_chunk(st.braces);
+    let from = narrow(place.text + st.from);
+    let to = narrow(place.text + st.len);
+    let first = narrow(place.base + st.start);
+    let last = narrow(place.base + end);
+    let more = rows::push(numbers, have, kind, from, to, first, last);
+    Making {
+        at: start,
+        braces,
+        pushed: true,
+        start,
+        from: st.len,
+        len: st.len,
+        white: st.white,
+        rows: more,
+    }
 }

@@ -97,7 +97,8 @@ returns c =
       record {
         len = run .result;
         told = ap (λ (n : ℕ). text.Put n (run .result)) (eat .ensures .0);
-        lays = one-lays (part (a .s .now) (a .at + 1) (a .end)) _ (a .out .now) (a .len) (mean .result) (lead .result) _ (copy .result) _ (run .result)
+        lays = one-lays (part (a .s .now) (a .at + 1) (a .end)) _ (a .out .now) (a .len) (mean .result) (lead .result) _ (copy .result) _
+            (run .result)
             _ (mean .ensures)
             (lead .ensures .0) (lays-as (lead .result) _ _ _ (copy .result) _ (ap (part (a .s .now) (a .after)) (eat .ensures .0)) (copy .ensures .0))
             (omega (arith, room .2)) (omega (arith, room .0, one, copy .ensures .0 .end)) (omega (arith, room .0, one, two)) (run .ensures .0);
