@@ -1,6 +1,7 @@
--- A chunk is done: for `making::turnaround`.
+-- A chunk is done: for `turnaround` and `put_math` of src/making.rt.
 --     held-text, held-below                what stands in the bytes
---     turn-argument, turn-literal          the two ways through it
+--     argument-holds, literal-holds        the two ways through `turnaround`
+--     math-argument, math-literal          the two ways through `put_math`
 -- Assumes nothing.
 use Prim.Native.Nat.{ℕ, zero, suc, _+_, _-_, _≤_, _<_, min}
 use native.Mathlib.Omega.{arith}
@@ -11,16 +12,17 @@ use lib.ListN.{length, take, drop, length-append}
 use lib.Seq.{take-take, take-append-seam, drop-append-seam}
 use Rattle.text.specs.Scan.{part}
 use Rattle.chunk.specs.declared.form.Kind.{Kind}
-use Rattle.chunk.specs.declared.form.Kind.the-variants.{Verbatim}
+use Rattle.chunk.specs.declared.form.Kind.the-variants.{Verbatim, Math}
 use Rattle.chunk.specs.Chunk.{Chunk, chunk}
 use Rattle.chunk.specs.Format.{Written, formatOne, formatVerbatim, whiteFrom}
 use Rattle.chunk.proofs.Parts.{drop-take}
 use Rattle.chunk.proofs.Joins.{format-on, white-on}
 use Rattle.command.specs.Stack.{Lays, defaultChunk}
+use Rattle.command.proofs.Stacks.{lays-on}
 use Rattle.resolve.specs.declared.rows.Rows.{Rows}
 use Rattle.resolve.specs.declared.making.Making.{Making}
 use Rattle.resolve.specs.declared.making.Place.{Place}
-use Rattle.resolve.specs.Content.{Part, cut, State, steps, joins, join, flattenFrom, flatten}
+use Rattle.resolve.specs.Content.{Part, cut, math, State, steps, joins, join, flattenFrom, flatten}
 use Rattle.resolve.specs.Literal.{chunkUp}
 use Rattle.resolve.specs.Rows.{RowsHold, textsOf, onto, Pushes}
 use Rattle.resolve.specs.Inner.{Holds, Goes, RowsHeld, standing, some}
@@ -210,3 +212,115 @@ module _ (place : Place) (t₀ : List ℕ) (ps : List Chunk) (b₀ : List ℕ) (
         where
           apart : (x : Bool) → x ≡ true → x ≡ false → ⊥
           apart x q r = let z : _≡_ {A = ℕ} 0 1 = ap (λ (b : Bool). cond b 0 1) (sym q ∙ r) in omega (arith, z)
+
+-- ---- a chunk of math, behind a chunk that is done
+
+no-text : (t : List ℕ) → length t ≡ 0 → t ≡ []
+no-text [] h = refl
+no-text (b ∷ t) h = absurd (omega (arith, h))
+
+module _ (place : Place) (t₀ : List ℕ) (ps : List Chunk) (b₀ : List ℕ) (σ : State) (m : Making) (o b : List ℕ) (h : Holds place t₀ ps b₀ σ m o b)
+    (same-end : m .from ≡ m .len) (w : List ℕ) (a e : ℕ) (o′ : List ℕ) (l : ℕ) where
+  none : σ .text ≡ []
+  none = no-text (σ .text) (omega (arith, same-end, h .len))
+
+  abbrev μ : Chunk
+  μ = chunk Math w a e
+
+  abbrev S : List ℕ
+  S = standing (place .argument) (σ .done)
+
+  below : take (m .len) o ≡ t₀ ++ S
+  below = h .stack ∙ ap (λ (t : List ℕ). (t₀ ++ S) ++ t) none ∙ append-nil (t₀ ++ S)
+
+  module _ (v : List ℕ) (x : Lays (m .len) v o l o′) (stands : standing (place .argument) (σ .done ++ μ ∷ []) ≡ S ++ v) where
+    stack-math : take l o′ ≡ (t₀ ++ standing (place .argument) (σ .done ++ μ ∷ [])) ++ σ .text
+    stack-math =
+        x .text ∙ ap (λ (t : List ℕ). t ++ v) below ∙ append-assoc t₀ S v ∙ ap (λ (t : List ℕ). t₀ ++ t) (sym stands)
+        ∙ sym (append-nil (t₀ ++ standing (place .argument) (σ .done ++ μ ∷ [])))
+        ∙ ap (λ (t : List ℕ). (t₀ ++ standing (place .argument) (σ .done ++ μ ∷ [])) ++ t) (sym none)
+
+    from-math : l ≡ length t₀ + length (standing (place .argument) (σ .done ++ μ ∷ []))
+    from-math = omega (arith, x .end, same-end, h .from, ap length stands, length-append S v)
+
+  abbrev made : Rows → Making
+  made k = record { at = m .at; braces = m .braces; pushed = true; start = m .start; from = l; len = l; white = m .white; rows = k }
+
+  pub math-argument : place .argument ≡ true → Lays (m .len) (0x24 ∷ w ++ 0x24 ∷ []) o l o′
+      → Holds place t₀ ps b₀ (steps σ (math w a e ∷ [])) (made (m .rows)) o′ b
+  unfolding steps
+  math-argument i x =
+      let stands : standing (place .argument) (σ .done ++ μ ∷ []) ≡ S ++ (0x24 ∷ w ++ 0x24 ∷ []) =
+      ap (λ (x : Bool). standing x (σ .done ++ μ ∷ [])) i ∙ format-on (σ .done) false μ
+      ∙ ap (λ (t : List ℕ). t ++ (0x24 ∷ w ++ 0x24 ∷ [])) (ap (λ (x : Bool). standing x (σ .done)) (sym i)) in
+      record {
+        stack = stack-math (0x24 ∷ w ++ 0x24 ∷ []) x stands;
+        from = from-math (0x24 ∷ w ++ 0x24 ∷ []) x stands;
+        len = omega (arith, ap length none);
+        start = h .start;
+        kind = h .kind;
+        white = λ q. h .white q ∙ sym (white-on (σ .done) false μ);
+        pushed = some-snoc (σ .done) μ;
+        rows = subst (λ (x : Bool). RowsHeld x place t₀ ps b₀ (σ .done ++ μ ∷ []) (m .rows) b) (sym i)
+            (subst (λ (x : Bool). RowsHeld x place t₀ ps b₀ (σ .done) (m .rows) b) i (h .rows));
+      }
+
+  module _ (i : place .argument ≡ false) (x : Lays (m .len) w o l o′) (from to first last : ℕ) (k′ : Rows) (b′ : List ℕ)
+      (u : from ≡ place .text + m .len)
+      (v : to ≡ place .text + l) (y : first ≡ place .base + a) (z : last ≡ place .base + e) (push : Pushes Math from to first last (m .rows) b k′ b′)
+    where
+      abbrev base₁ : ℕ
+      base₁ = place .base
+
+      abbrev every : List Chunk
+      every = ps ++ map (chunkUp base₁) (σ .done)
+
+      held-math : RowsHold (flatten every) b₀ (m .rows) b × (place .text ≡ length (textsOf ps)) × (length t₀ ≡ 0)
+      held-math = subst (λ (x : Bool). RowsHeld x place t₀ ps b₀ (σ .done) (m .rows) b) i (h .rows)
+
+      texts-every : length (textsOf (flatten every)) ≡ place .text + m .len
+      texts-every = omega (
+        arith,
+        ap length (texts-flat every),
+        texts-both ps (map (chunkUp base₁) (σ .done)),
+        ap length (texts-up base₁ (σ .done)),
+        held-math .1,
+        held-math .2,
+        h .from,
+        same-end,
+        ap length (ap (λ (x : Bool). standing x (σ .done)) i),
+      )
+
+      more-math : RowsHold (flatten (ps ++ map (chunkUp base₁) (σ .done ++ μ ∷ []))) b₀ k′ b′
+      more-math =
+          subst (λ (l : List Chunk). RowsHold l b₀ k′ b′)
+          (ap (onto (flatten every)) (ap₂ (λ (p q : ℕ). chunk Math w p q) (omega (arith, y)) (omega (arith, z)))
+          ∙ sym (ap (λ (l : List Chunk). flatten (ps ++ l)) (up-snoc base₁ (σ .done) μ)
+          ∙ ap flatten (sym (append-assoc ps (map (chunkUp base₁) (σ .done)) (chunkUp base₁ μ ∷ []))) ∙ joining every (chunkUp base₁ μ)))
+          (push (flatten every) w b₀ (u ∙ sym texts-every) (omega (arith, u, v, x .end)) (held-math .0))
+
+      pub math-literal : Holds place t₀ ps b₀ (steps σ (math w a e ∷ [])) (made k′) o′ b′
+      unfolding steps
+      math-literal =
+          let stands : standing (place .argument) (σ .done ++ μ ∷ []) ≡ S ++ w =
+          ap (λ (x : Bool). standing x (σ .done ++ μ ∷ [])) i ∙ texts-append (σ .done) μ
+          ∙ ap (λ (t : List ℕ). t ++ w) (ap (λ (x : Bool). standing x (σ .done)) (sym i)) in
+          record {
+            stack = stack-math w x stands;
+            from = from-math w x stands;
+            len = omega (arith, ap length none);
+            start = h .start;
+            kind = h .kind;
+            white = λ q. absurd (apart (place .argument) q i);
+            pushed = some-snoc (σ .done) μ;
+            rows = subst (λ (x : Bool). RowsHeld x place t₀ ps b₀ (σ .done ++ μ ∷ []) k′ b′) (sym i) (more-math, held-math .1, held-math .2);
+          }
+        where
+          apart : (x : Bool) → x ≡ true → x ≡ false → ⊥
+          apart x q r = let z : _≡_ {A = ℕ} 0 1 = ap (λ (b : Bool). cond b 0 1) (sym q ∙ r) in omega (arith, z)
+
+-- three texts, one after another
+pub lays-three : (n : ℕ) (x w y o : List ℕ) (r₁ : ℕ) (o₁ : List ℕ) (r₂ : ℕ) (o₂ : List ℕ) (r : ℕ) (o′ : List ℕ) → Lays n x o r₁ o₁
+    → Lays r₁ w o₁ r₂ o₂
+    → Lays r₂ y o₂ r o′ → Lays n (x ++ w ++ y) o r o′
+lays-three n x w y o r₁ o₁ r₂ o₂ r o′ h k l = lays-on n (x ++ w) y o r₂ o₂ r o′ (lays-on n x w o r₁ o₁ r₂ o₂ h k) l

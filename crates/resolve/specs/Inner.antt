@@ -36,7 +36,7 @@ use Rattle.resolve.specs.declared.content.Made.{Made}
 use Rattle.resolve.specs.declared.content.Made.the-variants as made
 use Rattle.resolve.specs.declared.content.Stepped.{Stepped}
 use Rattle.resolve.specs.declared.content.Stepped.the-variants as stepped
-use Rattle.resolve.specs.Content.{Part, put, cut, Reader, State, beginning, steps, chunksOf, contentTurn, ran, isEscape, flatten}
+use Rattle.resolve.specs.Content.{Part, put, cut, math, Reader, State, beginning, steps, chunksOf, contentTurn, ran, isEscape, flatten}
 use Rattle.resolve.specs.Rows.{RowsHold, textsOf}
 use Rattle.resolve.specs.Literal.{chunkUp}
 
@@ -89,6 +89,16 @@ pub record Turned (place : Place) (m : Making) (e d p : ℕ) (o b : List ℕ) (m
   pub start : m′ .start ≡ p
   pub from : m′ .from ≡ m′ .len
   pub len : m′ .len ≤ m .len
+  pub rows : m′ .rows .n ≤ m .rows .n + 1
+
+-- a chunk of math is done, whose text stands in the content from a to e
+pub record Calculated (s : List ℕ) (a e : ℕ) (place : Place) (m : Making) (o b : List ℕ) (m′ : Making) (o′ b′ : List ℕ) : Type 0 where
+  pub goes : Goes place (math (part s a e) a e ∷ []) m o b m′ o′ b′
+  pub at : m′ .at ≡ m .at
+  pub braces : m′ .braces ≡ m .braces
+  pub start : m′ .start ≡ m .start
+  pub from : m′ .from ≡ m′ .len
+  pub len : m′ .len + a ≤ m .len + e + 2
   pub rows : m′ .rows .n ≤ m .rows .n + 1
 
 -- ---- a turn
@@ -278,10 +288,12 @@ pub record ReadyText (s : List ℕ) (p n : ℕ) (o byName byMark : List ℕ) : T
   pub names : byName ≡ allNames
   pub marks : byMark ≡ numbers composites
 
--- and one that makes chunks of it
-pub record Ready (s : List ℕ) (m : Making) (o byName byMark : List ℕ) : Type 0 where
+-- and one that makes chunks of it: a literal inside 01's limit, in a file inside 01's limit
+pub record Ready (s : List ℕ) (place : Place) (m : Making) (o byName byMark : List ℕ) : Type 0 where
   pub literal : length s ≤ 16384
   pub text : ReadyText s (m .at) (m .len) o byName byMark
   pub from : m .from ≤ m .len
   pub start : m .start ≤ m .at
   pub rows : m .rows .n ≤ 1000000000000 + m .at
+  pub value : place .text + m .len + 2 * length s ≤ 4294900000 + 2 * m .at
+  pub file : place .base ≤ 16777215

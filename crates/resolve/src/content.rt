@@ -1,7 +1,19 @@
 // Content and command argument, which call each other.
+use crate::making;
 use crate::making::Making;
+use crate::making::Place;
+use crate::turn;
+use crate::turn::Text;
 use command::meaning::Meaning;
 use row::fault::Fault;
+use row::fault::Reason;
+use text::class::Test;
+use text::scanner;
+ghost use mathlib.Core.Path.{_≡_};
+ghost use mathlib.Core.Bool.{false};
+ghost use Prim.Native.Nat.{_+_, _≤_, _<_};
+ghost use lib.ListN.{length, getD};
+ghost use Rattle.resolve.specs.Inner.{Further, Ready, Ordinary, SaysStep, AheadStep};
 
 pub enum Made {
     Done(Making),
@@ -19,4 +31,128 @@ pub enum Stepped {
         from: usize,
         to: usize,
     },
+}
+
+// The state at another place, with another end of the text.
+fn further(st: Making, at: usize, len: usize) -> Making
+    ensures { λ r. ⌜ Further st at len r ⌝ }
+{
+    let rows = st.rows;
+    Making {
+        at,
+        braces: st.braces,
+        pushed: st.pushed,
+        start: st.start,
+        from: st.from,
+        len,
+        white: st.white,
+        rows,
+    }
+}
+
+// A dollar sign: the chunk before it is done, and what stands up to the next dollar sign is a chunk of math.
+fn math(
+    s: &[u8],
+    st: Making,
+    place: Place,
+    out: &mut [u8],
+    numbers: &mut [u32],
+    names: &[u8],
+    marks: &[u32],
+) -> Stepped
+    requires { ⌜ Ready (now s) place st (now out) (now names) (now marks) × (st .at < length (now s)) × (getD (now s) (st .at) 0 ≡ 0x24) ⌝ }
+    ensures { λ r. ⌜ SaysStep place false (now (s .entry)) st (now (out .entry)) (now (numbers .entry)) r (now (out .exit)) (now (numbers .exit)) ⌝ }
+    ensures { λ r. ⌜ AheadStep (length (now (s .entry))) st r ⌝ }
+{
+    let at = st.at;
+    let braces = st.braces;
+    let to = scanner::eat_until(s, at + 1, Test::Dollar);
+    if s.len() <= to {
+        return Stepped::Refused(Fault {
+            reason: Reason::UnexpectedEof,
+            start: to,
+            end: to,
+        });
+    }
+    let t = making::turnaround(st, place, at, braces, to + 1, out, numbers);
+    let m = making::put_math(s, at + 1, to, t, place, out, numbers);
+    Stepped::Again(m)
+}
+
+// An opening brace: the chunk before it is done, and a Verbatim one begins.
+fn opening(
+    s: &[u8],
+    verb: bool,
+    st: Making,
+    place: Place,
+    out: &mut [u8],
+    numbers: &mut [u32],
+    names: &[u8],
+    marks: &[u32],
+) -> Stepped
+    requires { ⌜ Ready (now s) place st (now out) (now names) (now marks) × (st .at < length (now s)) × (getD (now s) (st .at) 0 ≡ 0x7B) ×
+        (st .braces ≤ st .at) ⌝ }
+    ensures { λ r. ⌜ SaysStep place verb (now (s .entry)) st (now (out .entry)) (now (numbers .entry)) r (now (out .exit)) (now (numbers .exit)) ⌝ }
+    ensures { λ r. ⌜ AheadStep (length (now (s .entry))) st r ⌝ }
+{
+    let at = st.at;
+    let braces = st.braces;
+    let t = making::turnaround(st, place, at, braces + 1, at + 1, out, numbers);
+    Stepped::Again(t)
+}
+
+// A closing brace: the chunk before it is done, unless no brace is open.
+fn closing(
+    s: &[u8],
+    verb: bool,
+    st: Making,
+    place: Place,
+    out: &mut [u8],
+    numbers: &mut [u32],
+    names: &[u8],
+    marks: &[u32],
+) -> Stepped
+    requires { ⌜ Ready (now s) place st (now out) (now names) (now marks) × (st .at < length (now s)) × (getD (now s) (st .at) 0 ≡ 0x7D) ⌝ }
+    ensures { λ r. ⌜ SaysStep place verb (now (s .entry)) st (now (out .entry)) (now (numbers .entry)) r (now (out .exit)) (now (numbers .exit)) ⌝ }
+    ensures { λ r. ⌜ AheadStep (length (now (s .entry))) st r ⌝ }
+{
+    let at = st.at;
+    let braces = st.braces;
+    if braces == 0 {
+        return Stepped::Refused(Fault {
+            reason: Reason::UnexpectedClosingBrace,
+            start: at,
+            end: at + 1,
+        });
+    }
+    let t = making::turnaround(st, place, at, braces - 1, at + 1, out, numbers);
+    Stepped::Again(t)
+}
+
+// Text, or the end of the content, or a command with an argument.
+fn text_step(
+    s: &[u8],
+    verb: bool,
+    st: Making,
+    place: Place,
+    out: &mut [u8],
+    numbers: &mut [u32],
+    names: &[u8],
+    marks: &[u32],
+) -> Stepped
+    requires { ⌜ Ready (now s) place st (now out) (now names) (now marks) × Ordinary verb (getD (now s) (st .at) 0) ⌝ }
+    ensures { λ r. ⌜ SaysStep place verb (now (s .entry)) st (now (out .entry)) (now (numbers .entry)) r (now (out .exit)) (now (numbers .exit)) ⌝ }
+    ensures { λ r. ⌜ AheadStep (length (now (s .entry))) st r ⌝ }
+{
+    let at = st.at;
+    let len = st.len;
+    match turn::text_at(s, verb, at, out, len, names, marks) {
+        Text::End => Stepped::Done(st),
+        Text::Put { next, len } => {
+            let t = further(st, next, len);
+            Stepped::Again(t)
+        }
+        Text::Refused(f) => Stepped::Refused(f),
+        Text::Argument { m, end, from, to } => Stepped::Argument { m, end, from, to },
+    }
 }

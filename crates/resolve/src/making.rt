@@ -8,7 +8,7 @@ ghost use mathlib.Core.Path.{_≡_};
 ghost use Prim.Native.Nat.{_+_, _≤_, _<_};
 ghost use lib.ListN.{length};
 ghost use Rattle.command.specs.Stack.{defaultChunk as kindAt};
-ghost use Rattle.resolve.specs.Inner.{Turned, Fits};
+ghost use Rattle.resolve.specs.Inner.{Turned, Calculated, Fits};
 
 // A place in the content and the braces open there; whether a chunk is done; where the chunk under construction starts in the content, and
 // where its text starts and ends; in an argument, whether white space came last; and the rows.
@@ -88,6 +88,55 @@ pub fn turnaround(
         start,
         from: st.len,
         len: st.len,
+        white: st.white,
+        rows: more,
+    }
+}
+
+// A chunk of math, whose text stands in the content from a place to another. The chunk before it is done.
+pub fn put_math(
+    s: &[u8],
+    from: usize,
+    to: usize,
+    st: Making,
+    place: Place,
+    out: &mut [u8],
+    numbers: &mut [u32],
+) -> Making
+    requires { ⌜ (from ≤ to) × (to ≤ length (now s)) × (st .len + to + 2 ≤ length (now out) + from) × (st .from ≡ st .len) ⌝ }
+    requires { ⌜ Fits place st (length (now out)) × (place .text + st .len + to ≤ 4294967295) × (place .base + to ≤ 4294967295) ⌝ }
+    ensures { λ r. ⌜ Calculated (now (s .entry)) from to place st (now (out .entry)) (now (numbers .entry)) r (now (out .exit)) (now (numbers .exit))
+        ⌝ }
+{
+    let have = st.rows;
+    if place.argument {
+        let k = stack::push(out, st.len, 0x24);
+        let l = stack::copy(s, from, to, out, k);
+        let e = stack::push(out, l, 0x24);
+        return Making {
+            at: st.at,
+            braces: st.braces,
+            pushed: true,
+            start: st.start,
+            from: e,
+            len: e,
+            white: st.white,
+            rows: have,
+        };
+    }
+    let l = stack::copy(s, from, to, out, st.len);
+    let begins = narrow(place.text + st.len);
+    let ends = narrow(place.text + l);
+    let first = narrow(place.base + from);
+    let last = narrow(place.base + to);
+    let more = rows::push(numbers, have, Kind::Math, begins, ends, first, last);
+    Making {
+        at: st.at,
+        braces: st.braces,
+        pushed: true,
+        start: st.start,
+        from: l,
+        len: l,
         white: st.white,
         rows: more,
     }
