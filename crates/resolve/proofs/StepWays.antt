@@ -4,11 +4,12 @@ use Prim.Native.Nat.{ℕ, zero, suc, _+_, _-_, _*_, _≤_, _<_}
 use native.Mathlib.Omega.{arith}
 use native.Mathlib.Numerals.{add-one, sub-one}
 use mathlib.Core.Path.{_≡_, refl, sym, ap, subst, _∙_}
-use mathlib.Core.Bool.{Bool, true, false}
+use mathlib.Core.Bool.{Bool, true, false, not, _&&_}
 use mathlib.Core.List.{List, [], _∷_, _++_, map, append-assoc, append-nil}
 use lib.ListN.{length, getD, take, length-append}
-use lib.Dec.{ltb}
-use borrow.Author.Tests.{lt-ltb, le-ltb}
+use lib.Dec.{ltb, eqb}
+use borrow.Author.Tests.{lt-ltb, le-ltb, eqb-true, eq-eqb}
+use Rattle.compose.proofs.Rows.{both}
 use Rattle.text.specs.Scan.{skip, fails, part}
 use Rattle.text.specs.declared.class.Test.the-variants as test
 use Rattle.row.specs.declared.fault.Fault.{Fault}
@@ -26,7 +27,7 @@ use Rattle.resolve.specs.declared.turn.Text.the-variants as text
 use Rattle.resolve.specs.declared.content.Stepped.{Stepped}
 use Rattle.resolve.specs.declared.content.Stepped.the-variants as stepped
 use Rattle.resolve.specs.Content.{Part, put, cut, math, Reader, State, refusedByte, step, steps, maths, closing, contentTurn}
-use Rattle.resolve.specs.Inner.{Holds, Goes, RowsHeld, standing, from, turns, concat, SaysText, SaysStep, Turned, Calculated, Further, Ahead, Grows, GrowsText}
+use Rattle.resolve.specs.Inner.{Holds, Goes, RowsHeld, standing, from, turns, concat, SaysText, SaysStep, Turned, Calculated, Further, Ahead, Grows, GrowsText, Ordinary}
 use Rattle.resolve.proofs.Turns.{leads, stopped, turn-open, turn-close, turn-math}
 
 -- ---- math
@@ -159,12 +160,46 @@ module _ (place : Place) (verb : Bool) (s : List ℕ) (m : Making) (o b : List �
 pub ahead-text : (len : ℕ) (m : Making) (r r′ : Text) → r ≡ r′ → GrowsText len (m .at) (m .len) r → GrowsText len (m .at) (m .len) r′
 ahead-text len m r r′ e h = rw e at h
 
-pub ahead-further : (len : ℕ) (m : Making) (q l : ℕ) (m′ : Making) → Grows len 1 (m .at) (m .len) q l → Further m q l m′ → Ahead len 1 m m′
-ahead-further len m q l m′ h f = record {
+pub ahead-further : (len : ℕ) (verb : Bool) (s : List ℕ) (m : Making) (o : List ℕ) (q l : ℕ) (o′ : List ℕ) (r : Text) (m′ : Making) → r ≡ text.Put q l
+    → SaysText verb s (m .at) (m .len) o r o′ → Grows len 1 (m .at) (m .len) q l → m .from ≤ m .len → m .start ≤ m .at → Further m q l m′
+    → Ahead len 1 m m′
+ahead-further len verb s m o q l o′ r m′ e y h x z f = record {
   grows = record {
     at = omega (arith, h .at, f .at);
     inside = omega (arith, h .inside, f .at);
     text = omega (arith, h .text, f .at, f .len);
   };
   rows = omega (arith, h .at, f .at, ap (λ (k : Rows). k .n) (f .rows));
+  braces = omega (arith, h .at, f .at, f .braces);
+  from = let k : SaysText verb s (m .at) (m .len) o (text.Put q l) o′ = rw e at y in omega (arith, k .lays .end, f .from, f .len, x);
+  start = omega (arith, f .start, f .at, h .at, z);
 }
+
+pub step-as : (place : Place) (verb : Bool) (s : List ℕ) (m : Making) (o b : List ℕ) (r : Stepped) (o′ b′ : List ℕ) → verb ≡ false
+    → SaysStep place false s m o b r o′ b′ → SaysStep place verb s m o b r o′ b′
+step-as place verb s m o b r o′ b′ e h = subst (λ (v : Bool). SaysStep place v s m o b r o′ b′) (sym e) h
+
+-- at which bytes a turn writes text only
+pub dollar-tests : (b : ℕ) (verb : Bool) → (eqb b 0x24 && not verb) ≡ true → (b ≡ 0x24) × (verb ≡ false)
+dollar-tests b verb h = let x = both (eqb b 0x24) (not verb) h in (eqb-true b 0x24 (x .0), no verb (x .1))
+  where
+    no : (v : Bool) → not v ≡ true → v ≡ false
+    no true h = sym h
+    no false h = refl
+
+pub ordinary : (b : ℕ) (verb : Bool) → (b ≡ 0x7B → ⊥) → (b ≡ 0x7D → ⊥) → (eqb b 0x24 && not verb) ≡ false → Ordinary verb b
+ordinary b verb h k f = (h, k, λ e. by verb (ap (λ (w : Bool). w && not verb) (sym (eq-eqb b 0x24 e)) ∙ f))
+  where
+    by : (v : Bool) → not v ≡ false → v ≡ true
+    by true h = refl
+    by false h = sym h
+
+none-there : (s : List ℕ) (i : ℕ) → length s ≤ i → getD s i 0 ≡ 0
+none-there [] i h = refl
+none-there (b ∷ s) zero h = absurd (omega (arith, h))
+none-there (b ∷ s) (suc i) h = none-there s i (omega (arith, h))
+
+pub ordinary-end : (s : List ℕ) (i : ℕ) (verb : Bool) → length s ≤ i → Ordinary verb (getD s i 0)
+ordinary-end s i verb h =
+    let z = none-there s i h in
+    ((λ e. omega (arith, z, e)), (λ e. omega (arith, z, e)), (λ e. absurd (omega (arith, z, e))))

@@ -266,10 +266,13 @@ GrowsText len p n (text.Put q l) = Grows len 1 p n q l
 GrowsText len p n (text.Refused f) = Unit {0}
 GrowsText len p n (text.Argument k end a e) = Spans len p end a e
 
--- the same of a state, which has a new row for each byte at most
+-- the same of a state, which has a new row and a new open brace for each byte at most, and whose chunk begins before its end
 pub record Ahead (len v : ℕ) (m m′ : Making) : Type 0 where
   pub grows : Grows len v (m .at) (m .len) (m′ .at) (m′ .len)
   pub rows : m′ .rows .n + m .at ≤ m .rows .n + m′ .at
+  pub braces : m′ .braces + m .at ≤ m .braces + m′ .at
+  pub from : m′ .from ≤ m′ .len
+  pub start : m′ .start ≤ m′ .at
 
 abbrev pub AheadMade : ℕ → ℕ → Making → Made → Type 0
 AheadMade len v m (made.Done m′) = Ahead len v m m′
@@ -294,6 +297,7 @@ pub record Ready (s : List ℕ) (place : Place) (m : Making) (o byName byMark : 
   pub text : ReadyText s (m .at) (m .len) o byName byMark
   pub from : m .from ≤ m .len
   pub start : m .start ≤ m .at
+  pub braces : m .braces ≤ m .at
   pub rows : m .rows .n ≤ 1000000000000 + m .at
   pub value : place .text + m .len + 2 * length s ≤ 4294900000 + 2 * m .at
   pub file : place .base ≤ 16777215

@@ -156,3 +156,35 @@ fn text_step(
         Text::Argument { m, end, from, to } => Stepped::Argument { m, end, from, to },
     }
 }
+
+// One turn of content, or several over a run of characters; everything but a command's argument.
+fn step(
+    s: &[u8],
+    verb: bool,
+    st: Making,
+    place: Place,
+    out: &mut [u8],
+    numbers: &mut [u32],
+    names: &[u8],
+    marks: &[u32],
+) -> Stepped
+    requires { ⌜ Ready (now s) place st (now out) (now names) (now marks) ⌝ }
+    ensures { λ r. ⌜ SaysStep place verb (now (s .entry)) st (now (out .entry)) (now (numbers .entry)) r (now (out .exit)) (now (numbers .exit)) ⌝ }
+    ensures { λ r. ⌜ AheadStep (length (now (s .entry))) st r ⌝ }
+{
+    let at = st.at;
+    if at < s.len() {
+        let b = s[at];
+        if b == 0x7b {
+            return opening(s, verb, st, place, out, numbers, names, marks);
+        }
+        if b == 0x7d {
+            return closing(s, verb, st, place, out, numbers, names, marks);
+        }
+        if (b == 0x24) & !verb {
+            return math(s, st, place, out, numbers, names, marks);
+        }
+        return text_step(s, verb, st, place, out, numbers, names, marks);
+    }
+    text_step(s, verb, st, place, out, numbers, names, marks)
+}

@@ -51,7 +51,8 @@ returns-2 c =
     let turn = c .before .before .before .before .before .before .before .before .before .before .before .turnaround in
     let math = c .before .before .before .before .put-math in
     let from = eat .ensures .1 .from in (
-      math-again (a .place) (a .s .now) (a .st) (a .out .now) (a .numbers .now) (p .1) (p .2) (eat .result) (eat .ensures .0) inside (turn .result) _ _
+      math-again (a .place) (a .s .now) (a .st) (a .out .now) (a .numbers .now) (p .1) (p .2) (eat .result) (eat .ensures .0) inside (turn .result) _
+          _
           (math .result) _ _ (turn .ensures) (math .ensures),
       record {
         grows = record {
@@ -60,6 +61,9 @@ returns-2 c =
           text = omega (arith, math .ensures .at, turn .ensures .at, math .ensures .len, turn .ensures .len, from);
         };
         rows = omega (arith, math .ensures .at, turn .ensures .at, math .ensures .rows, turn .ensures .rows, from);
+        braces = omega (arith, math .ensures .at, turn .ensures .at, math .ensures .braces, turn .ensures .braces, from);
+        from = omega (arith, math .ensures .from);
+        start = omega (arith, math .ensures .start, math .ensures .at, turn .ensures .start, turn .ensures .at);
       },
     )
 

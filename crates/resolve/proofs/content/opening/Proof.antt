@@ -38,6 +38,9 @@ returns c =
           text = omega (arith, turn .ensures .at, turn .ensures .len);
         };
         rows = omega (arith, turn .ensures .at, turn .ensures .rows);
+        braces = omega (arith, turn .ensures .at, turn .ensures .braces);
+        from = omega (arith, turn .ensures .from);
+        start = omega (arith, turn .ensures .start, turn .ensures .at);
       },
     )
 

@@ -45,11 +45,13 @@ returns-2 c =
     let a = c .before .before .before .before .before .before .before .before .before .before .before .before .before .args in
     let turn = c .before .before .before .before .before .before .text-at in
     let is = c .before .before .next .given .1 in
+    let ready = c .before .before .before .before .before .before .before .before .before .before .before .before .before .pre .0 in
     let next = c .further in
     let grows = ahead-text (length (a .s .now)) (a .st) (turn .result) _ is (turn .ensures .1) in (
       text-put (a .place) (a .verb) (a .s .now) (a .st) (a .out .now) (a .numbers .now) (turn .result) _ (turn .ensures .0) _ _ is (next .result)
           (next .ensures),
-      ahead-further (length (a .s .now)) (a .st) _ _ (next .result) grows (next .ensures),
+      ahead-further (length (a .s .now)) (a .verb) (a .s .now) (a .st) (a .out .now) _ _ _ (turn .result) (next .result) is (turn .ensures .0) grows
+          (ready .from) (ready .start) (next .ensures),
     )
 
 same-length-3 : tie.Need-same-length-3
