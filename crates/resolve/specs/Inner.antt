@@ -240,6 +240,19 @@ pub record Begun (name : List ℕ) (k : Meaning) (p : ℕ) (m : Making) (o : Lis
   pub braces : i .braces ≡ 0
   pub holds : Holds inArgument (take (m .len) o ++ leading name k) [] [] (beginning p) i o′ []
 
+-- where an argument stands when its content is read: the command's text begins where m's ends, what it writes before the argument ends at
+-- `lead`, and the chunk that t makes lies behind
+pub record Closes (s : List ℕ) (end to lead : ℕ) (m t : Making) (o : List ℕ) : Type 0 where
+  pub name : m .at + 2 ≤ end
+  pub from : end + 1 ≤ to
+  pub inside : to < length s
+  pub first : m .len ≤ lead
+  pub short : lead + (m .at + 1) ≤ m .len + end + 2
+  pub chunk : lead ≤ t .from
+  pub last : t .from ≤ t .len
+  pub text : t .len + 2 * (end + 1) ≤ lead + 2 * to
+  pub room : m .len + 2 * length s ≤ length o + 2 * m .at
+
 -- what is made of an argument's content, which t holds, where the text T stood before the command
 abbrev pub Finished : List ℕ → Meaning → ℕ → ℕ → Making → Making → List ℕ → Making → List ℕ → Type 0
 Finished name k p e m t o m′ o′ =

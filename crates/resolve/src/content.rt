@@ -2,18 +2,26 @@
 use crate::making;
 use crate::making::Making;
 use crate::making::Place;
+use crate::rows::Rows;
 use crate::turn;
 use crate::turn::Text;
+use command::execute;
 use command::meaning::Meaning;
+use command::settle;
 use row::fault::Fault;
 use row::fault::Reason;
 use text::class::Test;
 use text::scanner;
 ghost use mathlib.Core.Path.{_≡_};
 ghost use mathlib.Core.Bool.{false};
-ghost use Prim.Native.Nat.{_+_, _≤_, _<_};
+ghost use Prim.Native.Nat.{_+_, _*_, _≤_, _<_};
 ghost use lib.ListN.{length, getD};
-ghost use Rattle.resolve.specs.Inner.{Further, Ready, Ordinary, SaysStep, AheadStep};
+ghost use Rattle.text.specs.Scan.{part};
+ghost use Rattle.compose.specs.Lookup.{numbers};
+ghost use Rattle.compose.specs.Composites.{composites};
+ghost use Rattle.command.specs.Commands.{meaningOf};
+ghost use Rattle.command.specs.Execute.{leading};
+ghost use Rattle.resolve.specs.Inner.{Further, Ready, Ordinary, SaysStep, AheadStep, Begun, Finished, Closes};
 
 pub enum Made {
     Done(Making),
@@ -187,4 +195,55 @@ fn step(
         return text_step(s, verb, st, place, out, numbers, names, marks);
     }
     text_step(s, verb, st, place, out, numbers, names, marks)
+}
+
+// What a command writes before its argument, and the state with which the argument's content begins.
+fn begin(s: &[u8], m: Meaning, end: usize, from: usize, st: Making, out: &mut [u8]) -> Making
+    requires { ⌜ (st .at + 2 ≤ end) × (end + 1 ≡ from) × (from ≤ length (now s)) × (st .len + 2 * length (now s) ≤ length (now out) + 2 * st .at) ⌝ }
+    ensures { λ r. ⌜ Begun (part (now (s .entry)) (st .at + 1) end) m from st (now (out .entry)) r (now (out .exit)) ⌝ }
+    ensures { λ r. ⌜ r .len + (st .at + 1) ≤ st .len + end + 2 ⌝ }
+{
+    let at = st.at;
+    let len = st.len;
+    let lead = execute::execute_before(m, s, at + 1, end, out, len);
+    let rows = Rows {
+        n: 0,
+        last: 3,
+        from: 0,
+        start: 0,
+    };
+    Making {
+        at: from,
+        braces: 0,
+        pushed: false,
+        start: from,
+        from: lead,
+        len: lead,
+        white: false,
+        rows,
+    }
+}
+
+// A command whose argument's content has been read, behind what the command wrote before it up to `lead`: the state behind its closing brace.
+fn finish(
+    s: &[u8],
+    m: Meaning,
+    end: usize,
+    to: usize,
+    lead: usize,
+    st: Making,
+    t: Making,
+    out: &mut [u8],
+    marks: &[u32],
+) -> Making
+    requires { ⌜ (now marks ≡ numbers composites) × (m ≡ meaningOf (part (now s) (st .at + 1) end)) ⌝ }
+    requires { ⌜ Closes (now s) end to lead st t (now out) × (part (now out) (st .len) lead ≡ leading (part (now s) (st .at + 1) end) m) ⌝ }
+    ensures { λ r. ⌜ Finished (part (now (s .entry)) (st .at + 1) end) m (end + 1) to st t (now (out .entry)) r (now (out .exit)) ⌝ }
+    ensures { λ r. ⌜ (r .at ≡ to + 1) × (r .len + 2 * st .at ≤ st .len + 2 * (to + 1)) ⌝ }
+{
+    let at = st.at;
+    let len = st.len;
+    let w = settle::settle(out, t.braces, t.from, t.len, t.white);
+    let l = execute::execute_command(marks, m, s, at + 1, end, out, len, lead, w.at);
+    further(st, to + 1, l)
 }
