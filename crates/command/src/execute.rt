@@ -122,7 +122,8 @@ pub fn execute_command(
     to: usize,
 ) -> usize
     requires { ⌜ (now marks ≡ numbers composites) × Sane m × (a ≤ e) × (e ≤ length (now s)) × (at + e ≤ length (now out) + a) ⌝ }
-    requires { ⌜ (at ≤ from) × (from ≤ to) × (to < length (now out)) × (at + to + 2 ≤ length (now out) + from) × (at + 3 ≤ length (now out)) × (part (now out) at from ≡ leading (part (now s) a e) m) ⌝ }
+    requires { ⌜ (at ≤ from) × (from ≤ to) × (to < length (now out)) × (at + to + 2 ≤ length (now out) + from) × (at + 3 ≤ length (now out)) ×
+        (part (now out) at from ≡ leading (part (now s) a e) m) ⌝ }
     ensures { λ r. ⌜ Lays at (executed (part (now (s .entry)) a e) (given (part (now (out .entry)) from to)) m) (now (out .entry)) r (now (out .exit))
         ⌝ }
     ensures { λ r. ⌜ r + from + a ≤ max (max (to + 1 + from + a) (at + 3 + e + from)) (at + to + 2 + a) ⌝ }

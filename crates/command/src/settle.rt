@@ -59,7 +59,8 @@ fn lines(t: &mut [u8], from: usize, to: usize, white: bool) -> Formatted
 // A chunk of an argument with so many braces open, whose text stands from a place to another.
 pub fn settle(t: &mut [u8], braces: usize, from: usize, to: usize, white: bool) -> Formatted
     requires { ⌜ (from ≤ to) × (to ≤ length (now t)) ⌝ }
-    ensures { λ r. ⌜ Lays from (formatOne white (defaultChunk braces) (part (now (t .entry)) from to) .text) (now (t .entry)) (r .at) (now (t .exit)) ⌝ }
+    ensures { λ r. ⌜ Lays from (formatOne white (defaultChunk braces) (part (now (t .entry)) from to) .text) (now (t .entry)) (r .at) (now (t .exit))
+        ⌝ }
     ensures { λ r. ⌜ (r .white ≡ formatOne white (defaultChunk braces) (part (now (t .entry)) from to) .white) × (r .at ≤ to) ⌝ }
 {
     if braces == 0 {

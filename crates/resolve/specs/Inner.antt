@@ -1,9 +1,9 @@
 -- The contracts' words of the inner functions: what the text under construction and the rows hold while content is read.
 --     Holds, Goes             a state of specs/Content.antt as the code has it; from one to the next
 --     SaysText, SaysStep      a turn that writes text; a turn
---     Says, SaysArgument      content; a command with its argument
+--     Begun, Finished         how a command's argument begins and ends
 --     Ahead, Ready            bounds: the text grows by at most two bytes for each byte read
--- Nothing is said of the text and the rows after a refusal: `resolve_literal` counts first, over no rows, and wipes at last.
+-- Nothing is said of the text and the rows after a refusal: a literal is counted first, over no rows, and its bytes are wiped at last.
 -- Assumes nothing.
 use Prim.Native.Nat.{ℕ, suc, _+_, _*_, _≤_, _<_, max}
 use mathlib.Core.Path.{_≡_}
@@ -32,8 +32,6 @@ use Rattle.resolve.specs.declared.making.Making.{Making}
 use Rattle.resolve.specs.declared.making.Place.{Place}
 use Rattle.resolve.specs.declared.turn.Text.{Text}
 use Rattle.resolve.specs.declared.turn.Text.the-variants as text
-use Rattle.resolve.specs.declared.content.Made.{Made}
-use Rattle.resolve.specs.declared.content.Made.the-variants as made
 use Rattle.resolve.specs.declared.content.Stepped.{Stepped}
 use Rattle.resolve.specs.declared.content.Stepped.the-variants as stepped
 use Rattle.resolve.specs.Content.{Part, put, cut, math, Reader, State, beginning, steps, chunksOf, contentTurn, ran, isEscape, flatten}
@@ -192,16 +190,7 @@ SaysStep place verb s m o b (stepped.Argument k end a e) o′ b′ =
     ((argument : Reader) → from argument verb s m ≡ opened argument verb (m .braces) s (m .at) end a e)
     × (k ≡ meaningOf (part s (m .at + 1) end)) × (o′ ≡ o) × (b′ ≡ b)
 
--- ---- content, and a command with its argument
-
--- content that comes to an outcome answers r
-abbrev pub Says : Place → OutOf Part → Making → List ℕ → List ℕ → Made → List ℕ → List ℕ → Type 0
-Says place (ok q xs) m o b (made.Done m′) o′ b′ = (m′ .at ≡ q) × Goes place xs m o b m′ o′ b′
-Says place (ok q xs) m o b (made.Refused f) o′ b′ = ⊥
-Says place (again q xs a) m o b (made.Done m′) o′ b′ = (m′ .at ≡ q) × Goes place xs m o b m′ o′ b′
-Says place (again q xs a) m o b (made.Refused f) o′ b′ = ⊥
-Says place (bad g) m o b (made.Done m′) o′ b′ = ⊥
-Says place (bad g) m o b (made.Refused f) o′ b′ = f ≡ g
+-- ---- a command with its argument
 
 -- m at another place, with another end of the text
 pub record Further (m : Making) (q l : ℕ) (m′ : Making) : Type 0 where
@@ -217,18 +206,6 @@ pub record Further (m : Making) (q l : ℕ) (m′ : Making) : Type 0 where
 -- the text of a command whose argument from p to q has the parts xs
 abbrev pub wholeText : List ℕ → ℕ → ℕ → List Part → List ℕ
 wholeText name p q xs = executeCommand name (given (formatVerbatim (chunksOf p q xs)))
-
--- one text is laid onto m's, which goes on behind the brace at e
-abbrev pub Puts : List ℕ → ℕ → Making → List ℕ → Making → List ℕ → Type 0
-Puts w e m o m′ o′ = Further m (e + 1) (m′ .len) m′ × Lays (m .len) w o (m′ .len) o′
-
-abbrev pub SaysArgument : OutOf Part → List ℕ → ℕ → ℕ → Making → List ℕ → Made → List ℕ → Type 0
-SaysArgument (ok q xs) name p e m o (made.Done m′) o′ = Puts (wholeText name p q xs) e m o m′ o′
-SaysArgument (ok q xs) name p e m o (made.Refused f) o′ = ⊥
-SaysArgument (again q xs a) name p e m o (made.Done m′) o′ = Puts (wholeText name p q xs) e m o m′ o′
-SaysArgument (again q xs a) name p e m o (made.Refused f) o′ = ⊥
-SaysArgument (bad g) name p e m o (made.Done m′) o′ = ⊥
-SaysArgument (bad g) name p e m o (made.Refused f) o′ = f ≡ g
 
 -- the place of an argument: it has no rows
 abbrev pub inArgument : Place
@@ -286,10 +263,6 @@ pub record Ahead (len v : ℕ) (m m′ : Making) : Type 0 where
   pub braces : m′ .braces + m .at ≤ m .braces + m′ .at
   pub from : m′ .from ≤ m′ .len
   pub start : m′ .start ≤ m′ .at
-
-abbrev pub AheadMade : ℕ → ℕ → Making → Made → Type 0
-AheadMade len v m (made.Done m′) = Ahead len v m m′
-AheadMade len v m (made.Refused f) = Unit {0}
 
 abbrev pub AheadStep : ℕ → Making → Stepped → Type 0
 AheadStep len m (stepped.Again m′) = Ahead len 1 m m′

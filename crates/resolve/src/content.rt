@@ -1,4 +1,4 @@
-// Content and command argument, which call each other.
+// The turns of content, and how a command's argument begins and ends.
 use crate::making;
 use crate::making::Making;
 use crate::making::Place;
@@ -22,11 +22,6 @@ ghost use Rattle.compose.specs.Composites.{composites};
 ghost use Rattle.command.specs.Commands.{meaningOf};
 ghost use Rattle.command.specs.Execute.{leading};
 ghost use Rattle.resolve.specs.Inner.{Further, Ready, Ordinary, SaysStep, AheadStep, Begun, Finished, Closes};
-
-pub enum Made {
-    Done(Making),
-    Refused(Fault),
-}
 
 // What a turn came to: content goes on, is done or refused; or a command has an argument.
 pub enum Stepped {

@@ -98,7 +98,8 @@ returns c =
       (
         next .ensures .at,
         subst (λ (n : ℕ). n + 2 * a .st .at ≤ a .st .len + 2 * (a .to + 1)) (sym (next .ensures .len))
-            (finish-grows (a .st .at) (a .end) (a .to) (a .st .len) (a .lead) (a .t .len) (settle .result .at) (run .result) (closes .name) (closes .from)
+            (finish-grows (a .st .at) (a .end) (a .to) (a .st .len) (a .lead) (a .t .len) (settle .result .at) (run .result) (closes .name)
+            (closes .from)
             (closes .first) (closes .short) (omega (arith, closes .chunk, settle .ensures .0 .end)) (settle .ensures .1 .1) (closes .text)
             (run .ensures .1)),
       ),
