@@ -1,13 +1,15 @@
 -- What the check and the writers answer.
---     ill-formed, bad-rows, sound      the check
---     refused, no-room, wrote          a writer, by what the check says and its first pass counts
+--     ill-formed, bad-rows, sound, are-chunks    the check
+--     refused, no-room, wrote                    a writer, by what the check says and its first pass counts
+--     written                                    what a writer has written
 -- Assumes nothing.
 use Prim.Native.Nat.{ℕ}
 use native.Mathlib.Omega.{arith}
 use mathlib.Core.Path.{_≡_, refl, sym, ap, subst, _∙_}
 use mathlib.Core.Bool.{Bool, true, false, cond}
-use mathlib.Core.List.{List}
-use lib.ListN.{length}
+use mathlib.Core.List.{List, _++_}
+use lib.ListN.{length, take, drop}
+use lib.Seq.{take-at}
 use lib.Dec.{leb}
 use borrow.Author.Tests.{leb-true}
 use Rattle.text.specs.Utf8.{validityOf}
@@ -40,36 +42,49 @@ pub bad-rows : (t l : List ℕ) → validityOf t ≡ validity.Valid → areChunk
 unfolding checkedOf
 bad-rows t l e h = sym (ap (rowsChecked t l) e ∙ rw h refl)
 
-both-sound : (t l : List ℕ) (v : Validity) → checked.Sound ≡ rowsChecked t l v → areChunks t l ≡ true
-both-sound t l validity.Valid e = by (areChunks t l) e
+both-sound : (t l : List ℕ) (v : Validity) → checked.Sound ≡ rowsChecked t l v → (v ≡ validity.Valid) × (areChunks t l ≡ true)
+both-sound t l validity.Valid e = (refl, by (areChunks t l) e)
   where
     by : (x : Bool) → checked.Sound ≡ cond x checked.Sound (checked.Refused (nowhere BadRows)) → x ≡ true
     by true e = refl
     by false e = let z : _≡_ {A = ℕ} 0 1 = cc in absurd (omega arith)
 both-sound t l (validity.IllFormed n) e = let z : _≡_ {A = ℕ} 0 1 = cc in absurd (omega arith)
 
-pub are-chunks : (t l : List ℕ) → checkedOf t l ≡ checked.Sound → areChunks t l ≡ true
+pub are-chunks : (t l : List ℕ) → checkedOf t l ≡ checked.Sound → (validityOf t ≡ validity.Valid) × (areChunks t l ≡ true)
 unfolding checkedOf
 are-chunks t l e = both-sound t l (validityOf t) (sym e)
 
 -- ---- a writer
 
-pub refused : (c : Checked) (w b : List ℕ) (f : Fault) → c ≡ checked.Refused f → Write c w b (writing.Refused f) b
-refused c w b f e = subst (λ (x : Checked). Write x w b (writing.Refused f) b) (sym e) (record { answer = refl; bytes = refl })
+module _ {c : Checked} {w b : List ℕ} where
+  pub refused : {f : Fault} → c ≡ checked.Refused f → Write c w b (writing.Refused f) b
+  refused {f} e = subst (λ (x : Checked). Write x w b (writing.Refused f) b) (sym e) (record { answer = refl; bytes = refl })
 
-pub no-room : (c : Checked) (w b : List ℕ) → c ≡ checked.Sound → totalOf w (length b) ≡ total.More → Write c w b (writing.Refused (nowhere NoRoom)) b
-no-room c w b e q = subst (λ (x : Checked). Write x w b (writing.Refused (nowhere NoRoom)) b) (sym e) (by (leb (length w) (length b)) refl q)
-  where
-    by : (x : Bool) → leb (length w) (length b) ≡ x → cond x (total.Bytes (length w)) total.More ≡ total.More → Write checked.Sound w b (writing.Refused (nowhere NoRoom)) b
-    by true p q = let z : _≡_ {A = ℕ} 0 1 = cc in absurd (omega arith)
-    by false p q = record { answer = rw p refl; bytes = rw p refl }
+  pub no-room : c ≡ checked.Sound → totalOf w (length b) ≡ total.More → Write c w b (writing.Refused (nowhere NoRoom)) b
+  no-room e q = subst (λ (x : Checked). Write x w b (writing.Refused (nowhere NoRoom)) b) (sym e) (by (leb (length w) (length b)) refl q)
+    where
+      by : (x : Bool) → leb (length w) (length b) ≡ x → cond x (total.Bytes (length w)) total.More ≡ total.More →
+          Write checked.Sound w b (writing.Refused (nowhere NoRoom)) b
+      by true p q = let z : _≡_ {A = ℕ} 0 1 = cc in absurd (omega arith)
+      by false p q = record { answer = rw p refl; bytes = rw p refl }
 
-pub wrote : (c : Checked) (w b : List ℕ) (n : ℕ) (r : Total) (b′ : List ℕ) → c ≡ checked.Sound → totalOf w (length b) ≡ total.Bytes n → Fills w (length b) b r b′ → Write c w b (writing.Written n) b′
-wrote c w b n r b′ e q f = subst (λ (x : Checked). Write x w b (writing.Written n) b′) (sym e) (by (leb (length w) (length b)) refl q)
+  pub wrote : {n : ℕ} {r : Total} {b′ : List ℕ} → c ≡ checked.Sound → totalOf w (length b) ≡ total.Bytes n → Fills w (length b) b r b′ →
+      Write c w b (writing.Written n) b′
+  wrote {n} {b′ = b′} e q f = subst (λ (x : Checked). Write x w b (writing.Written n) b′) (sym e) (by (leb (length w) (length b)) refl q)
+    where
+      by : (x : Bool) → leb (length w) (length b) ≡ x → cond x (total.Bytes (length w)) total.More ≡ total.Bytes n →
+          Write checked.Sound w b (writing.Written n) b′
+      by true p q =
+          let m : length w ≡ n = cc in
+          let l = leb-true (length w) (length b) p in
+          record { answer = rw p (ap writing.Written (sym m)); bytes = f .bytes l ∙ sets-fits w b l ∙ rw p refl }
+      by false p q = let z : _≡_ {A = ℕ} 0 1 = cc in absurd (omega arith)
+
+pub written : (c : Checked) {w b b′ : List ℕ} {n : ℕ} → Write c w b (writing.Written n) b′ → (c ≡ checked.Sound) × (take n b′ ≡ w)
+written (checked.Refused f) h = let e = h .answer in let z : _≡_ {A = ℕ} 0 1 = cc in absurd (omega arith)
+written checked.Sound {w} {b} {b′} {n} h = (refl, by (leb (length w) (length b)) (h .answer) (h .bytes))
   where
-    by : (x : Bool) → leb (length w) (length b) ≡ x → cond x (total.Bytes (length w)) total.More ≡ total.Bytes n → Write checked.Sound w b (writing.Written n) b′
-    by true p q =
-        let m : length w ≡ n = cc in
-        let l = leb-true (length w) (length b) p in
-        record { answer = rw p (ap writing.Written (sym m)); bytes = f .bytes l ∙ sets-fits w b l ∙ rw p refl }
-    by false p q = let z : _≡_ {A = ℕ} 0 1 = cc in absurd (omega arith)
+    by : (x : Bool) → writing.Written n ≡ cond x (writing.Written (length w)) (writing.Refused (nowhere NoRoom)) →
+        b′ ≡ cond x (w ++ drop (length w) b) b → take n b′ ≡ w
+    by true e q = let m : length w ≡ n = cc in ap (take n) q ∙ take-at w (drop (length w) b) n m
+    by false e q = let z : _≡_ {A = ℕ} 0 1 = cc in absurd (omega arith)

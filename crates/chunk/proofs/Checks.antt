@@ -21,16 +21,20 @@ rowAt l i = chunkRow (getD l i 0) (getD l (i + 1) 0) (getD l (i + 2) 0) (getD l 
 pub rows-open : (l : List ℕ) (i : ℕ) → i + 5 ≤ length l → chunkRows (drop i l) ≡ rowAt l i ∷ chunkRows (drop (i + 5) l)
 unfolding chunkRows
 rows-open l i h =
-    rw (drop-next l i (omega arith), drop-more l i 1 2 (omega arith) refl, drop-more l i 2 3 (omega arith) refl, drop-more l i 3 4 (omega arith) refl, drop-more l i 4 5 (omega arith) refl)
+    let second = drop-more l i 1 2 (omega arith) refl in
+    let third = drop-more l i 2 3 (omega arith) refl in
+    let fourth = drop-more l i 3 4 (omega arith) refl in
+    let fifth = drop-more l i 4 5 (omega arith) refl in rw (drop-next l i (omega arith), second, third, fourth, fifth)
 
 pub rows-end : (l : List ℕ) (i : ℕ) → length l ≤ i → chunkRows (drop i l) ≡ []
 unfolding chunkRows
 rows-end l i h = ap chunkRows (drop-of-length-le l h)
 
 -- a test of a row, of its numbers as the code reads them
-pub told : (t l : List ℕ) (i : ℕ) {k a e : ℕ} {x : Bool} → Stores l i k a e → isChunk t (chunkRow k a e 0 0) ≡ x → isChunk t (rowAt l i) ≡ x
-told t l i {k} {a} {e} r h =
-    sym (ap₂ (λ (x y : ℕ). isChunk t (chunkRow x y e 0 0)) (r .kind) (r .from) ∙ ap (λ (y : ℕ). isChunk t (chunkRow (getD l i 0) (getD l (i + 1) 0) y 0 0)) (r .to)) ∙ h
+pub told : (t l : List ℕ) {i k a e : ℕ} {x : Bool} → Stores l i k a e → isChunk t (chunkRow k a e 0 0) ≡ x → isChunk t (rowAt l i) ≡ x
+told t l {i} {k} {a} {e} r h =
+    let two = ap₂ (λ (x y : ℕ). isChunk t (chunkRow x y e 0 0)) (r .kind) (r .from) in
+    sym (two ∙ ap (λ (y : ℕ). isChunk t (chunkRow (getD l i 0) (getD l (i + 1) 0) y 0 0)) (r .to)) ∙ h
 
 -- ---- the loop, where the rows before number i are chunks'
 
@@ -43,24 +47,25 @@ pub checking : (t l : List ℕ) → length l % 5 ≡ 0 → Checking t l 0
 unfolding areChunks
 checking t l h = record { same = rw (eq-eqb (length l % 5) 0 h) refl; whole = omega arith; inside = omega arith }
 
-pub five : (t l : List ℕ) (i : ℕ) → Checking t l i → i < length l → i + 5 ≤ length l
-five t l i g h = omega (arith, g .whole)
+module _ {t l : List ℕ} {i : ℕ} (g : Checking t l i) where
+  module _ (h : i < length l) where
+    pub five : i + 5 ≤ length l
+    five = omega (arith, g .whole)
 
-module _ (t l : List ℕ) (i : ℕ) (g : Checking t l i) (h : i < length l) where
-  pub opened : isChunk t (rowAt l i) && everyChunk t (chunkRows (drop (i + 5) l)) ≡ areChunks t l
+    pub opened : isChunk t (rowAt l i) && everyChunk t (chunkRows (drop (i + 5) l)) ≡ areChunks t l
+    unfolding everyChunk
+    opened = sym (ap (everyChunk t) (rows-open l i five)) ∙ g .same
+
+    pub check-turn : isChunk t (rowAt l i) ≡ true → Checking t l (i + 5)
+    check-turn e = record { same = rw e at opened; whole = omega (arith, g .whole); inside = five }
+
+    pub check-stop : isChunk t (rowAt l i) ≡ false → false ≡ areChunks t l
+    check-stop e = rw e at opened
+
+  pub check-done : length l ≤ i → true ≡ areChunks t l
   unfolding everyChunk
-  opened = sym (ap (everyChunk t) (rows-open l i (five t l i g h))) ∙ g .same
-
-  pub check-turn : isChunk t (rowAt l i) ≡ true → Checking t l (i + 5)
-  check-turn e = record { same = rw e at opened; whole = omega (arith, g .whole); inside = five t l i g h }
-
-  pub check-stop : isChunk t (rowAt l i) ≡ false → false ≡ areChunks t l
-  check-stop e = rw e at opened
+  check-done h = sym (ap (everyChunk t) (rows-end l i h)) ∙ g .same
 
 pub check-count : (t l : List ℕ) → (length l % 5 ≡ 0 → ⊥) → false ≡ areChunks t l
 unfolding areChunks
 check-count t l h = rw (ne-eqb (length l % 5) 0 h) refl
-
-pub check-done : (t l : List ℕ) (i : ℕ) → Checking t l i → length l ≤ i → true ≡ areChunks t l
-unfolding everyChunk
-check-done t l i g h = sym (ap (everyChunk t) (rows-end l i h)) ∙ g .same

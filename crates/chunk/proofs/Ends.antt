@@ -1,6 +1,7 @@
 -- The last character of a text, sought from its end.
 --     last-pass, last-found, last-none      a tail is passed; anything else is the last character; nothing but tails
 --     last-less                             the last character of some text lies in it
+--     last-char                             behind any octets, the last character is the last sequence
 --     code-seen                             the code point at a place
 --     white-none, white-last                whether a text ends in white space
 -- Assumes nothing.
@@ -12,12 +13,13 @@ use mathlib.Core.List.{List, [], _∷_, _++_}
 use lib.ListN.{length, getD, take, drop}
 use borrow.Author.Tests.{not-true, not-false}
 use Rattle.text.specs.Range.{within}
-use Rattle.text.specs.Utf8.{tail, isBoundary}
+use Rattle.text.specs.Utf8.{tail, isChar, isBoundary}
 use Rattle.text.specs.Class.{isWhitespace}
 use Rattle.text.specs.Scan.{part, code, seeFrom}
 use Rattle.text.specs.declared.scanner.Seen.{Seen}
 use Rattle.text.specs.declared.scanner.Seen.the-variants.{End, Char}
 use Rattle.text.proofs.Places.{boundary-in}
+use Rattle.text.proofs.Shape.{char-some, char-first, char-further}
 use Rattle.chunk.specs.Format.{lastFrom, lastAt, lastCode, endsWhite}
 use Rattle.chunk.proofs.Parts.{part-none, part-more, length-part, drop-take, drop-part}
 
@@ -45,7 +47,9 @@ module _ (t : List ℕ) (a i j : ℕ) (h : a ≤ j) (e : i ≡ j + 1) (l : i ≤
   last-pass q = back ∙ rw (not-false (within tail (getD t j 0)) (boundary-in t j (omega arith) ∙ q)) refl
 
   pub last-found : isBoundary t j ≡ true → j ≡ a + lastAt (part t a i)
-  last-found q = sum a j _ _ (length-part t a j h (omega arith)) h (back ∙ rw (not-true (within tail (getD t j 0)) (boundary-in t j (omega arith) ∙ q)) refl)
+  last-found q =
+      let other = not-true (within tail (getD t j 0)) (boundary-in t j (omega arith) ∙ q) in
+      sum a j _ _ (length-part t a j h (omega arith)) h (back ∙ rw other refl)
     where
       sum : (a j n k : ℕ) → n ≡ j - a → a ≤ j → k ≡ 0 + n → j ≡ a + k
       sum a j n k p q r = omega arith
@@ -71,6 +75,32 @@ last-less t a e at h l q =
     let n = length-part t a e (omega arith) l in
     let k = last-below (part t a e) 0 0 (length (part t a e) - 1) (omega arith) (omega (arith, n)) in omega (arith, k, n)
 
+-- ---- behind any octets, it is the last sequence
+
+last-append : (u w : List ℕ) (best i : ℕ) → lastFrom best i (u ++ w) ≡ lastFrom (lastFrom best i u) (i + length u) w
+unfolding lastFrom
+last-append [] w best i = ap (λ (k : ℕ). lastFrom best k w) (omega arith)
+last-append (b ∷ u) w best i =
+    let now = cond (within tail b) best i in
+    last-append u w now (suc i) ∙ ap (λ (k : ℕ). lastFrom (lastFrom now (suc i) u) k w) (omega arith)
+
+last-tails : (w : List ℕ) (best i : ℕ) → ((n : ℕ) → n < length w → within tail (getD w n 0) ≡ true) → lastFrom best i w ≡ best
+unfolding lastFrom
+last-tails [] best i h = refl
+last-tails (b ∷ w) best i h = rw (h 0 (omega arith)) (last-tails w best (suc i) (λ n l. h (suc n) (omega arith)))
+
+last-one : (w : List ℕ) (best i : ℕ) → isChar w ≡ true → lastFrom best i w ≡ i
+unfolding lastFrom
+last-one [] best i e = absurd (omega (arith, char-some [] e .0))
+last-one (b ∷ w) best i e =
+    rw (char-first (b ∷ w) [] 0 e) (last-tails w i (suc i) (λ n l. char-further (b ∷ w) (suc n) 0 e (omega arith) (omega arith)))
+
+pub last-char : (u w : List ℕ) → isChar w ≡ true → lastAt (u ++ w) ≡ length u
+last-char u w e = last-append u w 0 0 ∙ last-one w (lastAt u) (0 + length u) e ∙ none (length u)
+  where
+    none : (n : ℕ) → 0 + n ≡ n
+    none n = omega arith
+
 -- ---- its code point
 
 abbrev codeIn : Seen → ℕ
@@ -82,7 +112,8 @@ unfolding seeFrom
 seen [] i h = absurd (omega arith)
 seen (b ∷ t) i h = refl
 
-pub code-seen : (t v : List ℕ) (at to : ℕ) (r r₁ : Seen) → v ≡ take to t → at < to → to ≤ length t → r ≡ seeFrom (drop at v) at → r ≡ r₁ → codeIn r₁ ≡ code (part t at to)
+pub code-seen : (t v : List ℕ) (at to : ℕ) (r r₁ : Seen) → v ≡ take to t → at < to → to ≤ length t → r ≡ seeFrom (drop at v) at → r ≡ r₁ →
+    codeIn r₁ ≡ code (part t at to)
 code-seen t v at to r r₁ e l n h q =
     sym (ap codeIn q)
     ∙ ap codeIn h
@@ -104,7 +135,8 @@ white-none t a e h l = sym (ap endsWhite (ap (λ (n : ℕ). part t n e) same ∙
     same : a ≡ e
     same = omega arith
 
-pub white-last : (t : List ℕ) (a e at c : ℕ) → a < e → e ≤ length t → at ≡ a + lastAt (part t a e) → c ≡ code (part t at e) → isWhitespace c ≡ endsWhite (part t a e)
+pub white-last : (t : List ℕ) (a e at c : ℕ) → a < e → e ≤ length t → at ≡ a + lastAt (part t a e) → c ≡ code (part t at e) →
+    isWhitespace c ≡ endsWhite (part t a e)
 white-last t a e at c l n p q =
     ap isWhitespace (q ∙ ap (λ (n : ℕ). code (part t n e)) p ∙ sym (ap code (drop-part t a e (lastAt (part t a e)))))
     ∙ by (part t a e) (omega (arith, l, length-part t a e (omega arith) n))

@@ -11,3 +11,8 @@ pub mod Checks
 pub mod Passes
 pub mod Answers
 pub mod Turns
+pub mod Kept
+pub mod WellFormed
+pub mod Characters
+pub mod Refusals
+pub mod Unique

@@ -31,7 +31,8 @@ pub plain-start : (t : List ℕ) (a : ℕ) → plain (part t a a) ≡ true
 unfolding plain
 plain-start t a = ap plain (part-none t a)
 
-pub plain-on : (t : List ℕ) (a i : ℕ) → a ≤ i → i < length t → plain (part t a i) ≡ true → isLineEnd (getD t i 0) ≡ false → plain (part t a (i + 1)) ≡ true
+pub plain-on : (t : List ℕ) (a i : ℕ) → a ≤ i → i < length t → plain (part t a i) ≡ true → isLineEnd (getD t i 0) ≡ false →
+    plain (part t a (i + 1)) ≡ true
 plain-on t a i l n h e = ap plain (part-more t a i l n) ∙ plain-snoc (part t a i) (getD t i 0) h e
 
 pub stops-at : (t : List ℕ) (i e : ℕ) → i < e → e ≤ length t → isLineEnd (getD t i 0) ≡ true → stops (part t i e) ≡ true
@@ -47,7 +48,9 @@ unfolding lines plain
 run w v [] t h = ap (λ (x : List ℕ). lines w x t) (sym (append-nil v))
 run w v (b ∷ u) t h = by (isLineEnd b) refl h (λ k. run w (v ++ b ∷ []) u t k)
   where
-    by : (e : Bool) → isLineEnd b ≡ e → (not e && plain u) ≡ true → (plain u ≡ true → lines w (v ++ b ∷ []) (u ++ t) ≡ before u (lines w ((v ++ b ∷ []) ++ u) t)) → lines w v (b ∷ u ++ t) ≡ before (b ∷ u) (lines w (v ++ b ∷ u) t)
+    by : (e : Bool) → isLineEnd b ≡ e → (not e && plain u) ≡ true →
+        (plain u ≡ true → lines w (v ++ b ∷ []) (u ++ t) ≡ before u (lines w ((v ++ b ∷ []) ++ u) t)) →
+        lines w v (b ∷ u ++ t) ≡ before (b ∷ u) (lines w (v ++ b ∷ u) t)
     by true e h ih = let z : _≡_ {A = ℕ} 0 1 = ap (λ (x : Bool). cond x 1 0) h in absurd (omega (arith, z))
     by false e h ih = rw e (ap (before (b ∷ [])) (ih h ∙ ap (λ (x : List ℕ). before u (lines w x t)) (append-assoc v (b ∷ []) u)))
 
@@ -83,15 +86,21 @@ pub record Lining (t : List ℕ) (a e : ℕ) (w₀ : Bool) (o₀ : List ℕ) (n 
 pub lining : (t : List ℕ) (a e : ℕ) (w : Bool) (o : List ℕ) (n : ℕ) → a ≤ e → Lining t a e w o n o w a n
 lining t a e w o n h = record { text = []; puts = puts-none o n; same = refl; room = omega arith; first = omega arith; inside = h; long = refl }
 
-module _ (t : List ℕ) (a e : ℕ) (w₀ : Bool) (o₀ : List ℕ) (n : ℕ) (o : List ℕ) (w : Bool) (i j : ℕ) (g : Lining t a e w₀ o₀ n o w i j) (l : e ≤ length t) where
+module _ {t : List ℕ} {a e : ℕ} {w₀ : Bool} {o₀ : List ℕ} {n : ℕ} {o : List ℕ} {w : Bool} {i j : ℕ}
+    (g : Lining t a e w₀ o₀ n o w i j) (l : e ≤ length t) where
+  -- the loop's text, and then what is left of the definition's
+  on : (v : List ℕ) (x : Written) → before (g .text ++ v) x ≡ before (g .text) (before v x)
+  on v x = ap (λ (y : List ℕ). written y (x .white)) (append-assoc (g .text) v (x .text))
+
   -- a run to k
-  pub runs : (k r : ℕ) (o′ : List ℕ) (w′ : Bool) → i < k → k ≤ e → plain (part t i k) ≡ true → stops (part t k e) ≡ true → w′ ≡ endsWhite (part t i k) → Puts o j (part t i k) r o′ → length o′ ≡ length o → Lining t a e w₀ o₀ n o′ w′ k r
-  runs k r o′ w′ h m p s q y z = record {
+  pub runs : {k r : ℕ} {o′ : List ℕ} {w′ : Bool} → i < k → k ≤ e → plain (part t i k) ≡ true → stops (part t k e) ≡ true →
+      w′ ≡ endsWhite (part t i k) → Puts o j (part t i k) r o′ → length o′ ≡ length o → Lining t a e w₀ o₀ n o′ w′ k r
+  runs {k} h m p s q y z = record {
     text = g .text ++ part t i k;
-    puts = puts-on (g .text) (part t i k) o₀ n j o r o′ (g .puts) y;
+    puts = puts-on (g .puts) y;
     same =
         ap (λ (b : Bool). before (g .text ++ part t i k) (lines b [] (part t k e))) q
-        ∙ ap (λ (x : List ℕ). written x (lines (endsWhite (part t i k)) [] (part t k e) .white)) (append-assoc (g .text) (part t i k) (lines (endsWhite (part t i k)) [] (part t k e) .text))
+        ∙ on (part t i k) (lines (endsWhite (part t i k)) [] (part t k e))
         ∙ ap (before (g .text)) (sym (ap (lines w []) (part-join t i k e (omega arith) m l) ∙ run-turn w (part t i k) (part t k e) some p s))
         ∙ g .same;
     room = omega (arith, y .end, g .room, size, h);
@@ -113,6 +122,10 @@ module _ (t : List ℕ) (a e : ℕ) (w₀ : Bool) (o₀ : List ℕ) (n : ℕ) (o
     is-end : isLineEnd (getD t i 0) ≡ true
     is-end = sym (ap stops opened) ∙ s
 
+    -- what the definition says here, where the flag is b
+    here : (b : Bool) → w ≡ b → lines w [] (part t i e) ≡ lines b [] (getD t i 0 ∷ part t (i + 1) e)
+    here b q = ap₂ (λ (b : Bool) (x : List ℕ). lines b [] x) q opened
+
     -- a line end after white space
     pub passes : w ≡ true → Lining t a e w₀ o₀ n o w (i + 1) j
     passes q = record {
@@ -120,7 +133,7 @@ module _ (t : List ℕ) (a e : ℕ) (w₀ : Bool) (o₀ : List ℕ) (n : ℕ) (o
       puts = g .puts;
       same =
           ap (λ (b : Bool). before (g .text) (lines b [] (part t (i + 1) e))) q
-          ∙ ap (before (g .text)) (sym (ap₂ (λ (b : Bool) (x : List ℕ). lines b [] x) q opened ∙ end-white (getD t i 0) (part t (i + 1) e) is-end))
+          ∙ ap (before (g .text)) (sym (here true q ∙ end-white (getD t i 0) (part t (i + 1) e) is-end))
           ∙ g .same;
       room = omega (arith, g .room);
       first = omega (arith, g .first);
@@ -129,13 +142,13 @@ module _ (t : List ℕ) (a e : ℕ) (w₀ : Bool) (o₀ : List ℕ) (n : ℕ) (o
     }
 
     -- and after anything else
-    pub blanks : (r : ℕ) (o′ : List ℕ) → w ≡ false → Puts o j (0x20 ∷ []) r o′ → length o′ ≡ length o → Lining t a e w₀ o₀ n o′ true (i + 1) r
-    blanks r o′ q y z = record {
+    pub blanks : {r : ℕ} {o′ : List ℕ} → w ≡ false → Puts o j (0x20 ∷ []) r o′ → length o′ ≡ length o → Lining t a e w₀ o₀ n o′ true (i + 1) r
+    blanks q y z = record {
       text = g .text ++ 0x20 ∷ [];
-      puts = puts-on (g .text) (0x20 ∷ []) o₀ n j o r o′ (g .puts) y;
+      puts = puts-on (g .puts) y;
       same =
-          ap (λ (x : List ℕ). written x (lines true [] (part t (i + 1) e) .white)) (append-assoc (g .text) (0x20 ∷ []) (lines true [] (part t (i + 1) e) .text))
-          ∙ ap (before (g .text)) (sym (ap₂ (λ (b : Bool) (x : List ℕ). lines b [] x) q opened ∙ end-blank (getD t i 0) (part t (i + 1) e) is-end))
+          on (0x20 ∷ []) (lines true [] (part t (i + 1) e))
+          ∙ ap (before (g .text)) (sym (here false q ∙ end-blank (getD t i 0) (part t (i + 1) e) is-end))
           ∙ g .same;
       room = omega (arith, y .end, g .room);
       first = omega (arith, g .first);
@@ -152,4 +165,5 @@ module _ (t : List ℕ) (a e : ℕ) (w₀ : Bool) (o₀ : List ℕ) (n : ℕ) (o
 
   pub finished : e ≤ i → Puts o₀ n (lines w₀ [] (part t a e) .text) j o × (w ≡ lines w₀ [] (part t a e) .white)
   finished h =
-      (puts-as (g .text) _ o₀ n j o (sym (append-nil (g .text)) ∙ ap (λ (x : Written). x .text) (finish h)) (g .puts), ap (λ (x : Written). x .white) (finish h))
+      let q = finish h in
+      (puts-as (sym (append-nil (g .text)) ∙ ap (λ (x : Written). x .text) q) (g .puts), ap (λ (x : Written). x .white) q)

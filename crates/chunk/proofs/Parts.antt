@@ -55,7 +55,8 @@ pub part-join : (s : List ℕ) (a n e : ℕ) → a ≤ n → n ≤ e → e ≤ l
 part-join s a n e p q l =
     ap (λ (k : ℕ). take k (drop a s)) (sum a n e (length s) p q l)
     ∙ take-add (min n (length s) - a) (min e (length s) - n) (drop a s)
-    ∙ ap (λ (t : List ℕ). part s a n ++ take (min e (length s) - n) t) (drop-drop (min n (length s) - a) a s ∙ ap (λ (k : ℕ). drop k s) (back a n e (length s) p q l))
+    ∙ ap (λ (t : List ℕ). part s a n ++ take (min e (length s) - n) t) (drop-drop (min n (length s) - a) a s)
+    ∙ ap (λ (k : ℕ). part s a n ++ take (min e (length s) - n) (drop k s)) (back a n e (length s) p q l)
   where
     sum : (a n e k : ℕ) → a ≤ n → n ≤ e → e ≤ k → min e k - a ≡ (min n k - a) + (min e k - n)
     sum a n e k p q l = omega arith

@@ -3,7 +3,7 @@
 --     puts-on, puts-as                  one text after another; an equal text
 --     sets-fits                         a text that fits stands in front
 -- Assumes nothing.
-use Prim.Native.Nat.{ℕ, suc, _+_, _-_, _≤_}
+use Prim.Native.Nat.{ℕ, suc, _+_, _≤_}
 use native.Mathlib.Omega.{arith}
 use mathlib.Core.Path.{_≡_, refl, sym, ap, subst, _∙_}
 use mathlib.Core.List.{List, [], _∷_, _++_}
@@ -31,17 +31,21 @@ puts-none o n = record { end = omega arith; bytes = refl }
 pub puts-one : (o : List ℕ) (n b : ℕ) → Puts o n (b ∷ []) (n + 1) (set o n b)
 puts-one o n b = record { end = refl; bytes = refl }
 
-pub puts-past : (w o : List ℕ) (n r : ℕ) → length o ≤ n → r ≡ n + length w → Puts o n w r o
-puts-past w o n r h e = record { end = e; bytes = sym (sets-past w o n h) }
+pub puts-past : (w : List ℕ) {o : List ℕ} {n r : ℕ} → length o ≤ n → r ≡ n + length w → Puts o n w r o
+puts-past w {o} {n} {r} h e = record { end = e; bytes = sym (sets-past w o n h) }
 
-pub puts-on : (v w o : List ℕ) (n r : ℕ) (o₁ : List ℕ) (r₁ : ℕ) (o₂ : List ℕ) → Puts o n v r o₁ → Puts o₁ r w r₁ o₂ → Puts o n (v ++ w) r₁ o₂
-puts-on v w o n r o₁ r₁ o₂ h k = record {
+pub puts-on : {v w o : List ℕ} {n r : ℕ} {o₁ : List ℕ} {r₁ : ℕ} {o₂ : List ℕ} → Puts o n v r o₁ → Puts o₁ r w r₁ o₂ → Puts o n (v ++ w) r₁ o₂
+puts-on {v} {w} {o} {n} {r} {o₁} {r₁} {o₂} h k = record {
   end = sum n r r₁ (length v) (length w) (length (v ++ w)) (h .end) (k .end) (length-append v w);
-  bytes = k .bytes ∙ ap (λ (x : List ℕ). sets x r w) (h .bytes) ∙ ap (λ (m : ℕ). sets (sets o n v) m w) (h .end) ∙ sym (sets-append v w o n);
+  bytes =
+      k .bytes
+      ∙ ap (λ (x : List ℕ). sets x r w) (h .bytes)
+      ∙ ap (λ (m : ℕ). sets (sets o n v) m w) (h .end)
+      ∙ sym (sets-append v w o n);
 }
   where
     sum : (n r r₁ a b c : ℕ) → r ≡ n + a → r₁ ≡ r + b → c ≡ a + b → r₁ ≡ n + c
     sum n r r₁ a b c p q s = omega arith
 
-pub puts-as : (v w o : List ℕ) (n r : ℕ) (o₁ : List ℕ) → v ≡ w → Puts o n v r o₁ → Puts o n w r o₁
-puts-as v w o n r o₁ e h = subst (λ (x : List ℕ). Puts o n x r o₁) e h
+pub puts-as : {v w o : List ℕ} {n r : ℕ} {o₁ : List ℕ} → v ≡ w → Puts o n v r o₁ → Puts o n w r o₁
+puts-as {o = o} {n} {r} {o₁} e h = subst (λ (x : List ℕ). Puts o n x r o₁) e h

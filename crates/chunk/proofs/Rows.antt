@@ -1,5 +1,6 @@
 -- Laws of kinds by number, and of a chunk row that is put into lent numbers.
 --     kind-rest                        a number that is neither 0 nor 1
+--     rows-flat                        the numbers of rows are read back as these rows
 --     length-put, put-sets, put-out    the length stays; the code's five stores; a row that does not fit
 -- Assumes nothing.
 use Prim.Native.Nat.{ℕ, zero, suc, _+_, _*_, _/_, _≤_, _<_}
@@ -8,7 +9,7 @@ use mathlib.Core.List.{List, [], _∷_}
 use native.Mathlib.Omega.{arith}
 use lib.ListN.{length, set}
 use Rattle.chunk.specs.declared.form.Kind.the-variants.{Math}
-use Rattle.chunk.specs.Chunk.{kindFrom, ChunkRow, putChunk}
+use Rattle.chunk.specs.Chunk.{kindFrom, ChunkRow, flatChunks, chunkRows, putChunk}
 
 pub kind-rest : (n : ℕ) → (n ≡ 0 → ⊥) → (n ≡ 1 → ⊥) → Math ≡ kindFrom n
 kind-rest zero h k = absurd (h refl)
@@ -17,6 +18,11 @@ kind-rest (suc (suc n)) h k = refl
 
 abbrev five : ℕ → ℕ → ℕ → ℕ → ℕ → List ℕ → List ℕ
 five a b c d e l = a ∷ b ∷ c ∷ d ∷ e ∷ l
+
+pub rows-flat : (rs : List ChunkRow) → chunkRows (flatChunks rs) ≡ rs
+unfolding flatChunks chunkRows
+rows-flat [] = refl
+rows-flat (r ∷ rs) = ap (λ (l : List ChunkRow). r ∷ l) (rows-flat rs)
 
 pub length-put : (b : List ℕ) (n : ℕ) (r : ChunkRow) → length (putChunk b n r) ≡ length b
 unfolding putChunk

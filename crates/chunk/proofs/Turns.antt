@@ -1,10 +1,9 @@
 -- The turns of both writers' passes, over `Passing`.
---     Row, row-fits                                          a row as the code reads it
---     format-start, format-turn, format-more, format-done    `format_all`
---     write-start, write-turn, write-more, write-done        `write_all`
+--     Row, row-of                                               a row as the code reads it
+--     format-start, format-turn, format-more, format-done       `format_all`
+--     write-start, write-turn, write-more, close-more, write-done      `write_all`
 -- Assumes nothing.
 use Prim.Native.Nat.{ℕ, _+_, _%_, _≤_, _<_}
-use native.Mathlib.Omega.{arith}
 use mathlib.Core.Path.{_≡_, refl, sym, ap, ap₂, _∙_}
 use mathlib.Core.Bool.{Bool, true, false}
 use mathlib.Core.List.{List, [], _∷_, _++_, append-nil}
@@ -15,30 +14,32 @@ use Rattle.text.specs.Scan.{part}
 use Rattle.text.proofs.Grammar.{both-true}
 use Rattle.chunk.specs.declared.answer.Total.the-variants as total
 use Rattle.chunk.specs.declared.form.Kind.{Kind}
-use Rattle.chunk.specs.Chunk.{Chunk, kindFrom, chunkRows, chunksOf, everyChunk, areChunks, Stores}
-use Rattle.chunk.specs.Format.{Written, formatOne, formatFrom, formatVerbatim, opening, extraAfter, bodyOf, biblatexOne, closing, biblatexFrom, toBiblatexString}
+use Rattle.chunk.specs.Chunk.{kindFrom, chunkRows, chunksOf, everyChunk, areChunks, Stores}
+use Rattle.chunk.specs.Format.{Written, formatOne, formatFrom, formatVerbatim}
+use Rattle.chunk.specs.Format.{opening, extraAfter, bodyOf, biblatexOne, closing, biblatexFrom, toBiblatexString}
 use Rattle.chunk.specs.Put.{Puts, Fills}
 use Rattle.chunk.proofs.Checks.{Checking, checking}
 use Rattle.chunk.proofs.Puts.{puts-none, puts-on}
-use Rattle.chunk.proofs.Passes.{rest, Passing, row-here, passed, at-end, same-row, fills-more, fills-bytes}
+use Rattle.chunk.proofs.Passes.{rest, Passing, passed, at-end, fills-more, fills-bytes}
 
 -- the kind and the text of the row from number i on
 pub record Row (l : List ℕ) (i : ℕ) (kind : Kind) (k f e : ℕ) : Type 0 where
   pub known : kind ≡ kindFrom k
   pub stores : Stores l i k f e
 
-row-is : {A : Type 0} (l : List ℕ) (i : ℕ) {kind : Kind} {k f e : ℕ} (g : Kind → ℕ → ℕ → A) → Row l i kind k f e → g kind f e ≡ g (kindFrom (getD l i 0)) (getD l (i + 1) 0) (getD l (i + 2) 0)
-row-is l i g r = same-row g (r .known ∙ ap kindFrom (r .stores .kind)) (r .stores .from) (r .stores .to)
+pub row-of : {l : List ℕ} {i : ℕ} {kind : Kind} {k f e : ℕ} → kind ≡ kindFrom k → Stores l i k f e → Row l i kind k f e
+row-of p s = record { known = p; stores = s }
+
+-- whatever is made of them
+row-is : {A : Type 0} {l : List ℕ} {i : ℕ} {kind : Kind} {k f e : ℕ} (g : Kind → ℕ → ℕ → A) → Row l i kind k f e →
+    g kind f e ≡ g (kindFrom (getD l i 0)) (getD l (i + 1) 0) (getD l (i + 2) 0)
+row-is {l = l} {i} {e = e} g r =
+    ap₂ (λ (x : Kind) (y : ℕ). g x y e) (r .known ∙ ap kindFrom (r .stores .kind)) (r .stores .from)
+    ∙ ap (g (kindFrom (getD l i 0)) (getD l (i + 1) 0)) (r .stores .to)
 
 starts : (t l : List ℕ) → areChunks t l ≡ true → Checking t l 0
 unfolding areChunks
 starts t l e = checking t l (eqb-true (length l % 5) 0 (both-true (eqb (length l % 5) 0) (everyChunk t (chunkRows l)) e .0))
-
-module _ (from : Bool → List Chunk → List ℕ) (w t l o₀ : List ℕ) (n₀ : ℕ) (o : List ℕ) (b : Bool) (n i : ℕ) (g : Passing from w t l o₀ n₀ o b n i) where
-  pub row-fits : areChunks t l ≡ true → i < length l → {k f e : ℕ} → Stores l i k f e → (f ≤ e) × (e ≤ length t)
-  row-fits sound h s =
-      let y = row-here from w t l o₀ n₀ o b n i g sound h in
-      (omega (arith, y .0, s .from, s .to), omega (arith, y .1, s .to))
 
 -- ---- `format_all`
 
@@ -48,23 +49,22 @@ Formatting t l o₀ o b n i = Passing formatFrom (formatVerbatim (chunksOf t l))
 pub format-start : (t l o : List ℕ) → areChunks t l ≡ true → Formatting t l o o false 0 0
 format-start t l o e = record { text = []; puts = puts-none o 0; same = refl; checks = starts t l e; long = refl }
 
-module _ (t l o₀ o : List ℕ) (b : Bool) (n i : ℕ) (g : Formatting t l o₀ o b n i) where
-  pub format-turn : areChunks t l ≡ true → i < length l → {kind : Kind} {k f e : ℕ} (r : ℕ) (d : Bool) (o′ : List ℕ) → Row l i kind k f e → Puts o n (formatOne b kind (part t f e) .text) r o′ → d ≡ formatOne b kind (part t f e) .white → length o′ ≡ length o → Formatting t l o₀ o′ d r (i + 5)
+module _ {t l o₀ o : List ℕ} {b : Bool} {n i : ℕ} (g : Formatting t l o₀ o b n i) where
+  pub format-turn : areChunks t l ≡ true → i < length l → {kind : Kind} {k f e : ℕ} → Row l i kind k f e → {r : ℕ} {o′ : List ℕ} {d : Bool} →
+      Puts o n (formatOne b kind (part t f e) .text) r o′ → d ≡ formatOne b kind (part t f e) .white → length o′ ≡ length o →
+      Formatting t l o₀ o′ d r (i + 5)
   unfolding formatFrom
-  format-turn sound h {kind} {k} {f} {e} r d o′ row y x z =
-      let one = formatOne b kind (part t f e) in
-      let q = row-is l i (λ (k : Kind) (a e : ℕ). formatOne b k (part t a e)) row in
-      let turn = ap (λ (w : Written). w .text ++ formatFrom (w .white) (rest t l (i + 5))) (sym q) ∙ ap (λ (c : Bool). one .text ++ formatFrom c (rest t l (i + 5))) (sym x) in
-      passed formatFrom (formatVerbatim (chunksOf t l)) t l o₀ 0 o b n i g sound h (one .text) d r o′ turn y z
+  format-turn sound h {kind} {k} {f} {e} row y x z =
+      let q = row-is (λ (k : Kind) (a e : ℕ). formatOne b k (part t a e)) row in
+      let whole = ap (λ (w : Written). w .text ++ formatFrom (w .white) (rest t l (i + 5))) (sym q) in
+      passed g sound h (whole ∙ ap (λ (c : Bool). formatOne b kind (part t f e) .text ++ formatFrom c (rest t l (i + 5))) (sym x)) y z
 
-  pub format-more : (room : ℕ) → room < n → Fills (formatVerbatim (chunksOf t l)) room o₀ total.More o
-  format-more room h = fills-more (g .text) (formatFrom b (rest t l i)) _ o₀ n o room (g .same) (g .puts) h
+  pub format-more : {room : ℕ} → room < n → Fills (formatVerbatim (chunksOf t l)) room o₀ total.More o
+  format-more h = fills-more (formatFrom b (rest t l i)) (g .same) (g .puts) h
 
-  pub format-done : areChunks t l ≡ true → length l ≤ i → (room : ℕ) → n ≤ room → Fills (formatVerbatim (chunksOf t l)) room o₀ (total.Bytes n) o
+  pub format-done : areChunks t l ≡ true → length l ≤ i → {room : ℕ} → n ≤ room → Fills (formatVerbatim (chunksOf t l)) room o₀ (total.Bytes n) o
   unfolding formatFrom
-  format-done sound h room k =
-      let e = at-end formatFrom (formatVerbatim (chunksOf t l)) t l o₀ 0 o b n i g sound h in
-      fills-bytes (g .text) _ o₀ n o room (sym (append-nil (g .text)) ∙ e) (g .puts) k
+  format-done sound h k = fills-bytes (sym (append-nil (g .text)) ∙ at-end g sound h) (g .puts) k
 
 -- ---- `write_all`
 
@@ -75,35 +75,33 @@ Writes verb t l o₀ n₀ o b n i = Passing (biblatexFrom verb) (biblatexFrom ve
 pub write-start : (verb : Bool) (t l o : List ℕ) (n : ℕ) → areChunks t l ≡ true → Writes verb t l o n o false n 0
 write-start verb t l o n e = record { text = []; puts = puts-none o n; same = refl; checks = starts t l e; long = refl }
 
-module _ (verb : Bool) (t l o₀ : List ℕ) (n₀ : ℕ) (o : List ℕ) (b : Bool) (n i : ℕ) (g : Writes verb t l o₀ n₀ o b n i) where
+module _ (verb : Bool) {t l o₀ : List ℕ} {n₀ : ℕ} {o : List ℕ} {b : Bool} {n i : ℕ} (g : Writes verb t l o₀ n₀ o b n i) where
   -- a chunk's opening and the chunk itself
-  pub write-turn : areChunks t l ≡ true → i < length l → {kind : Kind} {k f e : ℕ} (m : ℕ) (o₁ : List ℕ) (r : ℕ) (o₂ : List ℕ) (d : Bool) → Row l i kind k f e → Puts o n (opening b kind) m o₁ → Puts o₁ m (bodyOf verb kind (part t f e)) r o₂ → d ≡ extraAfter b kind → length o₂ ≡ length o → Writes verb t l o₀ n₀ o₂ d r (i + 5)
+  pub write-turn : areChunks t l ≡ true → i < length l → {kind : Kind} {k f e : ℕ} → Row l i kind k f e →
+      {m r : ℕ} {o₁ o₂ : List ℕ} {d : Bool} → Puts o n (opening b kind) m o₁ → Puts o₁ m (bodyOf verb kind (part t f e)) r o₂ →
+      d ≡ extraAfter b kind → length o₂ ≡ length o → Writes verb t l o₀ n₀ o₂ d r (i + 5)
   unfolding biblatexFrom
-  write-turn sound h {kind} {k} {f} {e} m o₁ r o₂ d row y u x z =
-      let one = biblatexOne verb b kind (part t f e) in
-      let q = row-is l i (λ (k : Kind) (a e : ℕ). biblatexOne verb b k (part t a e)) row in
-      let p = row-is l i (λ (k : Kind) (a e : ℕ). extraAfter b k) row in
-      let turn = ap₂ (λ (v : List ℕ) (c : Bool). v ++ biblatexFrom verb c (rest t l (i + 5))) (sym q) (sym (x ∙ p)) in
-      let both = puts-on (opening b kind) (bodyOf verb kind (part t f e)) o n m o₁ r o₂ y u in
-      passed (biblatexFrom verb) (biblatexFrom verb false (chunksOf t l)) t l o₀ n₀ o b n i g sound h one d r o₂ turn both z
+  write-turn sound h row y u x z =
+      let q = row-is (λ (k : Kind) (a e : ℕ). biblatexOne verb b k (part t a e)) row in
+      let p = row-is (λ (k : Kind) (a e : ℕ). extraAfter b k) row in
+      let whole = ap₂ (λ (v : List ℕ) (c : Bool). v ++ biblatexFrom verb c (rest t l (i + 5))) (sym q) (sym (x ∙ p)) in
+      passed g sound h whole (puts-on y u) z
 
-  module _ (u : List ℕ) (first : Puts u 0 (0x7B ∷ []) n₀ o₀) (room : ℕ) where
-    pub write-more : room < n → Fills (toBiblatexString verb (chunksOf t l)) room u total.More o
-    write-more h =
-        let all = puts-on (0x7B ∷ []) (g .text) u 0 n₀ o₀ n o first (g .puts) in
-        fills-more (0x7B ∷ g .text) (biblatexFrom verb b (rest t l i)) _ u n o room (ap (λ (w : List ℕ). 0x7B ∷ w) (g .same)) all h
+  module _ {u : List ℕ} (first : Puts u 0 (0x7B ∷ []) n₀ o₀) where
+    pub write-more : {room : ℕ} → room < n → Fills (toBiblatexString verb (chunksOf t l)) room u total.More o
+    write-more h = fills-more (biblatexFrom verb b (rest t l i)) (ap (λ (w : List ℕ). 0x7B ∷ w) (g .same)) (puts-on first (g .puts)) h
 
     -- and what closes
-    module _ (sound : areChunks t l ≡ true) (h : length l ≤ i) (r : ℕ) (o′ : List ℕ) (y : Puts o n (closing b) r o′) where
+    module _ (sound : areChunks t l ≡ true) (h : length l ≤ i) {r : ℕ} {o′ : List ℕ} (y : Puts o n (closing b) r o′) where
       whole : 0x7B ∷ (g .text ++ closing b) ≡ toBiblatexString verb (chunksOf t l)
       unfolding biblatexFrom
-      whole = ap (λ (w : List ℕ). 0x7B ∷ w) (at-end (biblatexFrom verb) (biblatexFrom verb false (chunksOf t l)) t l o₀ n₀ o b n i g sound h)
+      whole = ap (λ (w : List ℕ). 0x7B ∷ w) (at-end g sound h)
 
       all : Puts u 0 (0x7B ∷ (g .text ++ closing b)) r o′
-      all = puts-on (0x7B ∷ []) (g .text ++ closing b) u 0 n₀ o₀ r o′ first (puts-on (g .text) (closing b) o₀ n₀ n o r o′ (g .puts) y)
+      all = puts-on first (puts-on (g .puts) y)
 
-      pub close-more : room < r → Fills (toBiblatexString verb (chunksOf t l)) room u total.More o′
-      close-more k = fills-more (0x7B ∷ (g .text ++ closing b)) [] _ u r o′ room (append-nil _ ∙ whole) all k
+      pub close-more : {room : ℕ} → room < r → Fills (toBiblatexString verb (chunksOf t l)) room u total.More o′
+      close-more k = fills-more [] (append-nil _ ∙ whole) all k
 
-      pub write-done : r ≤ room → Fills (toBiblatexString verb (chunksOf t l)) room u (total.Bytes r) o′
-      write-done k = fills-bytes (0x7B ∷ (g .text ++ closing b)) _ u r o′ room whole all k
+      pub write-done : {room : ℕ} → r ≤ room → Fills (toBiblatexString verb (chunksOf t l)) room u (total.Bytes r) o′
+      write-done k = fills-bytes whole all k

@@ -84,13 +84,18 @@ formatVerbatim cs = formatFrom false cs
 
 -- ---- [chunk.rs:to_biblatex_string]
 
--- [resolve.rs:is_escapable] { } \ always; ~ ^ # & % $ _ unless the field is verbatim; : only in reading. All are ASCII, so that an octet
--- decides
+-- { } \
+abbrev pub alwaysMarks : List ℕ
+alwaysMarks = 0x7B ∷ 0x7D ∷ 0x5C ∷ []
+
+-- ~ ^ # & % $ _
+abbrev pub plainMarks : List ℕ
+plainMarks = 0x7E ∷ 0x5E ∷ 0x23 ∷ 0x26 ∷ 0x25 ∷ 0x24 ∷ 0x5F ∷ []
+
+-- [resolve.rs:is_escapable] the first always, the second unless the field is verbatim, and a colon only in reading. All are ASCII, so that
+-- an octet decides
 unfoldable pub isEscapable : ℕ → Bool → Bool → Bool
-isEscapable c verb read =
-    mark (0x7B ∷ 0x7D ∷ 0x5C ∷ []) c
-    || (mark (0x7E ∷ 0x5E ∷ 0x23 ∷ 0x26 ∷ 0x25 ∷ 0x24 ∷ 0x5F ∷ []) c && not verb)
-    || (eqb c 0x3A && read)
+isEscapable c verb read = mark alwaysMarks c || (mark plainMarks c && not verb) || (eqb c 0x3A && read)
 
 unfoldable pub escaped : Bool → List ℕ → List ℕ
 escaped verb [] = []

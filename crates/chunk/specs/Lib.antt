@@ -4,3 +4,6 @@ pub mod Worked
 pub mod Put
 pub mod Inner
 pub mod Write
+pub mod WellFormed
+pub mod Characters
+pub mod Refusals

@@ -8,4 +8,4 @@ pub mod check;
 pub mod ending;
 pub mod form;
 pub mod format;
-pub mod put;
+mod put;

@@ -21,12 +21,13 @@ same-length c = search needs
 
 returns : tie.Need-returns
 returns c =
-    let a = c .before .before .before .before .before .before .before .before .before .before .before .args in
-    let e = sym (c .before .before .before .before .before .before .before .before .before .is-escapable .ensures) ∙ c .before .before .before .before .before .before .before .before .if1 .taken in
+    let test = c .before .before .before .before .before .before .before .before in
+    let entry = test .before .before .before in
+    let a = entry .args in
     let x = c .before .before .before .before .before .before .put in
     let y = c .before .before .put2 in
-    let two = puts-on _ _ (a .out .now) (a .at) (x .result) _ (y .result) _ (x .ensures .0) (y .ensures .0) in
-    (puts-as _ _ (a .out .now) (a .at) (y .result) _ (escape-some (a .verb) (a .b) e) two, omega (arith, x .ensures .1, y .ensures .1))
+    let e = escape-some (a .verb) (a .b) (sym (test .before .is-escapable .ensures) ∙ test .if1 .taken) in
+    (puts-as e (puts-on (x .ensures .0) (y .ensures .0)), omega (arith, x .ensures .1, y .ensures .1))
 
 put-requires-3 : tie.Need-put-requires-3
 put-requires-3 c κs = search needs
@@ -36,10 +37,11 @@ same-length-2 c = search needs
 
 returns-2 : tie.Need-returns-2
 returns-2 c =
-    let a = c .before .before .before .before .before .before .before .args in
-    let e = sym (c .before .before .before .before .before .is-escapable .ensures) ∙ c .before .before .before .before .if1 .left in
+    let test = c .before .before .before .before in
+    let a = test .before .before .before .args in
     let x = c .before .before .put3 in
-    (puts-as _ _ (a .out .now) (a .at) (x .result) _ (escape-none (a .verb) (a .b) e) (x .ensures .0), omega (arith, x .ensures .1))
+    let e = escape-none (a .verb) (a .b) (sym (test .before .is-escapable .ensures) ∙ test .if1 .left) in
+    (puts-as e (x .ensures .0), omega (arith, x .ensures .1))
 
 pub escape-spec : {M : Type 1} → statement M
 escape-spec =

@@ -1,27 +1,28 @@
 -- `chunk::biblatex::escaped` meets its contract. Assumes nothing.
-use Prim.Native.Nat.{ℕ, _+_, _*_, _-_, _≤_}
+use Prim.Native.Nat.{_+_, _*_, _-_, _≤_, _<_}
 use native.Mathlib.Omega.{arith}
-use mathlib.Core.Path.{_≡_, refl, ap, _∙_}
+use mathlib.Core.Path.{_≡_, refl, _∙_}
 use lib.ListN.{length}
 use borrow.Author.Needs.{needs}
 use Rattle.text.specs.Scan.{part}
 use Rattle.chunk.specs.Format.{escaped}
 use Rattle.chunk.specs.Put.{Puts}
-use Rattle.chunk.proofs.Puts.{puts-as}
 use Rattle.chunk.proofs.Escapes as laws
 use Rattle.chunk.proofs.biblatex.escaped.Statement.{statement}
 use Rattle.chunk.proofs.biblatex.escaped.Tie as tie
 
 abbrev Inv-loop : tie.InvT-loop
-Inv-loop t from to verb out₀ at i₀ j₀ out i j = Puts out₀ at (escaped verb (part t from i)) j out × (from ≤ i) × (i ≤ to) × (j + 2 * from ≤ at + 2 * i) × (length out ≡ length out₀)
+Inv-loop t from to verb out₀ at i₀ j₀ out i j =
+    Puts out₀ at (escaped verb (part t from i)) j out × (from ≤ i) × (i ≤ to) × (j + 2 * from ≤ at + 2 * i) × (length out ≡ length out₀)
 
 abbrev μ-loop : tie.MeasureT-loop
 μ-loop t from to verb out₀ at i₀ j₀ out i j = to - i
 
 loop-holds : tie.Need-loop-holds Inv-loop μ-loop
 loop-holds c =
-    let a = c .before .before .args in
-    (laws.escaped-start (a .verb) (a .t .now) (a .from) (a .at) (a .out .now), omega arith, c .before .before .pre .0, omega arith, refl)
+    let entry = c .before .before in
+    let a = entry .args in
+    (laws.escaped-start (a .verb) (a .t .now) (a .from) (a .out .now) (a .at), omega arith, entry .pre .0, omega arith, refl)
 
 shared-slice-read-escape : tie.Need-shared-slice-read-escape Inv-loop μ-loop
 shared-slice-read-escape c = search needs
@@ -37,13 +38,14 @@ loop-less c = search needs
 
 loop-again : tie.Need-loop-again Inv-loop μ-loop
 loop-again c =
-    let a = c .before .before .before .before .before .before .before .before .before .args in
-    let p = c .before .before .before .before .before .before .before .before .before .pre in
-    let b = c .before .before .before .before .before .before .loop in
-    let l = c .before .before .before .before .before .loop-test .taken in
+    let turn = c .before .before .before .before .before .before in
+    let entry = turn .before .before .before in
+    let a = entry .args in
+    let b = turn .loop in
     let y = c .before .before .escape in
-    let on = laws.escaped-on (a .verb) (a .t .now) (a .out .now) (a .from) (a .at) (b .i) (b .j) (b .out) (y .result) _ (b .inv .1) (omega (arith, l, p .1)) (b .inv .0) (y .ensures .0) in
-    (on, omega arith, omega arith, omega (arith, y .ensures .1, b .inv .3), y .kept .1 .1 .0 ∙ b .inv .4)
+    let inside : b .i < length (a .t .now) = omega (arith, c .before .before .before .before .before .loop-test .taken, entry .pre .1) in
+    let put = laws.escaped-on (a .verb) (a .t .now) (a .from) (b .inv .1) inside (b .inv .0) (y .ensures .0) in
+    (put, omega arith, omega arith, omega (arith, y .ensures .1, b .inv .3), y .kept .1 .1 .0 ∙ b .inv .4)
 
 same-length : tie.Need-same-length Inv-loop μ-loop
 same-length c = c .before .loop .inv .4
@@ -52,8 +54,8 @@ returns : tie.Need-returns Inv-loop μ-loop
 returns c =
     let a = c .before .before .before .before .args in
     let b = c .before .loop in
-    let q : b .i ≡ a .to = omega arith in
-    (puts-as _ _ (a .out .now) (a .at) (b .j) (b .out) (ap (λ (n : ℕ). escaped (a .verb) (part (a .t .now) (a .from) n)) q) (b .inv .0), omega (arith, b .inv .3))
+    let end : b .i ≡ a .to = omega arith in
+    (laws.escaped-all (a .verb) (a .t .now) (a .from) end (b .inv .0), omega (arith, b .inv .3))
 
 pub escaped-spec : {M : Type 1} → statement M
 escaped-spec =

@@ -35,33 +35,35 @@ same-length c = search needs
 
 returns : tie.Need-returns
 returns c =
-    let a = c .before .before .before .before .before .before .before .before .args in
+    let told = c .before .before .before .before in
+    let a = told .before .before .before .before .args in
     let x = c .before .before .escaped in
-    let e = sym (ap (λ (k : Kind). bodyOf (a .verb) k (part (a .t .now) (a .from) (a .to))) (c .before .before .before .before .enum-told .given .1)) in
-    (puts-as _ _ (a .out .now) (a .at) (x .result) _ e (x .ensures .0), omega (arith, x .ensures .1))
+    let e = sym (ap (λ (k : Kind). bodyOf (a .verb) k (part (a .t .now) (a .from) (a .to))) (told .enum-told .given .1)) in
+    (puts-as e (x .ensures .0), omega (arith, x .ensures .1))
 
 same-length-2 : tie.Need-same-length-2
 same-length-2 c = search needs
 
 returns-2 : tie.Need-returns-2
 returns-2 c =
-    let a = c .before .before .before .before .before .before .before .before .args in
+    let told = c .before .before .before .before in
+    let a = told .before .before .before .before .args in
     let x = c .before .before .escaped2 in
-    let e = sym (ap (λ (k : Kind). bodyOf (a .verb) k (part (a .t .now) (a .from) (a .to))) (c .before .before .before .before .enum-told2 .given .1)) in
-    (puts-as _ _ (a .out .now) (a .at) (x .result) _ e (x .ensures .0), omega (arith, x .ensures .1))
+    let e = sym (ap (λ (k : Kind). bodyOf (a .verb) k (part (a .t .now) (a .from) (a .to))) (told .enum-told2 .given .1)) in
+    (puts-as e (x .ensures .0), omega (arith, x .ensures .1))
 
 same-length-3 : tie.Need-same-length-3
 same-length-3 c = search needs
 
 returns-3 : tie.Need-returns-3
 returns-3 c =
-    let a = c .before .before .before .before .before .before .before .before .before .before .before .before .args in
-    let p = c .before .before .before .before .before .before .before .before .before .before .before .before .pre in
+    let told = c .before .before .before .before .before .before .before .before in
+    let entry = told .before .before .before .before in
+    let a = entry .args in
     let x = c .before .before .before .before .before .before .copy in
     let y = c .before .before .put in
-    let e = sym (ap (λ (k : Kind). bodyOf (a .verb) k (part (a .t .now) (a .from) (a .to))) (c .before .before .before .before .before .before .before .before .enum-told3 .given .1)) in
-    let two = puts-on _ _ (a .out .now) (a .at) (x .result) _ (y .result) _ (x .ensures .0) (y .ensures .0) in
-    (puts-as _ _ (a .out .now) (a .at) (y .result) _ e two, omega (arith, x .ensures .1, y .ensures .1, p .0))
+    let e = sym (ap (λ (k : Kind). bodyOf (a .verb) k (part (a .t .now) (a .from) (a .to))) (told .enum-told3 .given .1)) in
+    (puts-as e (puts-on (x .ensures .0) (y .ensures .0)), omega (arith, x .ensures .1, y .ensures .1, entry .pre .0))
 
 pub put-body-spec : {M : Type 1} → statement M
 put-body-spec =

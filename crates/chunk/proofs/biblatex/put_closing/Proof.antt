@@ -18,20 +18,18 @@ same-length c = search needs
 
 returns : tie.Need-returns
 returns c =
-    let a = c .before .before .before .before .before .before .before .before .before .before .args in
-    let x = c .before .before .before .before .before .before .before .put in
+    let test = c .before .before .before .before in
+    let x = test .before .before .before .put in
     let y = c .before .before .put2 in
-    let two = puts-on _ _ (a .out .now) (a .at) (x .result) _ (y .result) _ (x .ensures .0) (y .ensures .0) in
-    (puts-as _ _ (a .out .now) (a .at) (y .result) _ (sym (ap closing (c .before .before .before .before .if1 .taken))) two, omega (arith, x .ensures .1, y .ensures .1))
+    let e = sym (ap closing (test .if1 .taken)) in
+    (puts-as e (puts-on (x .ensures .0) (y .ensures .0)), omega (arith, x .ensures .1, y .ensures .1))
 
 same-length-2 : tie.Need-same-length-2
 same-length-2 c = search needs
 
 returns-2 : tie.Need-returns-2
 returns-2 c =
-    let a = c .before .before .before .before .before .before .args in
-    let x = c .before .before .before .put in
-    (puts-as _ _ (a .out .now) (a .at) (x .result) _ (sym (ap closing (c .if1 .left))) (x .ensures .0), omega (arith, x .ensures .1))
+    let x = c .before .before .before .put in (puts-as (sym (ap closing (c .if1 .left))) (x .ensures .0), omega (arith, x .ensures .1))
 
 pub put-closing-spec : {M : Type 1} → statement M
 put-closing-spec =

@@ -18,19 +18,17 @@ same-length c = search needs
 
 returns : tie.Need-returns
 returns c =
-    let a = c .before .before .before .before .before .before .before .before .args in
     let x = c .before .before .put in
-    let e = sym (ap₂ opening (c .before .before .before .before .if1 .taken) (c .before .before .before .before .before .enum-told .given .1)) in
-    (puts-as _ _ (a .out .now) (a .at) (x .result) _ e (x .ensures .0), omega (arith, x .ensures .1))
+    let test = c .before .before .before .before in
+    let e = sym (ap₂ opening (test .if1 .taken) (test .before .enum-told .given .1)) in
+    (puts-as e (x .ensures .0), omega (arith, x .ensures .1))
 
 enum-told-2 : tie.Need-enum-told-2
 enum-told-2 c = search needs
 
 returns-2 : tie.Need-returns-2
 returns-2 c =
-    let a = c .before .before .before .before .args in
-    let e = sym (ap₂ opening (c .if2 .taken) (c .before .enum-told2 .given .1)) in
-    (puts-as _ _ (a .out .now) (a .at) (a .at) _ e (puts-none (a .out .now) (a .at)), omega arith)
+    let e = sym (ap₂ opening (c .if2 .taken) (c .before .enum-told2 .given .1)) in (puts-as e (puts-none _ _), omega arith)
 
 put-requires-2 : tie.Need-put-requires-2
 put-requires-2 c κs = search needs
@@ -43,29 +41,27 @@ put-requires-3 c κs = search needs
 
 returns-3 : tie.Need-returns-3
 returns-3 c =
-    let a = c .before .before .before .before .args in
-    let e = sym (ap₂ opening (c .if1 .left) (c .before .enum-told .given .1)) in
-    (puts-as _ _ (a .out .now) (a .at) (a .at) _ e (puts-none (a .out .now) (a .at)), omega arith)
+    let e = sym (ap₂ opening (c .if1 .left) (c .before .enum-told .given .1)) in (puts-as e (puts-none _ _), omega arith)
 
 same-length-2 : tie.Need-same-length-2
 same-length-2 c = search needs
 
 returns-4 : tie.Need-returns-4
 returns-4 c =
-    let a = c .before .before .before .before .before .before .before .before .args in
     let x = c .before .before .put2 in
-    let e = sym (ap₂ opening (c .before .before .before .before .if2 .left) (c .before .before .before .before .before .enum-told2 .given .1)) in
-    (puts-as _ _ (a .out .now) (a .at) (x .result) _ e (x .ensures .0), omega (arith, x .ensures .1))
+    let test = c .before .before .before .before in
+    let e = sym (ap₂ opening (test .if2 .left) (test .before .enum-told2 .given .1)) in
+    (puts-as e (x .ensures .0), omega (arith, x .ensures .1))
 
 same-length-3 : tie.Need-same-length-3
 same-length-3 c = search needs
 
 returns-5 : tie.Need-returns-5
 returns-5 c =
-    let a = c .before .before .before .before .before .before .before .args in
+    let told = c .before .before .before .before in
     let x = c .before .before .put3 in
-    let e = sym (ap (opening (a .extra)) (c .before .before .before .before .enum-told3 .given .1)) in
-    (puts-as _ _ (a .out .now) (a .at) (x .result) _ e (x .ensures .0), omega (arith, x .ensures .1))
+    let e = sym (ap (opening (told .before .before .before .args .extra)) (told .enum-told3 .given .1)) in
+    (puts-as e (x .ensures .0), omega (arith, x .ensures .1))
 
 pub put-opening-spec : {M : Type 1} → statement M
 put-opening-spec =

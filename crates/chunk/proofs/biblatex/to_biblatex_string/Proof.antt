@@ -2,9 +2,6 @@
 use native.Mathlib.Omega.{arith}
 use mathlib.Core.Path.{sym, _∙_}
 use borrow.Author.Needs.{needs}
-use Rattle.chunk.specs.Chunk.{chunksOf}
-use Rattle.chunk.specs.Format.{toBiblatexString}
-use Rattle.chunk.specs.Write.{checkedOf}
 use Rattle.chunk.proofs.Answers as laws
 use Rattle.chunk.proofs.biblatex.to_biblatex_string.Statement.{statement}
 use Rattle.chunk.proofs.biblatex.to_biblatex_string.Tie as tie
@@ -16,9 +13,7 @@ enum-known-f : tie.Need-enum-known-f
 enum-known-f c = search needs
 
 returns : tie.Need-returns
-returns c =
-    let a = c .before .before .before .before .before .before .before .args in
-    laws.refused (checkedOf (a .t .now) (a .rows .now)) _ (a .out .now) _ (sym (c .before .before .before .check .ensures) ∙ c .before .f .given .1)
+returns c = laws.refused (sym (c .before .before .before .check .ensures) ∙ c .before .f .given .1)
 
 enum-told : tie.Need-enum-told
 enum-told c = search needs
@@ -28,35 +23,41 @@ slice-aggregate-write-all c = search needs
 
 write-all-requires : tie.Need-write-all-requires
 write-all-requires c κs =
-    let a = c .before .before .before .before .before .before .before .args in
-    (laws.are-chunks (a .t .now) (a .rows .now) (sym (c .before .before .before .check .ensures) ∙ c .before .enum-told .given .1), omega (arith, c .before .before .before .before .before .before .before .good .1 .1 .1 .0 .1))
+    let entry = c .before .before .before .before .before .before .before in
+    let a = entry .args in
+    let sound = laws.are-chunks (a .t .now) (a .rows .now) (sym (c .before .before .before .check .ensures) ∙ c .before .enum-told .given .1) in
+    (sound .1, omega (arith, entry .good .1 .1 .1 .0 .1))
 
 enum-told-2 : tie.Need-enum-told-2
 enum-told-2 c = search needs
 
 returns-2 : tie.Need-returns-2
 returns-2 c =
-    let a = c .before .before .before .before .before .before .before .before .before .before .before .args in
-    let sound = sym (c .before .before .before .before .before .before .before .check .ensures) ∙ c .before .before .before .before .before .enum-told .given .1 in
-    laws.no-room (checkedOf (a .t .now) (a .rows .now)) _ (a .out .now) sound (sym (c .before .before .before .write-all .ensures .answer) ∙ c .enum-told2 .given .1)
+    let told = c .before .before .before .before .before in
+    let sound = sym (told .before .before .check .ensures) ∙ told .enum-told .given .1 in
+    laws.no-room sound (sym (c .before .before .before .write-all .ensures .answer) ∙ c .enum-told2 .given .1)
 
 enum-known-n : tie.Need-enum-known-n
 enum-known-n c = search needs
 
 write-all-requires-2 : tie.Need-write-all-requires-2
 write-all-requires-2 c κs =
-    let a = c .before .before .before .before .before .before .before .before .before .before .before .before .before .args in
-    (laws.are-chunks (a .t .now) (a .rows .now) (sym (c .before .before .before .before .before .before .before .before .before .check .ensures) ∙ c .before .before .before .before .before .before .before .enum-told .given .1), omega (arith, c .before .before .before .before .before .before .before .before .before .before .before .before .before .good .1 .1 .1 .0 .1))
+    let told = c .before .before .before .before .before .before .before in
+    let entry = told .before .before .before .before .before .before in
+    let a = entry .args in
+    let sound = laws.are-chunks (a .t .now) (a .rows .now) (sym (told .before .before .check .ensures) ∙ told .enum-told .given .1) in
+    (sound .1, omega (arith, entry .good .1 .1 .1 .0 .1))
 
 same-length : tie.Need-same-length
 same-length c = search needs
 
 returns-3 : tie.Need-returns-3
 returns-3 c =
-    let a = c .before .before .before .before .before .before .before .before .before .before .before .before .before .before .before .before .args in
-    let sound = sym (c .before .before .before .before .before .before .before .before .before .before .before .before .check .ensures) ∙ c .before .before .before .before .before .before .before .before .before .before .enum-told .given .1 in
-    let count = sym (c .before .before .before .before .before .before .before .before .write-all .ensures .answer) ∙ c .before .before .before .before .before .n .given .1 in
-    laws.wrote (checkedOf (a .t .now) (a .rows .now)) (toBiblatexString (a .verb) (chunksOf (a .t .now) (a .rows .now))) (a .out .now) _ _ _ sound count (c .before .before .write-all2 .ensures)
+    let first = c .before .before .before .before .before in
+    let told = first .before .before .before .before .before in
+    let sound = sym (told .before .before .check .ensures) ∙ told .enum-told .given .1 in
+    let count = sym (first .before .before .before .write-all .ensures .answer) ∙ first .n .given .1 in
+    laws.wrote sound count (c .before .before .write-all2 .ensures)
 
 pub to-biblatex-string-spec : {M : Type 1} → statement M
 to-biblatex-string-spec =

@@ -4,8 +4,8 @@ use native.Mathlib.Omega.{arith}
 use mathlib.Core.Path.{refl, _∙_}
 use lib.ListN.{length}
 use borrow.Author.Needs.{needs}
-use Rattle.chunk.specs.Format.{biblatexFrom}
 use Rattle.chunk.proofs.Checks.{five}
+use Rattle.chunk.proofs.Passes.{row-here}
 use Rattle.chunk.proofs.Turns as laws
 use Rattle.chunk.proofs.biblatex.write_all.Statement.{statement}
 use Rattle.chunk.proofs.biblatex.write_all.Tie as tie
@@ -21,43 +21,55 @@ put-requires c κs = search needs
 
 loop-holds : tie.Need-loop-holds Inv-loop μ-loop
 loop-holds c =
-    let a = c .before .before .before .before .before .before .before .args in
+    let entry = c .before .before .before .before .before .before .before in
+    let a = entry .args in
     let y = c .before .before .put in
-    (laws.write-start (a .verb) (a .t .now) (a .rows .now) _ (y .result) (c .before .before .before .before .before .before .before .pre .0), omega (arith, y .ensures .1))
+    (laws.write-start (a .verb) (a .t .now) (a .rows .now) _ (y .result) (entry .pre .0), omega (arith, y .ensures .1))
 
 row-at-requires : tie.Need-row-at-requires Inv-loop μ-loop
-row-at-requires c κs =
-    let a = c .before .before .before .before .before .before .before .before .before .args in
-    let b = c .before .loop in
-    five (a .t .now) (a .rows .now) (b .i) (b .inv .0 .checks) (c .loop-test .taken)
+row-at-requires c κs = five (c .before .loop .inv .0 .checks) (c .loop-test .taken)
 
 kind-from-requires : tie.Need-kind-from-requires Inv-loop μ-loop
 kind-from-requires c κs = search needs
 
 put-opening-requires : tie.Need-put-opening-requires Inv-loop μ-loop
-put-opening-requires c κs = omega (arith, c .before .before .before .before .loop .inv .1, c .before .before .before .before .before .before .before .before .before .before .before .before .pre .1)
+put-opening-requires c κs =
+    let turn = c .before .before .before .before in
+    omega (arith, turn .loop .inv .1, turn .before .before .before .before .before .before .before .before .pre .1)
 
 put-body-requires : tie.Need-put-body-requires Inv-loop μ-loop
 put-body-requires c κs =
-    let a = c .before .before .before .before .before .before .before .before .before .before .before .before .before .before .before .before .args in
-    let b = c .before .before .before .before .before .before .before .before .loop in
-    let row = c .before .before .before .before .before .before .row-at .ensures in
-    let fit = laws.row-fits (biblatexFrom (a .verb)) _ (a .t .now) (a .rows .now) _ _ (b .out) (b .extra) (b .at) (b .i) (b .inv .0) (c .before .before .before .before .before .before .before .before .before .before .before .before .before .before .before .before .pre .0) (c .before .before .before .before .before .before .before .loop-test .taken) row in
-    (fit .0, fit .1, omega (arith, row .small, b .inv .1, c .before .before .before .before .before .before .before .before .before .before .before .before .before .before .before .before .pre .1, c .before .before .before .put-opening .ensures .1))
+    let opened = c .before .before .before in
+    let read = opened .before .before .before in
+    let turn = read .before .before in
+    let p = turn .before .before .before .before .before .before .before .before .pre in
+    let g = turn .loop .inv in
+    let row = read .row-at .ensures in
+    let fit = row-here (g .0) (p .0) (read .before .loop-test .taken) row in
+    (fit .0, fit .1, omega (arith, row .small, g .1, p .1, opened .put-opening .ensures .1))
 
 same-length : tie.Need-same-length Inv-loop μ-loop
-same-length c = c .before .before .before .put-body .kept .1 .1 .1 .1 .1 .0 ∙ (c .before .before .before .before .before .before .before .put-opening .kept .1 .1 .0 ∙ (c .before .before .before .before .before .before .before .before .before .before .before .before .loop .inv .0 .long ∙ c .before .before .before .before .before .before .before .before .before .before .before .before .before .before .before .put .kept .0))
+same-length c =
+    let body = c .before .before .before in
+    let opened = body .before .before .before .before in
+    let turn = opened .before .before .before .before .before in
+    let before = opened .put-opening .kept .1 .1 .0 ∙ (turn .loop .inv .0 .long ∙ turn .before .before .before .put .kept .0) in
+    body .put-body .kept .1 .1 .1 .1 .1 .0 ∙ before
 
 returns : tie.Need-returns Inv-loop μ-loop
 returns c =
-    let a = c .before .before .before .before .before .before .before .before .before .before .before .before .before .before .before .before .before .before .before .before .args in
-    let b = c .before .before .before .before .before .before .before .before .before .before .before .before .loop in
-    let x = c .before .before .before .before .before .before .before .put-opening in
-    let y = c .before .before .before .put-body in
-    let row : laws.Row (a .rows .now) (b .i) _ _ _ _ = record { known = c .before .before .before .before .before .before .before .before .before .kind-from .ensures; stores = c .before .before .before .before .before .before .before .before .before .before .row-at .ensures } in
-    let long = y .kept .1 .1 .1 .1 .1 .0 ∙ x .kept .1 .1 .0 in
-    let on = laws.write-turn (a .verb) (a .t .now) (a .rows .now) _ _ (b .out) (b .extra) (b .at) (b .i) (b .inv .0) (c .before .before .before .before .before .before .before .before .before .before .before .before .before .before .before .before .before .before .before .before .pre .0) (c .before .before .before .before .before .before .before .before .before .before .before .loop-test .taken) (x .result) _ (y .result) _ _ row (x .ensures .0) (y .ensures .0) refl long in
-    laws.write-more (a .verb) (a .t .now) (a .rows .now) _ _ _ _ _ _ on (a .out .now) (c .before .before .before .before .before .before .before .before .before .before .before .before .before .before .before .put .ensures .0) (a .room) (c .if1 .taken)
+    let body = c .before .before .before in
+    let opened = body .before .before .before .before in
+    let known = opened .before .before in
+    let turn = known .before .before .before in
+    let entry = turn .before .before .before .before .before .before .before .before in
+    let verb = entry .args .verb in
+    let x = opened .put-opening in
+    let y = body .put-body in
+    let row = laws.row-of (known .kind-from .ensures) (known .before .row-at .ensures) in
+    let read = laws.write-turn verb (turn .loop .inv .0) (entry .pre .0) (known .before .before .loop-test .taken) row in
+    let now = read (x .ensures .0) (y .ensures .0) refl (y .kept .1 .1 .1 .1 .1 .0 ∙ x .kept .1 .1 .0) in
+    laws.write-more verb now (turn .before .before .before .put .ensures .0) (c .if1 .taken)
 
 extra-after-requires : tie.Need-extra-after-requires Inv-loop μ-loop
 extra-after-requires c κs = search needs
@@ -70,37 +82,50 @@ loop-less c = omega arith
 
 loop-again : tie.Need-loop-again Inv-loop μ-loop
 loop-again c =
-    let a = c .before .before .before .before .before .before .before .before .before .before .before .before .before .before .before .before .before .before .before .before .before .args in
-    let b = c .before .before .before .before .before .before .before .before .before .before .before .before .before .loop in
-    let x = c .before .before .before .before .before .before .before .before .put-opening in
-    let y = c .before .before .before .before .put-body in
-    let row : laws.Row (a .rows .now) (b .i) _ _ _ _ = record { known = c .before .before .before .before .before .before .before .before .before .before .kind-from .ensures; stores = c .before .before .before .before .before .before .before .before .before .before .before .row-at .ensures } in
-    let long = y .kept .1 .1 .1 .1 .1 .0 ∙ x .kept .1 .1 .0 in
-    let on = laws.write-turn (a .verb) (a .t .now) (a .rows .now) _ _ (b .out) (b .extra) (b .at) (b .i) (b .inv .0) (c .before .before .before .before .before .before .before .before .before .before .before .before .before .before .before .before .before .before .before .before .before .pre .0) (c .before .before .before .before .before .before .before .before .before .before .before .before .loop-test .taken) (x .result) _ (y .result) _ _ row (x .ensures .0) (y .ensures .0) (c .extra-after .ensures) long in
-    (on, omega (arith, c .before .if1 .left))
+    let body = c .before .before .before .before in
+    let opened = body .before .before .before .before in
+    let known = opened .before .before in
+    let turn = known .before .before .before in
+    let entry = turn .before .before .before .before .before .before .before .before in
+    let x = opened .put-opening in
+    let y = body .put-body in
+    let row = laws.row-of (known .kind-from .ensures) (known .before .row-at .ensures) in
+    let read = laws.write-turn (entry .args .verb) (turn .loop .inv .0) (entry .pre .0) (known .before .before .loop-test .taken) row in
+    let now = read (x .ensures .0) (y .ensures .0) (c .extra-after .ensures) (y .kept .1 .1 .1 .1 .1 .0 ∙ x .kept .1 .1 .0) in
+    (now, omega (arith, c .before .if1 .left))
 
 put-closing-requires : tie.Need-put-closing-requires Inv-loop μ-loop
-put-closing-requires c κs = omega (arith, c .before .before .loop .inv .1, c .before .before .before .before .before .before .before .before .before .before .pre .1)
+put-closing-requires c κs =
+    let turn = c .before .before in
+    omega (arith, turn .loop .inv .1, turn .before .before .before .before .before .before .before .before .pre .1)
 
 same-length-2 : tie.Need-same-length-2 Inv-loop μ-loop
-same-length-2 c = c .before .before .before .put-closing .kept .1 .0 ∙ (c .before .before .before .before .before .before .loop .inv .0 .long ∙ c .before .before .before .before .before .before .before .before .before .put .kept .0)
+same-length-2 c =
+    let turn = c .before .before .before .before .before .before in
+    c .before .before .before .put-closing .kept .1 .0 ∙ (turn .loop .inv .0 .long ∙ turn .before .before .before .put .kept .0)
 
 returns-2 : tie.Need-returns-2 Inv-loop μ-loop
 returns-2 c =
-    let a = c .before .before .before .before .before .before .before .before .before .before .before .before .before .before .args in
-    let b = c .before .before .before .before .before .before .loop in
-    let y = c .before .before .before .put-closing in
-    laws.close-more (a .verb) (a .t .now) (a .rows .now) _ _ (b .out) (b .extra) (b .at) (b .i) (b .inv .0) (a .out .now) (c .before .before .before .before .before .before .before .before .before .put .ensures .0) (a .room) (c .before .before .before .before .before .before .before .before .before .before .before .before .before .before .pre .0) (c .before .before .before .before .before .loop-test .left) (y .result) _ (y .ensures .0) (c .if2 .taken)
+    let last = c .before .before .before .before .before in
+    let turn = last .before in
+    let entry = turn .before .before .before .before .before .before .before .before in
+    let first = turn .before .before .before .put .ensures .0 in
+    let y = c .before .before .before .put-closing .ensures .0 in
+    laws.close-more (entry .args .verb) (turn .loop .inv .0) first (entry .pre .0) (last .loop-test .left) y (c .if2 .taken)
 
 same-length-3 : tie.Need-same-length-3 Inv-loop μ-loop
-same-length-3 c = c .before .before .before .put-closing .kept .1 .0 ∙ (c .before .before .before .before .before .before .loop .inv .0 .long ∙ c .before .before .before .before .before .before .before .before .before .put .kept .0)
+same-length-3 c =
+    let turn = c .before .before .before .before .before .before in
+    c .before .before .before .put-closing .kept .1 .0 ∙ (turn .loop .inv .0 .long ∙ turn .before .before .before .put .kept .0)
 
 returns-3 : tie.Need-returns-3 Inv-loop μ-loop
 returns-3 c =
-    let a = c .before .before .before .before .before .before .before .before .before .before .before .before .before .before .args in
-    let b = c .before .before .before .before .before .before .loop in
-    let y = c .before .before .before .put-closing in
-    laws.write-done (a .verb) (a .t .now) (a .rows .now) _ _ (b .out) (b .extra) (b .at) (b .i) (b .inv .0) (a .out .now) (c .before .before .before .before .before .before .before .before .before .put .ensures .0) (a .room) (c .before .before .before .before .before .before .before .before .before .before .before .before .before .before .pre .0) (c .before .before .before .before .before .loop-test .left) (y .result) _ (y .ensures .0) (c .if2 .left)
+    let last = c .before .before .before .before .before in
+    let turn = last .before in
+    let entry = turn .before .before .before .before .before .before .before .before in
+    let first = turn .before .before .before .put .ensures .0 in
+    let y = c .before .before .before .put-closing .ensures .0 in
+    laws.write-done (entry .args .verb) (turn .loop .inv .0) first (entry .pre .0) (last .loop-test .left) y (c .if2 .left)
 
 pub write-all-spec : {M : Type 1} → statement M
 write-all-spec =

@@ -20,10 +20,7 @@ loop-holds : tie.Need-loop-holds Inv-loop μ-loop
 loop-holds c = let a = c .before .before .before .args in laws.checking (a .t .now) (a .rows .now) (c .if1 .left)
 
 row-at-requires : tie.Need-row-at-requires Inv-loop μ-loop
-row-at-requires c κs =
-    let a = c .before .before .before .before .before .args in
-    let b = c .before .loop in
-    laws.five (a .t .now) (a .rows .now) (b .i) (b .inv) (c .loop-test .taken)
+row-at-requires c κs = laws.five (c .before .loop .inv) (c .loop-test .taken)
 
 is-chunk-requires : tie.Need-is-chunk-requires Inv-loop μ-loop
 is-chunk-requires c κs = search needs
@@ -37,22 +34,17 @@ loop-less c = search needs
 loop-again : tie.Need-loop-again Inv-loop μ-loop
 loop-again c =
     let a = c .before .before .before .before .before .before .before .before .args in
-    let b = c .before .before .before .before .loop in
-    let e = laws.told (a .t .now) (a .rows .now) (b .i) (c .before .before .row-at .ensures) (sym (c .before .is-chunk .ensures) ∙ c .if2 .taken) in
-    laws.check-turn (a .t .now) (a .rows .now) (b .i) (b .inv) (c .before .before .before .loop-test .taken) e
+    let e = laws.told (a .t .now) (a .rows .now) (c .before .before .row-at .ensures) (sym (c .before .is-chunk .ensures) ∙ c .if2 .taken) in
+    laws.check-turn (c .before .before .before .before .loop .inv) (c .before .before .before .loop-test .taken) e
 
 returns-2 : tie.Need-returns-2 Inv-loop μ-loop
 returns-2 c =
     let a = c .before .before .before .before .before .before .before .before .args in
-    let b = c .before .before .before .before .loop in
-    let e = laws.told (a .t .now) (a .rows .now) (b .i) (c .before .before .row-at .ensures) (sym (c .before .is-chunk .ensures) ∙ c .if2 .left) in
-    laws.check-stop (a .t .now) (a .rows .now) (b .i) (b .inv) (c .before .before .before .loop-test .taken) e
+    let e = laws.told (a .t .now) (a .rows .now) (c .before .before .row-at .ensures) (sym (c .before .is-chunk .ensures) ∙ c .if2 .left) in
+    laws.check-stop (c .before .before .before .before .loop .inv) (c .before .before .before .loop-test .taken) e
 
 returns-3 : tie.Need-returns-3 Inv-loop μ-loop
-returns-3 c =
-    let a = c .before .before .before .before .before .args in
-    let b = c .before .loop in
-    laws.check-done (a .t .now) (a .rows .now) (b .i) (b .inv) (c .loop-test .left)
+returns-3 c = laws.check-done (c .before .loop .inv) (c .loop-test .left)
 
 pub are-chunks-spec : {M : Type 1} → statement M
 are-chunks-spec =

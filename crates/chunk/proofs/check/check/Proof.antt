@@ -24,13 +24,17 @@ are-chunks-requires c κs = search needs
 
 returns-2 : tie.Need-returns-2
 returns-2 c =
-    let a = c .before .before .before .before .before .before .before .args in
-    laws.sound (a .t .now) (a .rows .now) (sym (c .before .before .before .before .validate .ensures) ∙ c .before .before .enum-told .given .1) (sym (c .before .are-chunks .ensures) ∙ c .if1 .taken)
+    let told = c .before .before in
+    let a = told .before .before .before .before .before .args in
+    let valid = sym (told .before .before .validate .ensures) ∙ told .enum-told .given .1 in
+    laws.sound (a .t .now) (a .rows .now) valid (sym (c .before .are-chunks .ensures) ∙ c .if1 .taken)
 
 returns-3 : tie.Need-returns-3
 returns-3 c =
-    let a = c .before .before .before .before .before .before .before .args in
-    laws.bad-rows (a .t .now) (a .rows .now) (sym (c .before .before .before .before .validate .ensures) ∙ c .before .before .enum-told .given .1) (sym (c .before .are-chunks .ensures) ∙ c .if1 .left)
+    let told = c .before .before in
+    let a = told .before .before .before .before .before .args in
+    let valid = sym (told .before .before .validate .ensures) ∙ told .enum-told .given .1 in
+    laws.bad-rows (a .t .now) (a .rows .now) valid (sym (c .before .are-chunks .ensures) ∙ c .if1 .left)
 
 pub check-spec : {M : Type 1} → statement M
 check-spec =

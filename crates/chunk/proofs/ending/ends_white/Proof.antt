@@ -13,20 +13,22 @@ last-at-requires c κs = search needs
 
 code-at-requires : tie.Need-code-at-requires
 code-at-requires c κs =
-    let a = c .before .before .before .args in
-    let p = c .before .before .before .pre in
-    (last-less (a .t .now) (a .from) (a .to) _ (c .before .if1 .left) (p .1) (c .last-at .ensures), p .1)
+    let entry = c .before .before .before in
+    let a = entry .args in
+    (last-less (a .t .now) (a .from) (a .to) _ (c .before .if1 .left) (entry .pre .1) (c .last-at .ensures), entry .pre .1)
 
 is-whitespace-requires : tie.Need-is-whitespace-requires
 is-whitespace-requires c κs = search needs
 
 returns-2 : tie.Need-returns-2
 returns-2 c =
-    let a = c .before .before .before .before .before .args in
+    let some = c .before .before .before in
+    let entry = some .before .before in
+    let a = entry .args in
     let last = c .before .before .last-at in
     let code = c .before .code-at in
-    let l = c .before .before .before .if1 .left in
-    c .is-whitespace .ensures ∙ white-last (a .t .now) (a .from) (a .to) (last .result) (code .result) l (c .before .before .before .before .before .pre .1) (last .ensures) (code .ensures)
+    c .is-whitespace .ensures
+    ∙ white-last (a .t .now) (a .from) (a .to) (last .result) (code .result) (some .if1 .left) (entry .pre .1) (last .ensures) (code .ensures)
 
 pub ends-white-spec : {M : Type 1} → statement M
 ends-white-spec =

@@ -27,13 +27,15 @@ is-boundary-requires c κs = search needs
 
 returns : tie.Need-returns Inv-loop μ-loop
 returns c =
-    let a = c .before .before .before .before .before .args in
-    let p = c .before .before .before .before .before .pre in
-    let b = c .before .before .before .loop in
+    let turn = c .before .before .before in
+    let entry = turn .before .before in
+    let a = entry .args in
+    let b = turn .loop in
     let l = c .before .before .loop-test .taken in
     let h : a .from ≤ b .i - 1 = omega (arith, l) in
     let e : b .i ≡ b .i - 1 + 1 = omega (arith, l) in
-    laws.last-found (a .t .now) (a .from) (b .i) (b .i - 1) h e (omega (arith, b .inv .1, p .1)) (sym (c .before .is-boundary .ensures) ∙ c .if1 .taken)
+    let n : b .i ≤ length (a .t .now) = omega (arith, b .inv .1, entry .pre .1) in
+    laws.last-found (a .t .now) (a .from) (b .i) (b .i - 1) h e n (sym (c .before .is-boundary .ensures) ∙ c .if1 .taken)
     ∙ ap (λ (k : ℕ). a .from + k) (b .inv .2)
 
 loop-less : tie.Need-loop-less Inv-loop μ-loop
@@ -41,13 +43,14 @@ loop-less c = search needs
 
 loop-again : tie.Need-loop-again Inv-loop μ-loop
 loop-again c =
-    let a = c .before .before .before .before .before .args in
-    let p = c .before .before .before .before .before .pre in
-    let b = c .before .before .before .loop in
+    let turn = c .before .before .before in
+    let entry = turn .before .before in
+    let a = entry .args in
+    let b = turn .loop in
     let l = c .before .before .loop-test .taken in
     let h : a .from ≤ b .i - 1 = omega (arith, l) in
     let e : b .i ≡ b .i - 1 + 1 = omega (arith, l) in
-    let n : b .i ≤ length (a .t .now) = omega (arith, b .inv .1, p .1) in
+    let n : b .i ≤ length (a .t .now) = omega (arith, b .inv .1, entry .pre .1) in
     let q = laws.last-pass (a .t .now) (a .from) (b .i) (b .i - 1) h e n (sym (c .before .is-boundary .ensures) ∙ c .if1 .left) in
     (h, omega (arith, b .inv .1), sym q ∙ b .inv .2)
 

@@ -28,11 +28,12 @@ is-line-end-requires c κs = search needs
 
 returns : tie.Need-returns Inv-loop μ-loop
 returns c =
-    let a = c .before .before .before .before .before .before .args in
-    let b = c .before .before .before .before .loop in
-    let l = c .before .before .before .loop-test .taken in
-    let stop = laws.stops-at (a .t .now) (b .i) (a .to) l (c .before .before .before .before .before .before .pre .1) (sym (c .before .is-line-end .ensures) ∙ c .if1 .taken) in
-    (b .inv .2, stop, b .inv .0, b .inv .1)
+    let turn = c .before .before .before .before in
+    let entry = turn .before .before in
+    let a = entry .args in
+    let b = turn .loop in
+    let end = sym (c .before .is-line-end .ensures) ∙ c .if1 .taken in
+    (b .inv .2, laws.stops-at (a .t .now) (b .i) (a .to) (c .before .before .before .loop-test .taken) (entry .pre .1) end, b .inv .0, b .inv .1)
 
 add-i : tie.Need-add-i Inv-loop μ-loop
 add-i c = search needs
@@ -42,12 +43,14 @@ loop-less c = search needs
 
 loop-again : tie.Need-loop-again Inv-loop μ-loop
 loop-again c =
-    let a = c .before .before .before .before .before .before .args in
-    let b = c .before .before .before .before .loop in
+    let turn = c .before .before .before .before in
+    let entry = turn .before .before in
+    let a = entry .args in
+    let b = turn .loop in
     let l = c .before .before .before .loop-test .taken in
-    let h : b .i < length (a .t .now) = omega (arith, l, c .before .before .before .before .before .before .pre .1) in
-    let on = laws.plain-on (a .t .now) (a .from) (b .i) (b .inv .0) h (b .inv .2) (sym (c .before .is-line-end .ensures) ∙ c .if1 .left) in
-    (omega (arith, b .inv .0), omega (arith, l), on)
+    let h : b .i < length (a .t .now) = omega (arith, l, entry .pre .1) in
+    let other = sym (c .before .is-line-end .ensures) ∙ c .if1 .left in
+    (omega (arith, b .inv .0), omega (arith, l), laws.plain-on (a .t .now) (a .from) (b .i) (b .inv .0) h (b .inv .2) other)
 
 returns-2 : tie.Need-returns-2 Inv-loop μ-loop
 returns-2 c =

@@ -37,7 +37,9 @@ cast-t15 : tie.Need-cast-t15
 cast-t15 c = omega (arith, c .shared-slice-known3 .given (c .before .before .before .args .i + 2))
 
 returns : tie.Need-returns
-returns c = record { kind = refl; from = refl; to = refl; small = omega (arith, c .shared-slice-known3 .given (c .before .before .before .args .i + 2)) }
+returns c =
+    let small = c .shared-slice-known3 .given (c .before .before .before .args .i + 2) in
+    record { kind = refl; from = refl; to = refl; small = omega (arith, small) }
 
 pub row-at-spec : {M : Type 1} → statement M
 row-at-spec =

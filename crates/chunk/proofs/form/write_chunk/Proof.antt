@@ -61,11 +61,13 @@ same-length c = search needs
 returns : tie.Need-returns
 returns c =
     let a = c .before .before .before .args in
-    rw (c .before .kind-number .ensures) (put-sets (a .rows .now) (a .n) (chunkRow (kindOf (a .kind)) (a .from) (a .to) (a .start) (a .end)) (c .if1 .taken))
+    let row = chunkRow (kindOf (a .kind)) (a .from) (a .to) (a .start) (a .end) in
+    rw (c .before .kind-number .ensures) (put-sets (a .rows .now) (a .n) row (c .if1 .taken))
 
 returns-2 : tie.Need-returns-2
 returns-2 c =
-    let a = c .before .before .before .args in put-out (a .rows .now) (a .n) (chunkRow (kindOf (a .kind)) (a .from) (a .to) (a .start) (a .end)) (c .if1 .left)
+    let a = c .before .before .before .args in
+    put-out (a .rows .now) (a .n) (chunkRow (kindOf (a .kind)) (a .from) (a .to) (a .start) (a .end)) (c .if1 .left)
 
 pub write-chunk-spec : {M : Type 1} → statement M
 write-chunk-spec =

@@ -4,8 +4,8 @@ use native.Mathlib.Omega.{arith}
 use mathlib.Core.Path.{_∙_}
 use lib.ListN.{length}
 use borrow.Author.Needs.{needs}
-use Rattle.chunk.specs.Format.{formatFrom}
 use Rattle.chunk.proofs.Checks.{five}
+use Rattle.chunk.proofs.Passes.{row-here}
 use Rattle.chunk.proofs.Turns as laws
 use Rattle.chunk.proofs.format.format_all.Statement.{statement}
 use Rattle.chunk.proofs.format.format_all.Tie as tie
@@ -18,36 +18,38 @@ abbrev μ-loop : tie.MeasureT-loop
 
 loop-holds : tie.Need-loop-holds Inv-loop μ-loop
 loop-holds c =
-    let a = c .before .before .before .args in (laws.format-start (a .t .now) (a .rows .now) (a .out .now) (c .before .before .before .pre .0), omega arith)
+    let a = c .before .before .before .args in
+    (laws.format-start (a .t .now) (a .rows .now) (a .out .now) (c .before .before .before .pre .0), omega arith)
 
 row-at-requires : tie.Need-row-at-requires Inv-loop μ-loop
-row-at-requires c κs =
-    let a = c .before .before .before .before .before .args in
-    let b = c .before .loop in
-    five (a .t .now) (a .rows .now) (b .i) (b .inv .0 .checks) (c .loop-test .taken)
+row-at-requires c κs = five (c .before .loop .inv .0 .checks) (c .loop-test .taken)
 
 kind-from-requires : tie.Need-kind-from-requires Inv-loop μ-loop
 kind-from-requires c κs = search needs
 
 format-one-requires : tie.Need-format-one-requires Inv-loop μ-loop
 format-one-requires c κs =
-    let a = c .before .before .before .before .before .before .before .before .args in
-    let b = c .before .before .before .before .loop in
+    let turn = c .before .before .before .before in
+    let p = turn .before .before .before .before .pre in
+    let g = turn .loop .inv in
     let row = c .before .before .row-at .ensures in
-    let fit = laws.row-fits formatFrom _ (a .t .now) (a .rows .now) (a .out .now) 0 (b .out) (b .white) (b .at) (b .i) (b .inv .0) (c .before .before .before .before .before .before .before .before .pre .0) (c .before .before .before .loop-test .taken) row in
-    (fit .0, fit .1, omega (arith, row .small, b .inv .1, c .before .before .before .before .before .before .before .before .pre .1))
+    let fit = row-here (g .0) (p .0) (c .before .before .before .loop-test .taken) row in
+    (fit .0, fit .1, omega (arith, row .small, g .1, p .1))
 
 same-length : tie.Need-same-length Inv-loop μ-loop
-same-length c = c .before .before .before .before .format-one .kept .1 .1 .1 .1 .1 .0 ∙ c .before .before .before .before .before .before .before .before .before .loop .inv .0 .long
+same-length c =
+    let y = c .before .before .before .before in
+    y .format-one .kept .1 .1 .1 .1 .1 .0 ∙ y .before .before .before .before .before .loop .inv .0 .long
 
 returns : tie.Need-returns Inv-loop μ-loop
 returns c =
-    let a = c .before .before .before .before .before .before .before .before .before .before .before .before .before .args in
-    let b = c .before .before .before .before .before .before .before .before .before .loop in
-    let y = c .before .before .before .before .format-one in
-    let row : laws.Row (a .rows .now) (b .i) _ _ _ _ = record { known = c .before .before .before .before .before .before .kind-from .ensures; stores = c .before .before .before .before .before .before .before .row-at .ensures } in
-    let on = laws.format-turn (a .t .now) (a .rows .now) (a .out .now) (b .out) (b .white) (b .at) (b .i) (b .inv .0) (c .before .before .before .before .before .before .before .before .before .before .before .before .before .pre .0) (c .before .before .before .before .before .before .before .before .loop-test .taken) (y .result .at) (y .result .white) _ row (y .ensures .0) (y .ensures .1 .0) (y .kept .1 .1 .1 .1 .1 .0) in
-    laws.format-more (a .t .now) (a .rows .now) (a .out .now) _ _ _ _ on (a .room) (c .if1 .taken)
+    let done = c .before .before .before .before in
+    let known = done .before .before in
+    let turn = known .before .before .before in
+    let y = done .format-one in
+    let row = laws.row-of (known .kind-from .ensures) (known .before .row-at .ensures) in
+    let read = laws.format-turn (turn .loop .inv .0) (turn .before .before .before .before .pre .0) (known .before .before .loop-test .taken) row in
+    laws.format-more (read (y .ensures .0) (y .ensures .1 .0) (y .kept .1 .1 .1 .1 .1 .0)) (c .if1 .taken)
 
 add-i : tie.Need-add-i Inv-loop μ-loop
 add-i c = omega arith
@@ -57,21 +59,20 @@ loop-less c = omega arith
 
 loop-again : tie.Need-loop-again Inv-loop μ-loop
 loop-again c =
-    let a = c .before .before .before .before .before .before .before .before .before .before .before .before .before .args in
-    let b = c .before .before .before .before .before .before .before .before .before .loop in
-    let y = c .before .before .before .before .format-one in
-    let row : laws.Row (a .rows .now) (b .i) _ _ _ _ = record { known = c .before .before .before .before .before .before .kind-from .ensures; stores = c .before .before .before .before .before .before .before .row-at .ensures } in
-    let on = laws.format-turn (a .t .now) (a .rows .now) (a .out .now) (b .out) (b .white) (b .at) (b .i) (b .inv .0) (c .before .before .before .before .before .before .before .before .before .before .before .before .before .pre .0) (c .before .before .before .before .before .before .before .before .loop-test .taken) (y .result .at) (y .result .white) _ row (y .ensures .0) (y .ensures .1 .0) (y .kept .1 .1 .1 .1 .1 .0) in
-    (on, c .if1 .left)
+    let done = c .before .before .before .before in
+    let known = done .before .before in
+    let turn = known .before .before .before in
+    let y = done .format-one in
+    let row = laws.row-of (known .kind-from .ensures) (known .before .row-at .ensures) in
+    let read = laws.format-turn (turn .loop .inv .0) (turn .before .before .before .before .pre .0) (known .before .before .loop-test .taken) row in
+    (read (y .ensures .0) (y .ensures .1 .0) (y .kept .1 .1 .1 .1 .1 .0), c .if1 .left)
 
 same-length-2 : tie.Need-same-length-2 Inv-loop μ-loop
 same-length-2 c = c .before .loop .inv .0 .long
 
 returns-2 : tie.Need-returns-2 Inv-loop μ-loop
 returns-2 c =
-    let a = c .before .before .before .before .before .args in
-    let b = c .before .loop in
-    laws.format-done (a .t .now) (a .rows .now) (a .out .now) (b .out) (b .white) (b .at) (b .i) (b .inv .0) (c .before .before .before .before .before .pre .0) (c .loop-test .left) (a .room) (b .inv .1)
+    let g = c .before .loop .inv in laws.format-done (g .0) (c .before .before .before .before .before .pre .0) (c .loop-test .left) (g .1)
 
 pub format-all-spec : {M : Type 1} → statement M
 format-all-spec =

@@ -31,20 +31,27 @@ put-requires : tie.Need-put-requires
 put-requires c κs = search needs
 
 copy-requires-2 : tie.Need-copy-requires-2
-copy-requires-2 c κs = let p = c .before .before .before .before .before .before .before .before .before .pre in (p .0, p .1, omega (arith, c .before .before .before .put .ensures .1, p .2))
+copy-requires-2 c κs =
+    let first = c .before .before .before in
+    let p = first .before .before .before .before .before .before .pre in
+    (p .0, p .1, omega (arith, first .put .ensures .1, p .2))
 
 put-requires-2 : tie.Need-put-requires-2
-put-requires-2 c κs = let p = c .before .before .before .before .before .before .before .before .before .before .before .before .before .pre in omega (arith, c .before .before .before .copy2 .ensures .1, c .before .before .before .before .before .before .before .put .ensures .1, p .0, p .2)
+put-requires-2 c κs =
+    let first = c .before .before .before .before .before .before .before in
+    let p = first .before .before .before .before .before .before .pre in
+    omega (arith, c .before .before .before .copy2 .ensures .1, first .put .ensures .1, p .0, p .2)
 
 same-length : tie.Need-same-length
 same-length c = search needs
 
 returns : tie.Need-returns
 returns c =
-    let a = c .before .before .before .before .before .before .before .before .args in
+    let told = c .before .before .before .before in
+    let a = told .before .before .before .before .args in
     let x = c .before .before .lines in
-    let e = sym (ap (λ (k : Kind). formatOne (a .white) k (part (a .t .now) (a .from) (a .to))) (c .before .before .before .before .enum-told .given .1)) in
-    let put = puts-as _ _ (a .out .now) (a .at) _ _ (ap (λ (w : Written). w .text) e) (x .ensures .0) in
+    let e = sym (ap (λ (k : Kind). formatOne (a .white) k (part (a .t .now) (a .from) (a .to))) (told .enum-told .given .1)) in
+    let put = puts-as (ap (λ (w : Written). w .text) e) (x .ensures .0) in
     (put, (x .ensures .1 .0 ∙ ap (λ (w : Written). w .white) e, omega (arith, x .ensures .1 .1)))
 
 same-length-2 : tie.Need-same-length-2
@@ -52,28 +59,28 @@ same-length-2 c = search needs
 
 returns-2 : tie.Need-returns-2
 returns-2 c =
-    let a = c .before .before .before .before .before .before .before .before .before .args in
-    let p = c .before .before .before .before .before .before .before .before .before .pre in
+    let told = c .before .before .before .before .before in
+    let entry = told .before .before .before .before in
+    let a = entry .args in
     let x = c .before .before .copy in
-    let e = sym (ap (λ (k : Kind). formatOne (a .white) k (part (a .t .now) (a .from) (a .to))) (c .before .before .before .before .before .enum-told2 .given .1)) in
-    let put = puts-as _ _ (a .out .now) (a .at) _ _ (ap (λ (w : Written). w .text) e) (x .ensures .0) in
-    (put, (c .before .before .before .before .ends-white .ensures ∙ ap (λ (w : Written). w .white) e, omega (arith, x .ensures .1, p .0)))
+    let e = sym (ap (λ (k : Kind). formatOne (a .white) k (part (a .t .now) (a .from) (a .to))) (told .enum-told2 .given .1)) in
+    let put = puts-as (ap (λ (w : Written). w .text) e) (x .ensures .0) in
+    (put, (c .before .before .before .before .ends-white .ensures ∙ ap (λ (w : Written). w .white) e, omega (arith, x .ensures .1, entry .pre .0)))
 
 same-length-3 : tie.Need-same-length-3
 same-length-3 c = search needs
 
 returns-3 : tie.Need-returns-3
 returns-3 c =
-    let a = c .before .before .before .before .before .before .before .before .before .before .before .before .before .before .before .before .args in
-    let p = c .before .before .before .before .before .before .before .before .before .before .before .before .before .before .before .before .pre in
+    let told = c .before .before .before .before .before .before .before .before .before .before .before .before in
+    let entry = told .before .before .before .before in
+    let a = entry .args in
     let x = c .before .before .before .before .before .before .before .before .before .before .put in
     let y = c .before .before .before .before .before .before .copy2 in
     let z = c .before .before .put2 in
-    let e = sym (ap (λ (k : Kind). formatOne (a .white) k (part (a .t .now) (a .from) (a .to))) (c .before .before .before .before .before .before .before .before .before .before .before .before .enum-told3 .given .1)) in
-    let two = puts-on _ _ (a .out .now) (a .at) (x .result) _ (y .result) _ (x .ensures .0) (y .ensures .0) in
-    let all = puts-on _ _ (a .out .now) (a .at) (y .result) _ (z .result) _ two (z .ensures .0) in
-    let put = puts-as _ _ (a .out .now) (a .at) _ _ (ap (λ (w : Written). w .text) e) all in
-    (put, (ap (λ (w : Written). w .white) e, omega (arith, x .ensures .1, y .ensures .1, z .ensures .1, p .0)))
+    let e = sym (ap (λ (k : Kind). formatOne (a .white) k (part (a .t .now) (a .from) (a .to))) (told .enum-told3 .given .1)) in
+    let put = puts-as (ap (λ (w : Written). w .text) e) (puts-on (puts-on (x .ensures .0) (y .ensures .0)) (z .ensures .0)) in
+    (put, (ap (λ (w : Written). w .white) e, omega (arith, x .ensures .1, y .ensures .1, z .ensures .1, entry .pre .0)))
 
 pub format-one-spec : {M : Type 1} → statement M
 format-one-spec =

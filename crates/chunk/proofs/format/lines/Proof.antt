@@ -17,36 +17,39 @@ abbrev μ-loop : tie.MeasureT-loop
 
 loop-holds : tie.Need-loop-holds Inv-loop μ-loop
 loop-holds c =
-    let a = c .before .before .args in laws.lining (a .t .now) (a .from) (a .to) (a .white) (a .out .now) (a .at) (c .before .before .pre .0)
+    let a = c .before .before .args in
+    laws.lining (a .t .now) (a .from) (a .to) (a .white) (a .out .now) (a .at) (c .before .before .pre .0)
 
 line-end-requires : tie.Need-line-end-requires Inv-loop μ-loop
-line-end-requires c κs =
-    let p = c .before .before .before .before .pre in (omega (arith, c .loop-test .taken), p .1)
+line-end-requires c κs = (omega (arith, c .loop-test .taken), c .before .before .before .before .pre .1)
 
 ends-white-requires : tie.Need-ends-white-requires Inv-loop μ-loop
 ends-white-requires c κs =
-    let n = c .before .line-end .ensures in (n .2, omega (arith, n .3, c .before .before .before .before .before .before .pre .1))
+    let n = c .before .line-end .ensures in
+    (n .2, omega (arith, n .3, c .before .before .before .before .before .before .pre .1))
 
 copy-requires : tie.Need-copy-requires Inv-loop μ-loop
 copy-requires c κs =
-    let p = c .before .before .before .before .before .before .before .before .pre in
-    let g = c .before .before .before .before .before .loop .inv in
+    let turn = c .before .before .before .before .before in
+    let p = turn .before .before .before .pre in
+    let g = turn .loop .inv in
     let n = c .before .before .before .line-end .ensures in
     (n .2, omega (arith, n .3, p .1), omega (arith, n .2, n .3, g .room, g .first, p .2))
 
 loop-less : tie.Need-loop-less Inv-loop μ-loop
-loop-less c = omega (arith, c .before .before .before .before .before .if1 .taken, c .before .before .before .before .before .before .line-end .ensures .3)
+loop-less c =
+    let some = c .before .before .before .before .before in
+    omega (arith, some .if1 .taken, some .before .line-end .ensures .3)
 
 loop-again : tie.Need-loop-again Inv-loop μ-loop
 loop-again c =
-    let a = c .before .before .before .before .before .before .before .before .before .before .before .args in
-    let p = c .before .before .before .before .before .before .before .before .before .before .before .pre in
-    let b = c .before .before .before .before .before .before .before .before .loop in
+    let turn = c .before .before .before .before .before .before .before .before in
+    let b = turn .loop in
     let n = c .before .before .before .before .before .before .line-end in
     let white = c .before .before .before .before .ends-white in
     let y = c .before .before .copy in
-    let run = laws.runs (a .t .now) (a .from) (a .to) (a .white) (a .out .now) (a .at) (b .out) (b .w) (b .i) (b .j) (b .inv) (p .1) in
-    run (n .result) (y .result) _ (white .result) (c .before .before .before .before .before .if1 .taken) (n .ensures .3) (n .ensures .0) (n .ensures .1) (white .ensures) (y .ensures .0) (y .kept .1 .1 .1 .0)
+    let run = laws.runs (b .inv) (turn .before .before .before .pre .1) (c .before .before .before .before .before .if1 .taken) (n .ensures .3) in
+    run (n .ensures .0) (n .ensures .1) (white .ensures) (y .ensures .0) (y .kept .1 .1 .1 .0)
 
 add-i : tie.Need-add-i Inv-loop μ-loop
 add-i c = omega (arith, c .before .before .before .loop-test .taken, c .before .before .before .before .before .before .before .pre .1)
@@ -56,43 +59,49 @@ loop-less-2 c = omega (arith, c .before .before .before .loop-test .taken)
 
 loop-again-2 : tie.Need-loop-again-2 Inv-loop μ-loop
 loop-again-2 c =
-    let a = c .before .before .before .before .before .before .before .args in
-    let b = c .before .before .before .before .loop in
+    let turn = c .before .before .before .before in
+    let entry = turn .before .before .before in
+    let a = entry .args in
+    let b = turn .loop in
     let n = c .before .before .line-end in
     let e : n .result ≡ b .i = omega (arith, n .ensures .2, c .before .if1 .left) in
     let stop = subst (λ (k : ℕ). stops (part (a .t .now) k (a .to)) ≡ true) e (n .ensures .1) in
-    let pass = laws.passes (a .t .now) (a .from) (a .to) (a .white) (a .out .now) (a .at) (b .out) (b .w) (b .i) (b .j) (b .inv) (c .before .before .before .before .before .before .before .pre .1) in
-    pass (c .before .before .before .loop-test .taken) stop (c .if2 .taken)
+    laws.passes (b .inv) (entry .pre .1) (c .before .before .before .loop-test .taken) stop (c .if2 .taken)
 
 put-requires : tie.Need-put-requires Inv-loop μ-loop
-put-requires c κs = let g = c .before .before .before .before .before .loop .inv in omega (arith, g .room, g .first, c .before .before .before .before .loop-test .taken, c .before .before .before .before .before .before .before .before .pre .2)
+put-requires c κs =
+    let turn = c .before .before .before .before .before in
+    let g = turn .loop .inv in
+    omega (arith, g .room, g .first, c .before .before .before .before .loop-test .taken, turn .before .before .before .pre .2)
 
 add-i-2 : tie.Need-add-i-2 Inv-loop μ-loop
-add-i-2 c = omega (arith, c .before .before .before .before .before .before .before .loop-test .taken, c .before .before .before .before .before .before .before .before .before .before .before .pre .1)
+add-i-2 c =
+    let test = c .before .before .before .before .before .before .before in
+    omega (arith, test .loop-test .taken, test .before .before .before .before .pre .1)
 
 loop-less-3 : tie.Need-loop-less-3 Inv-loop μ-loop
 loop-less-3 c = omega (arith, c .before .before .before .before .before .before .before .loop-test .taken)
 
 loop-again-3 : tie.Need-loop-again-3 Inv-loop μ-loop
 loop-again-3 c =
-    let a = c .before .before .before .before .before .before .before .before .before .before .before .args in
-    let b = c .before .before .before .before .before .before .before .before .loop in
+    let turn = c .before .before .before .before .before .before .before .before in
+    let entry = turn .before .before .before in
+    let a = entry .args in
+    let b = turn .loop in
     let n = c .before .before .before .before .before .before .line-end in
     let y = c .before .before .put in
-    let e : n .result ≡ b .i = omega (arith, n .ensures .2, c .before .before .before .before .before .if1 .left) in
+    let left = c .before .before .before .before in
+    let e : n .result ≡ b .i = omega (arith, n .ensures .2, left .before .if1 .left) in
     let stop = subst (λ (k : ℕ). stops (part (a .t .now) k (a .to)) ≡ true) e (n .ensures .1) in
-    let blank = laws.blanks (a .t .now) (a .from) (a .to) (a .white) (a .out .now) (a .at) (b .out) (b .w) (b .i) (b .j) (b .inv) (c .before .before .before .before .before .before .before .before .before .before .before .pre .1) in
-    blank (c .before .before .before .before .before .before .before .loop-test .taken) stop (y .result) _ (c .before .before .before .before .if2 .left) (y .ensures .0) (y .kept .0)
+    laws.blanks (b .inv) (entry .pre .1) (left .before .before .before .loop-test .taken) stop (left .if2 .left) (y .ensures .0) (y .kept .0)
 
 same-length : tie.Need-same-length Inv-loop μ-loop
 same-length c = c .before .loop .inv .long
 
 returns : tie.Need-returns Inv-loop μ-loop
 returns c =
-    let a = c .before .before .before .before .args in
-    let b = c .before .loop in
-    let g = b .inv in
-    let done = laws.finished (a .t .now) (a .from) (a .to) (a .white) (a .out .now) (a .at) (b .out) (b .w) (b .i) (b .j) g (c .before .before .before .before .pre .1) (c .loop-test .left) in
+    let g = c .before .loop .inv in
+    let done = laws.finished g (c .before .before .before .before .pre .1) (c .loop-test .left) in
     (done .0, (done .1, omega (arith, g .room, g .inside)))
 
 pub lines-spec : {M : Type 1} → statement M

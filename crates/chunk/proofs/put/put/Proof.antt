@@ -21,7 +21,7 @@ add-result-2 : tie.Need-add-result-2
 add-result-2 c = search needs
 
 returns-2 : tie.Need-returns-2
-returns-2 c = let a = c .before .args in (puts-past _ (a .out .now) (a .at) _ (c .if1 .left) refl, refl)
+returns-2 c = (puts-past _ (c .if1 .left) refl, refl)
 
 pub put-spec : {M : Type 1} → statement M
 put-spec =

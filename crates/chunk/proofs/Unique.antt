@@ -1,0 +1,45 @@
+-- What the public contracts settle: any two outcomes that one allows are the same answer, and leave the same behind the lent output. Stated
+-- of each contract as the check reads it off the source, so that a contract which said less would fail here.
+-- Assumes nothing.
+use mathlib.Core.Path.{_≡_, sym, _∙_}
+use denote.Ref.{now}
+use Rattle.text.proofs.Unique.{One, Both}
+use Rattle.chunk.proofs.form.kind_number.Kinds as kind-number-kinds
+use Rattle.chunk.proofs.form.kind_number.Reads as kind-number
+use Rattle.chunk.proofs.form.kind_from.Kinds as kind-from-kinds
+use Rattle.chunk.proofs.form.kind_from.Reads as kind-from
+use Rattle.chunk.proofs.form.write_chunk.Kinds as write-chunk-kinds
+use Rattle.chunk.proofs.form.write_chunk.Reads as write-chunk
+use Rattle.chunk.proofs.check.check.Kinds as check-kinds
+use Rattle.chunk.proofs.check.check.Reads as check
+use Rattle.chunk.proofs.format.format_verbatim.Kinds as format-verbatim-kinds
+use Rattle.chunk.proofs.format.format_verbatim.Reads as format-verbatim
+use Rattle.chunk.proofs.biblatex.is_escapable.Kinds as is-escapable-kinds
+use Rattle.chunk.proofs.biblatex.is_escapable.Reads as is-escapable
+use Rattle.chunk.proofs.biblatex.to_biblatex_string.Kinds as to-biblatex-string-kinds
+use Rattle.chunk.proofs.biblatex.to_biblatex_string.Reads as to-biblatex-string
+
+pub one-kind-number : One 0 kind-number-kinds.ps kind-number-kinds.r kind-number.Post
+one-kind-number κs a x y s t p q = p ∙ sym q
+
+pub one-kind-from : One 0 kind-from-kinds.ps kind-from-kinds.r kind-from.Post
+one-kind-from κs a x y s t p q = p ∙ sym q
+
+-- the same rows
+pub one-write-chunk : Both 1 write-chunk-kinds.ps write-chunk-kinds.r write-chunk.Post (λ κs x s y t. now (s .0) ≡ now (t .0))
+one-write-chunk κs a x y s t p q = p ∙ sym q
+
+pub one-check : One 2 check-kinds.ps check-kinds.r check.Post
+one-check κs a x y s t p q = p ∙ sym q
+
+-- the same answer, and the same bytes
+pub one-format-verbatim : Both 3 format-verbatim-kinds.ps format-verbatim-kinds.r format-verbatim.Post
+    (λ κs x s y t. (x ≡ y) × (now (s .1 .1 .0) ≡ now (t .1 .1 .0)))
+one-format-verbatim κs a x y s t p q = (p .answer ∙ sym (q .answer), p .bytes ∙ sym (q .bytes))
+
+pub one-is-escapable : One 0 is-escapable-kinds.ps is-escapable-kinds.r is-escapable.Post
+one-is-escapable κs a x y s t p q = p ∙ sym q
+
+pub one-to-biblatex-string : Both 3 to-biblatex-string-kinds.ps to-biblatex-string-kinds.r to-biblatex-string.Post
+    (λ κs x s y t. (x ≡ y) × (now (s .1 .1 .1 .0) ≡ now (t .1 .1 .1 .0)))
+one-to-biblatex-string κs a x y s t p q = (p .answer ∙ sym (q .answer), p .bytes ∙ sym (q .bytes))
