@@ -25,8 +25,8 @@ use Rattle.raw.specs.declared.answer.Step.the-variants as step
 use Rattle.raw.specs.Reader.{Reader, ok, again, bad}
 use Rattle.raw.specs.Grammar.{is, escape, quotedTurn, quoted, numberTurn, number, bracedTurn, inBraces}
 use Rattle.raw.specs.Says.{stepOf, Onward}
-use Rattle.raw.proofs.Loop.{many-turn}
-use Rattle.raw.proofs.Readers.{quoted-turn-good, number-turn-good, braced-turn-good}
+use Rattle.raw.proofs.readers.Loop.{many-turn}
+use Rattle.raw.proofs.grammar.Readers.{quoted-turn-kept, number-turn-kept, braced-turn-kept}
 use Rattle.raw.proofs.Eaten.{narrow-is}
 use Rattle.raw.proofs.Bytes.{Narrow, seen-key, seen-other, Unrolls, Wide, Reached, on-turn, on-char, on-cut, on-escape, at-stop, at-bad}
 
@@ -37,7 +37,7 @@ Answers f s at r = (r ≡ stepOf (f s at)) × Onward (length s) 0 at r
 -- ---- in quotes
 
 quoted-un : Unrolls quotedTurn
-quoted-un = many-turn (λ a. quoted-turn-good a .kept)
+quoted-un = many-turn quoted-turn-kept
 
 quoted-other : (a : ℕ) (s : List ℕ) (i c n : ℕ) → see s i ≡ Char c n → is 0x22 c ≡ false → is 0x5C c ≡ false → quotedTurn a s i ≡ again n [] a
 unfolding quotedTurn
@@ -75,7 +75,7 @@ module _ {s : List ℕ} {at i : ℕ} (r : Reached quotedTurn s at 0 i) where
 -- ---- numbers
 
 number-un : Unrolls numberTurn
-number-un = many-turn (λ a. number-turn-good a .kept)
+number-un = many-turn number-turn-kept
 
 -- the loop's number, before the point and after it
 abbrev pub dotted : Bool → ℕ
@@ -130,7 +130,7 @@ module _ {s : List ℕ} {at i : ℕ} (h : i < length s) (e : getD s i 0 ≡ 0x2E
 -- ---- in braces
 
 braces-un : Unrolls bracedTurn
-braces-un = many-turn (λ a. braced-turn-good a .kept)
+braces-un = many-turn braced-turn-kept
 
 slash-on : (d : ℕ) (s : List ℕ) (i n : ℕ) → see s i ≡ Char 0x5C n → bracedTurn d s i ≡ escape d s n
 unfolding bracedTurn

@@ -32,7 +32,7 @@ use Rattle.raw.specs.declared.answer.Step.the-variants as step
 use Rattle.raw.specs.Reader.{ok, again, bad, Reader, after, many}
 use Rattle.raw.specs.Grammar.{escape}
 use Rattle.raw.specs.Says.{stepOf, Onward}
-use Rattle.raw.proofs.Bare.{more-none}
+use Rattle.raw.proofs.readers.Then.{more-none}
 
 -- ---- what is seen at a byte
 

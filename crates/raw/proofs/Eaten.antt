@@ -1,7 +1,7 @@
 -- Readers that look at one character, by what the code saw of it.
 --     eaten-off, eaten-on      by the place that `eat_if` told
 --     byte-on, byte-off, byte-end    by the byte, where only ASCII passes the test: `narrow-is`, `narrow-or`
---     need-off, need-on, need-end, need-other, need-byte, need-bare    the readers that want one character
+--     need-off, need-on, need-end, need-other, need-byte    the readers that want one character
 -- Assumes nothing.
 use Prim.Native.Nat.{ℕ, zero, suc, _+_, _≤_, _<_, max}
 use mathlib.Core.Path.{_≡_, refl, sym, ap, _∙_, subst}
@@ -23,8 +23,6 @@ use Rattle.raw.specs.declared.answer.Step.the-variants as step
 use Rattle.raw.specs.Reader.{Out, ok, bad, eaten}
 use Rattle.raw.specs.Grammar.{need}
 use Rattle.raw.specs.Says.{stepOf, Onward}
-use Rattle.raw.proofs.Good.{eaten-holds}
-use Rattle.raw.proofs.Bare.{Bare, bare-ok, bare-bad}
 
 -- ---- by the place after it
 
@@ -88,9 +86,6 @@ module _ (t : ℕ → Bool) (s : List ℕ) (i : ℕ) (f : ℕ → Out) (o : Out)
             rw (see-at s i h, narrow (code (drop i s)) w)
 
 -- ---- one character, or a refusal
-
-pub need-bare : (t : ℕ → Bool) (reason : Reason) (s : List ℕ) (i : ℕ) → Bare (need t reason s i)
-need-bare t reason s i = eaten-holds Bare t (see s i) (λ n. ok n []) (bad (faultAt reason i)) (λ k n x. bare-ok) bare-bad
 
 module _ (t : ℕ → Bool) (reason : Reason) (s : List ℕ) (i : ℕ) where
   off-told : need t reason s i ≡ bad (faultAt reason i) → (step.Refused (faultAt reason i) ≡ stepOf (need t reason s i)) × Unit {0}

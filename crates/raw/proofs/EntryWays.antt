@@ -25,9 +25,11 @@ use Rattle.row.specs.Row.{row, putRow}
 use Rattle.raw.specs.Reader.{ok, bad, andThen, under}
 use Rattle.raw.specs.Grammar.{white, comma, atSign, opening, closing, comment, key, ident, string, fields, strings, preamble, commented, body, lead, formOf, rest, entry}
 use Rattle.raw.specs.Says.{stepOf, refusedOf, Onward, Within, Says}
-use Rattle.raw.proofs.Bare.{bare-at, bare-off, then-on, then-off}
+use Rattle.raw.proofs.grammar.Rowless.{rowless-at, rowless-off}
+use Rattle.raw.proofs.readers.Then.{then-on, then-off}
 use Rattle.raw.proofs.Saying.{says-of, says-at, says-on, says-off, said-off, says-row, says-mark, says-then, says-under}
-use Rattle.raw.proofs.Steps.{white-on, scan-on, opening-bare, string-bare, comma-bare, at-sign-bare, ident-bare, closing-bare, lead-bare, comment-on, key-on}
+use Rattle.raw.proofs.TokenWays.{white-on, scan-on, comment-on, key-on}
+use Rattle.raw.proofs.grammar.Rowless.{opening-rowless, string-rowless, comma-rowless, at-sign-rowless, ident-rowless, closing-rowless, lead-rowless}
 use Rattle.raw.proofs.Bounds.{step-ahead, off-onward, off-step, off-answer, off-within}
 
 -- ---- the opening delimiter
@@ -35,12 +37,12 @@ use Rattle.raw.proofs.Bounds.{step-ahead, off-onward, off-step, off-ans
 module _ (s : List ℕ) (at : ℕ) {p₁ : ℕ} (e₁ : p₁ ≡ skip isWhitespace s at) (a₁ : Ahead s at p₁) {r₂ : Step} (e₂ : r₂ ≡ stepOf (opening s p₁)) where
   pub lead-off : {f : Fault} → r₂ ≡ step.Refused f → (r₂ ≡ stepOf (lead s at)) × Onward (length s) 1 at r₂
   unfolding lead
-  lead-off d = off-onward (length s) 1 at (then-on _ (white-on s at e₁) ∙ then-off _ (bare-off (opening s p₁) e₂ d)) d
+  lead-off d = off-onward (length s) 1 at (then-on _ (white-on s at e₁) ∙ then-off _ (rowless-off (opening s p₁) e₂ d)) d
 
   pub lead-on : {p₂ p₃ : ℕ} → Onward (length s) 1 p₁ r₂ → r₂ ≡ step.At p₂ → p₃ ≡ skip isWhitespace s p₂ → Ahead s p₂ p₃ → (step.At p₃ ≡ stepOf (lead s at)) × Onward (length s) 1 at (step.At p₃)
   unfolding lead
   lead-on {p₂} {p₃} o d e₃ a₃ =
-      let q : lead s at ≡ ok p₃ [] = then-on _ (white-on s at e₁) ∙ then-on _ (bare-at (opening-bare s p₁) e₂ d) ∙ white-on s p₂ e₃ in
+      let q : lead s at ≡ ok p₃ [] = then-on _ (white-on s at e₁) ∙ then-on _ (rowless-at (opening-rowless s p₁) e₂ d) ∙ white-on s p₂ e₃ in
       let k = step-ahead (length s) 1 p₁ d o in
       (ap stepOf (sym q), (omega arith, omega arith))
 
@@ -49,13 +51,13 @@ module _ (s : List ℕ) (at : ℕ) {p₁ : ℕ} (e₁ : p₁ ≡ skip isWhitespa
 module _ (s : List ℕ) (at : ℕ) {base n : ℕ} {b : List ℕ} {r₁ : Step} (e₁ : r₁ ≡ stepOf (string s at)) where
   pub preamble-off : {f : Fault} {a : Answer} {b′ : List ℕ} → r₁ ≡ step.Refused f → a ≡ refusedOf r₁ → Says base (preamble s at) n b a b′ × Within (length s) 2 at n a
   unfolding preamble
-  preamble-off d h = off-step (length s) 2 at (ap (under (row kind.Preamble at)) (bare-off (string s at) e₁ d)) d h
+  preamble-off d h = off-step (length s) 2 at (ap (under (row kind.Preamble at)) (rowless-off (string s at) e₁ d)) d h
 
   pub preamble-on : {p₁ : ℕ} {b′ : List ℕ} → Onward (length s) 2 at r₁ → r₁ ≡ step.At p₁ → b′ ≡ putRow b n (row kind.Preamble (base + at) (base + p₁)) → Says base (preamble s at) n b (answer.Next p₁ (n + 1)) b′ × Within (length s) 2 at n (answer.Next p₁ (n + 1))
   unfolding preamble
   preamble-on o d h =
       let k = step-ahead (length s) 2 at d o in
-      (rw h (says-under kind.Preamble at (says-on (bare-at (string-bare s at) e₁ d))), (omega arith, omega arith, omega arith))
+      (rw h (says-under kind.Preamble at (says-on (rowless-at (string-rowless s at) e₁ d))), (omega arith, omega arith, omega arith))
 
 -- ---- an entry's key, to its fields
 
@@ -63,7 +65,7 @@ module _ (s : List ℕ) (at : ℕ) {base n : ℕ} {b : List ℕ} {p₁ p₂ : �
   pub body-off : {f : Fault} {a : Answer} {b′ : List ℕ} → r₃ ≡ step.Refused f → a ≡ refusedOf r₃ → Says base (body s at) n b a b′ × Within (length s) 1 at n a
   unfolding body
   body-off {f} d h =
-      let q : body s at ≡ bad f = rw (key-on s at e₁, white-on s p₁ e₂, bare-off (comma s p₂) e₃ d) in
+      let q : body s at ≡ bad f = rw (key-on s at e₁, white-on s p₁ e₂, rowless-off (comma s p₂) e₃ d) in
       off-step (length s) 1 at q d h
 
   module _ {p₃ p₄ p₅ p₆ : ℕ} (d₃ : r₃ ≡ step.At p₃) (e₄ : p₄ ≡ skip isWhitespace s p₃) (e₅ : step.At p₅ ≡ stepOf (comment s p₄)) (e₆ : p₆ ≡ skip isWhitespace s p₅) where
@@ -71,7 +73,7 @@ module _ (s : List ℕ) (at : ℕ) {base n : ℕ} {b : List ℕ} {p₁ p₂ : �
     unfolding body
     body-on h k =
         says-mark kind.Key at _ (key-on s at e₁)
-        (says-of (then-on _ (white-on s p₁ e₂) ∙ then-on _ (bare-at (comma-bare s p₂) e₃ d₃) ∙ then-on _ (white-on s p₃ e₄) ∙ then-on _ (comment-on s p₄ e₅) ∙ then-on _ (white-on s p₅ e₆))
+        (says-of (then-on _ (white-on s p₁ e₂) ∙ then-on _ (rowless-at (comma-rowless s p₂) e₃ d₃) ∙ then-on _ (white-on s p₃ e₄) ∙ then-on _ (comment-on s p₄ e₅) ∙ then-on _ (white-on s p₅ e₆))
         (rw h at k))
 
 -- ---- an entry after its type
@@ -87,11 +89,11 @@ module _ (s : List ℕ) (p a e : ℕ) where
   module _ {r₁ : Step} (e₁ : r₁ ≡ stepOf (lead s e)) where
     pub rest-off : (form : Form) {f : Fault} {x : Answer} {base n : ℕ} {b b′ : List ℕ} → r₁ ≡ step.Refused f → x ≡ refusedOf r₁ → Says base (rest form p a e s e) n b x b′ × Within (length s) 1 e (n + 1) x
     rest-off form {n = n} d h =
-        (off-step (length s) 1 e (rest-bad form (bare-off (lead s e) e₁ d)) d h .0, off-within (length s) 1 e (n + 1) (h ∙ ap refusedOf d))
+        (off-step (length s) 1 e (rest-bad form (rowless-off (lead s e) e₁ d)) d h .0, off-within (length s) 1 e (n + 1) (h ∙ ap refusedOf d))
 
     module _ (form : Form) {p₁ : ℕ} (d₁ : r₁ ≡ step.At p₁) where
       led : lead s e ≡ ok p₁ []
-      led = bare-at (lead-bare s e) e₁ d₁
+      led = rowless-at (lead-rowless s e) e₁ d₁
 
       module _ {base n : ℕ} {b b′ : List ℕ} where
         formed : {x : Form} {r : Answer} → form ≡ x → Says base (rest x p a e s e) n b r b′ → Says base (rest form p a e s e) n b r b′
@@ -124,20 +126,20 @@ module _ (s : List ℕ) (p a e : ℕ) where
 module _ (s : List ℕ) (at : ℕ) {r₁ : Step} (e₁ : r₁ ≡ stepOf (atSign s at)) where
   pub entry-at-off : {f : Fault} {x : Answer} {base n : ℕ} {b b′ : List ℕ} → r₁ ≡ step.Refused f → x ≡ refusedOf r₁ → Says base (entry s at) n b x b′ × Within (length s) 1 at n x
   unfolding entry
-  entry-at-off d h = off-step (length s) 1 at (then-off _ (bare-off (atSign s at) e₁ d)) d h
+  entry-at-off d h = off-step (length s) 1 at (then-off _ (rowless-off (atSign s at) e₁ d)) d h
 
   module _ {p₁ : ℕ} (d₁ : r₁ ≡ step.At p₁) {r₂ : Step} (e₂ : r₂ ≡ stepOf (ident s p₁)) where
     sign : atSign s at ≡ ok p₁ []
-    sign = bare-at (at-sign-bare s at) e₁ d₁
+    sign = rowless-at (at-sign-rowless s at) e₁ d₁
 
     pub entry-type-off : {f : Fault} {x : Answer} {base n : ℕ} {b b′ : List ℕ} → r₂ ≡ step.Refused f → x ≡ refusedOf r₂ → Says base (entry s at) n b x b′ × Within (length s) 1 at n x
     unfolding entry
-    entry-type-off d h = off-step (length s) 1 at (then-on _ sign ∙ then-off _ (bare-off (ident s p₁) e₂ d)) d h
+    entry-type-off d h = off-step (length s) 1 at (then-on _ sign ∙ then-off _ (rowless-off (ident s p₁) e₂ d)) d h
 
     module _ {p₂ : ℕ} (d₂ : r₂ ≡ step.At p₂) {form : Form} (f : form ≡ formOf s p₁ p₂) where
       typed : entry s at ≡ andThen (rest form at p₁ p₂ s p₂) (λ q. andThen (white s q) (closing s))
       unfolding entry
-      typed = then-on _ sign ∙ then-on _ (bare-at (ident-bare s p₁) e₂ d₂) ∙ rw f
+      typed = then-on _ sign ∙ then-on _ (rowless-at (ident-rowless s p₁) e₂ d₂) ∙ rw f
 
       module _ {base n : ℕ} {b : List ℕ} where
         pub entry-rest-off : {r : Answer} {x : Fault} {b₁ b′ : List ℕ} → r ≡ answer.Refused x → Says base (rest form at p₁ p₂ s p₂) n b r b₁ → Says base (entry s at) n b r b′ × Within (length s) 1 at n r
@@ -147,9 +149,9 @@ module _ (s : List ℕ) (at : ℕ) {r₁ : Step} (e₁ : r₁ ≡ stepOf (atSign
           pub entry-end-off : {x : Fault} {a : Answer} {b′ : List ℕ} → r₅ ≡ step.Refused x → a ≡ refusedOf r₅ → Says base (entry s at) n b a b′ × Within (length s) 1 at n a
           entry-end-off d k =
               let q = k ∙ ap refusedOf d in
-              let c = then-on _ (white-on s p₃ e₄) ∙ bare-off (closing s p₄) e₅ d in
+              let c = then-on _ (white-on s p₃ e₄) ∙ rowless-off (closing s p₄) e₅ d in
               (says-at (sym q) (says-of typed (says-then _ (says-at d₃ h) (says-off c))), off-within (length s) 1 at n q)
 
           pub entry-on : {p₅ : ℕ} → r₅ ≡ step.At p₅ → Says base (entry s at) n b (answer.Next p₅ m) b₁
           entry-on d =
-              says-of typed (says-then _ (says-at d₃ h) (says-on (then-on _ (white-on s p₃ e₄) ∙ bare-at (closing-bare s p₄) e₅ d)))
+              says-of typed (says-then _ (says-at d₃ h) (says-on (then-on _ (white-on s p₃ e₄) ∙ rowless-at (closing-rowless s p₄) e₅ d)))

@@ -23,9 +23,11 @@ use Rattle.row.specs.Row.{row, putRow}
 use Rattle.raw.specs.Reader.{Out, ok, again, bad, more, andThen, under, eaten, sees, stop, turn, refuse, _then_}
 use Rattle.raw.specs.Grammar.{is, any, white, comma, ident, equals, abbrField, comment, field, fieldEnd, fieldsTurn}
 use Rattle.raw.specs.Says.{stepOf, Says, SaysTurn}
-use Rattle.raw.proofs.Bare.{bare-at, bare-off, then-on, then-off}
+use Rattle.raw.proofs.grammar.Rowless.{rowless-at, rowless-off}
+use Rattle.raw.proofs.readers.Then.{then-on, then-off}
 use Rattle.raw.proofs.Eaten.{narrow-is, byte-end, byte-on, byte-off}
-use Rattle.raw.proofs.Steps.{white-on, comment-on, ident-bare, equals-bare}
+use Rattle.raw.proofs.TokenWays.{white-on, comment-on}
+use Rattle.raw.proofs.grammar.Rowless.{ident-rowless, equals-rowless}
 use Rattle.raw.proofs.Saying.{says-of, says-at, says-on, says-off, says-then, says-mark, said-off, turn-of, turn-then, turn-off}
 
 -- ---- `field`
@@ -33,19 +35,19 @@ use Rattle.raw.proofs.Saying.{says-of, says-at, says-on, says-off, says
 module _ (k : Kind) (s : List ℕ) (i : ℕ) {r₁ : Step} (e₁ : r₁ ≡ stepOf (ident s i)) where
   pub name-off : {x : Fault} → r₁ ≡ step.Refused x → field k s i ≡ bad x
   unfolding field
-  name-off d = then-off _ (ap (under (row k i)) (bare-off (ident s i) e₁ d))
+  name-off d = then-off _ (ap (under (row k i)) (rowless-off (ident s i) e₁ d))
 
   module _ {p₁ : ℕ} (d₁ : r₁ ≡ step.At p₁) {p₂ : ℕ} (w₂ : p₂ ≡ skip isWhitespace s p₁) {r₃ : Step} (e₃ : r₃ ≡ stepOf (equals s p₂)) where
     pub equals-off : {x : Fault} → r₃ ≡ step.Refused x → field k s i ≡ bad x
     unfolding field
-    equals-off d = rw (bare-at (ident-bare s i) e₁ d₁, white-on s p₁ w₂, bare-off (equals s p₂) e₃ d)
+    equals-off d = rw (rowless-at (ident-rowless s i) e₁ d₁, white-on s p₁ w₂, rowless-off (equals s p₂) e₃ d)
 
     module _ {p₃ : ℕ} (d₃ : r₃ ≡ step.At p₃) {p₄ : ℕ} (w₄ : p₄ ≡ skip isWhitespace s p₃) {base n : ℕ} {b c b′ : List ℕ} (put : c ≡ putRow b n (row k (base + i) (base + p₁))) {r : Answer} (h : Says base (abbrField s p₄) (n + 1) c r b′) where
       to-value : {q : Answer} {d : List ℕ} → Says base ((abbrField then white then comment) s p₄) (n + 1) c q d → Says base (field k s i) n b q d
       unfolding field
       to-value w =
-          says-mark k i _ (bare-at (ident-bare s i) e₁ d₁)
-          (says-of (then-on _ (white-on s p₁ w₂) ∙ then-on _ (bare-at (equals-bare s p₂) e₃ d₃) ∙ then-on _ (white-on s p₃ w₄)) (rw put at w))
+          says-mark k i _ (rowless-at (ident-rowless s i) e₁ d₁)
+          (says-of (then-on _ (white-on s p₁ w₂) ∙ then-on _ (rowless-at (equals-rowless s p₂) e₃ d₃) ∙ then-on _ (white-on s p₃ w₄)) (rw put at w))
 
       pub value-off : {x : Fault} {d : List ℕ} → r ≡ answer.Refused x → Says base (field k s i) n b r d
       value-off e = says-at (sym e) (to-value (says-off (then-off _ (said-off (says-at e h)))))

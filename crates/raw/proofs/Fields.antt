@@ -17,17 +17,17 @@ use Rattle.row.specs.declared.fault.Reason.the-variants.{UnexpectedEof}
 use Rattle.row.specs.Fault.{faultAt}
 use Rattle.raw.specs.declared.answer.Answer.the-variants as answer
 use Rattle.raw.specs.declared.answer.Turn.the-variants as turned
-use Rattle.row.specs.Row.{row}
+use Rattle.row.specs.Row.{plain, row}
 use Rattle.raw.specs.Reader.{Out, ok, again, bad, andThen, under, eaten, after, many, sees, when, stop, turn, refuse, over, _then_}
 use Rattle.raw.specs.Inner.{Undelimited}
 use Rattle.raw.specs.Grammar.{is, any, white, number, numberTurn, ident, braced, stringLiteral, singleField, abbrElement, abbrTurn}
 use Rattle.raw.specs.Says.{Says, SaysTurn}
-use Rattle.raw.proofs.Good.{Sound}
-use Rattle.raw.proofs.Loop.{many-turn}
-use Rattle.raw.proofs.Readers.{number-turn-good, number-good}
-use Rattle.raw.proofs.Bare.{more-none, then-on, then-off}
+use Rattle.raw.proofs.readers.Kept.{Advances}
+use Rattle.raw.proofs.readers.Loop.{many-turn}
+use Rattle.raw.proofs.grammar.Readers.{from-start, number-turn-kept, number-laws}
+use Rattle.raw.proofs.readers.Then.{more-none, then-on, then-off}
 use Rattle.raw.proofs.Eaten.{narrow-is, eaten-off, eaten-on, byte-end, byte-on, byte-off}
-use Rattle.raw.proofs.Steps.{white-on}
+use Rattle.raw.proofs.TokenWays.{white-on}
 use Rattle.raw.proofs.Saying.{turn-of, turn-done, turn-again, turn-then, said-off}
 
 -- ---- `single_field`, by the byte
@@ -70,7 +70,7 @@ module _ (s : List ℕ) (i : ℕ) where
 
 module _ (s : List ℕ) (i : ℕ) {r : ℕ} (e : r ≡ pastOne (holdsOf test.Digit) i (see s i)) where
   abbrev nameOr : Out
-  nameOr = sees isIdStart (over kind.Name ident) singleField s i
+  nameOr = sees isIdStart (over (plain kind.Name) ident) singleField s i
 
   pub element-number : (r ≡ i → ⊥) → abbrElement s i ≡ under (row kind.Literal i) (number s i)
   unfolding abbrElement
@@ -81,8 +81,8 @@ module _ (s : List ℕ) (i : ℕ) {r : ℕ} (e : r ≡ pastOne (holdsOf test.Dig
   unfolding number numberTurn
   number-past h {q} d =
       let t : numberTurn 0 s i ≡ again r [] 0 = eaten-on (holdsOf test.Digit) s i (λ n. again n [] 0) _ e h in
-      let m : number s i ≡ number s r = many-turn (λ a. number-turn-good a .kept) 0 s i ∙ ap (λ (o : Out). after o (λ a p. many numberTurn a s p)) t ∙ more-none (number s r) in
-      let k = subst (Sound 0 0 r (length s)) (sym m ∙ d) (number-good .kept .sound s r) in
+      let m : number s i ≡ number s r = many-turn number-turn-kept 0 s i ∙ ap (λ (o : Out). after o (λ a p. many numberTurn a s p)) t ∙ more-none (number s r) in
+      let k = subst (Advances 0 0 r (length s)) (sym m ∙ d) (from-start number-laws .core .kept .advances s r) in
       omega arith
 
   module _ (h : r ≡ i) {q : ℕ} (d : q ≡ pastOne (holdsOf test.IdStart) i (see s i)) where

@@ -34,9 +34,9 @@ use Rattle.raw.specs.Says.{stepOf, answerOf, Room, Says}
 use Rattle.row.specs.Limits.{mostBytes}
 use Rattle.raw.specs.Read.{checked, strict, readingOut, leftOut, Read}
 use Rattle.row.proofs.Rows.{moved-none, overlay-fits}
-use Rattle.raw.proofs.Bare.{then-on}
+use Rattle.raw.proofs.readers.Then.{then-on}
 use Rattle.raw.proofs.Saying.{says-at, said-off}
-use Rattle.raw.proofs.Steps.{scan-on, white-on, comment-on}
+use Rattle.raw.proofs.TokenWays.{scan-on, white-on, comment-on}
 use Rattle.raw.proofs.Bytes.{seen-key, seen-other}
 use Rattle.raw.proofs.Eaten.{narrow-is}
 

@@ -6,7 +6,7 @@ use Prim.Native.Nat.{ℕ, zero, suc, _+_, _≤_, _<_}
 use native.Mathlib.Omega.{arith}
 use mathlib.Core.Path.{_≡_, refl, sym, ap, _∙_, subst}
 use mathlib.Core.Bool.{Bool, true, false, cond}
-use mathlib.Core.List.{List, [], _++_}
+use mathlib.Core.List.{List, _++_}
 use lib.ListN.{length, take, length-append, length-take}
 use lib.Dec.{leb}
 use Rattle.text.specs.Class.{holdsOf}
@@ -22,30 +22,32 @@ use Rattle.text.proofs.Moved.{see-front}
 use Rattle.text.proofs.Rfc3629.{rfc3629}
 use Rattle.row.specs.declared.fault.Fault.{Fault}
 use Rattle.row.specs.declared.fault.Reason.the-variants.{TooLong, NotUtf8}
-use Rattle.row.specs.Fault.{faultAt, nowhere}
+use Rattle.row.specs.declared.fault.Reason.{Reason}
+use Rattle.row.specs.Fault.{numberOf, faultAt, nowhere}
 use Rattle.row.specs.Row.{Row}
-use Rattle.raw.specs.Reader.{Out, ok, again, bad, more, andThen, eaten, after, stop, turn, loop, many}
+use Rattle.raw.specs.Reader.{Out, ok, again, bad, more, andThen, after, turn, loop, many}
 use Rattle.raw.specs.Grammar.{is, any, white, comment, entry, fileTurn, file}
 use Rattle.row.specs.Limits.{mostBytes}
 use Rattle.raw.specs.Read.{checked, strict}
 use Rattle.raw.specs.Strict.{Same, Fresh, Accepted, Refusal, Strict}
-use Rattle.raw.proofs.Trace.{Trace, Refused, Traced, trace-reach}
-use Rattle.raw.proofs.Spans.{reach-inside, reach-same, trace-rising, trace-spans, trace-clean}
-use Rattle.raw.proofs.Good.{Stops, Sound}
-use Rattle.raw.proofs.Loop.{many-turn}
-use Rattle.raw.proofs.Entries.{entry-good, file-turn-good, file-good}
-use Rattle.raw.proofs.Rules.{file-rules}
-use Rattle.raw.proofs.Few.{file-few}
-use Rattle.raw.proofs.Early.{file-early}
+use Rattle.raw.proofs.readers.Trace.{Trace, Refused, Traced, trace-reach}
+use Rattle.raw.proofs.readers.Spans.{reach-inside, reach-same, trace-rising, trace-spans, trace-clean}
+use Rattle.raw.proofs.readers.Kept.{Stops, Advances, eaten-holds}
+use Rattle.raw.proofs.readers.Then.{bad-is}
+use Rattle.raw.proofs.readers.Loop.{many-turn}
+use Rattle.raw.proofs.grammar.Early.{hits, eaten-else}
+use Rattle.raw.proofs.grammar.Readers.{from-start}
+use Rattle.raw.proofs.grammar.Entries.{entry-kept, entry-laws}
+use Rattle.raw.proofs.grammar.Files.{file-turn-kept, file-laws, file-rules, file-few, file-early}
 
 -- ---- no fuel
 
 file-any : (a : ℕ) (s : List ℕ) (p : ℕ) → many fileTurn a s p ≡ file s p
 unfolding fileTurn file
-file-any a s p = many-turn (λ a. file-turn-good a .kept) a s p ∙ sym (many-turn (λ a. file-turn-good a .kept) 0 s p)
+file-any a s p = many-turn file-turn-kept a s p ∙ sym (many-turn file-turn-kept 0 s p)
 
 pub file-turn : (s : List ℕ) (p : ℕ) → file s p ≡ after (fileTurn 0 s p) (λ a q. file s q)
-file-turn s p = sym (file-any 0 s p) ∙ many-turn (λ a. file-turn-good a .kept) 0 s p ∙ by (fileTurn 0 s p)
+file-turn s p = sym (file-any 0 s p) ∙ many-turn file-turn-kept 0 s p ∙ by (fileTurn 0 s p)
   where
     by : (o : Out) → after o (λ a q. many fileTurn a s q) ≡ after o (λ a q. file s q)
     by (ok q rs) = refl
@@ -79,18 +81,18 @@ module _ (s : List ℕ) where
   turned-ends : (o : Out) → Ends (andThen o (turn 0 s))
   turned-ends o = chain-ends o (turn 0 s) (λ q. tt)
 
+  -- where no character is seen the text ends
+  none-left : (q : ℕ) (x : Seen) → Inside s q x → hits any x ≡ false → length s ≤ q
+  none-left q End h e = h
+  none-left q (Char c n) h e = let z : _≡_ {A = ℕ} 0 1 = cc in absurd (omega arith)
+
   turn-ends : (a p : ℕ) → Ends (fileTurn a s p)
   unfolding fileTurn
-  turn-ends a p = chain-ends (white s p) _ (λ q. by q (see s q) (see-inside s q))
-    where
-      by : (q : ℕ) (x : Seen) → Inside s q x → Ends (eaten (is 0x40) x (λ n. andThen (entry s q) (turn 0 s)) (eaten (holdsOf test.Percent) x (λ n. andThen (comment s q) (turn 0 s)) (eaten any x (turn 0 s) (stop s q))))
-      by q End h = h
-      by q (Char c n) h = on (is 0x40 c) (holdsOf test.Percent c)
-        where
-          on : (b d : Bool) → Ends (cond b (andThen (entry s q) (turn 0 s)) (cond d (andThen (comment s q) (turn 0 s)) (again n [] 0)))
-          on true d = turned-ends (entry s q)
-          on false true = turned-ends (comment s q)
-          on false false = tt
+  turn-ends a p =
+      chain-ends (white s p) _
+      (λ q. eaten-holds Ends (is 0x40) (see s q) _ _ (λ k n x. turned-ends (entry s q))
+      (eaten-holds Ends (holdsOf test.Percent) (see s q) _ _ (λ k n x. turned-ends (comment s q))
+      (eaten-else Ends any (see s q) _ _ (λ n. tt) (none-left q (see s q) (see-inside s q)))))
 
   more-done : (rs : List Row) (o : Out) → Done o → Done (more rs o)
   more-done rs (ok q ss) h = h
@@ -114,17 +116,19 @@ module _ (s : List ℕ) where
   pub file-ends : (p q : ℕ) (rs : List Row) → file s p ≡ ok q rs → p ≤ length s → q ≡ length s
   file-ends p q rs e h =
       let x : length s ≤ q = subst Done e (file-done p) in
-      let y : Sound 0 0 p (length s) (ok q rs) = subst (Sound 0 0 p (length s)) e (file-good .kept .sound s p) in
+      let y : Advances 0 0 p (length s) (ok q rs) = subst (Advances 0 0 p (length s)) e (from-start file-laws .core .kept .advances s p) in
       omega arith
 
 -- ---- what is looked at
 
 module _ (s : List ℕ) (p q : ℕ) (rs : List Row) (e : entry s p ≡ ok q rs) where
   entry-at : (p < q) × (q ≤ length s)
-  entry-at = let y : Sound 1 1 p (length s) (ok q rs) = subst (Sound 1 1 p (length s)) e (entry-good .kept .sound s p) in (omega arith, omega arith)
+  entry-at =
+      let y : Advances 1 1 p (length s) (ok q rs) = subst (Advances 1 1 p (length s)) e (entry-kept .advances s p) in
+      (omega arith, omega arith)
 
   entry-same : (t : List ℕ) → q ≤ length t → Same s t p q → entry t p ≡ ok q rs
-  entry-same t h x = entry-good .kept .local s t p q (subst (λ (o : Out). Stops o q) (sym e) refl) h (λ i a b. x i a (omega arith)) ∙ e
+  entry-same t h x = entry-kept .local s t p q (subst (λ (o : Out). Stops o q) (sym e) refl) h (λ i a b. x i a (omega arith)) ∙ e
 
   entry-longer : (t : List ℕ) → Fresh t → entry (s ++ t) p ≡ ok q rs
   entry-longer t f =
@@ -134,11 +138,12 @@ module _ (s : List ℕ) (p q : ℕ) (rs : List Row) (e : entry s p ≡ ok q rs) 
   entry-cut : entry (take q s) p ≡ ok q rs
   entry-cut =
       let a = entry-at in
-      let t : Trace s p rs q = subst (Traced s p) e (entry-good .traced s p) in
+      let t : Trace s p rs q = subst (Traced s p) e (from-start entry-laws .traced s p) in
       entry-same (take q s) (omega (arith, length-take q s)) (reach-same (trace-reach t))
 
-item-same : (a b : ℕ) (s t : List ℕ) (p q : ℕ) (rs : List Row) → fileTurn a s p ≡ again q rs b → q ≤ length t → Same s t p (q + 1) → fileTurn a t p ≡ again q rs b
-item-same a b s t p q rs e h x = file-turn-good a .kept .local s t p q (subst (λ (o : Out). Stops o q) (sym e) refl) h x ∙ e
+item-same : (a b : ℕ) (s t : List ℕ) (p q : ℕ) (rs : List Row) → fileTurn a s p ≡ again q rs b → q ≤ length t → Same s t p (q + 1)
+    → fileTurn a t p ≡ again q rs b
+item-same a b s t p q rs e h x = file-turn-kept a .local s t p q (subst (λ (o : Out). Stops o q) (sym e) refl) h x ∙ e
 
 -- ---- strict reading
 
@@ -147,7 +152,7 @@ start-boundary s o = rfc3629 .boundary s 0 o .1 (record { inside = omega arith; 
 
 file-accepts : (s : List ℕ) (q : ℕ) (rs : List Row) → Octets s → file s 0 ≡ ok q rs → Accepted s q rs
 file-accepts s q rs o e =
-    let t : Trace s 0 rs q = subst (Traced s 0) e (file-good .traced s 0) in
+    let t : Trace s 0 rs q = subst (Traced s 0) e (from-start file-laws .traced s 0) in
     record {
       end = file-ends s 0 q rs e (omega arith);
       rules = file-rules s 0 q rs e;
@@ -159,7 +164,7 @@ file-accepts s q rs o e =
 
 pub file-refuses : (s : List ℕ) (f : Fault) → file s 0 ≡ bad f → Refusal s f
 file-refuses s f e =
-    let r : Refused s 0 f = subst (Traced s 0) e (file-good .traced s 0) in
+    let r : Refused s 0 f = subst (Traced s 0) e (from-start file-laws .traced s 0) in
     record {
       number = (omega (arith, r .least), r .most);
       place = reach-inside (r .place) (omega arith);
@@ -168,7 +173,8 @@ file-refuses s f e =
     }
 
 -- by what strict reading is: a text too long, one that is not UTF-8, or the file
-module _ (s : List ℕ) (P : Out → Type 0) (long : P (bad (nowhere TooLong))) (ill : (n : ℕ) → n < length s → P (bad (faultAt NotUtf8 n))) (read : Octets s → P (file s 0)) where
+module _ (s : List ℕ) (P : Out → Type 0) (long : P (bad (nowhere TooLong))) (ill : (n : ℕ) → n < length s → P (bad (faultAt NotUtf8 n)))
+    (read : Octets s → P (file s 0)) where
   checked-by : (v : Validity) → validityOf s ≡ v → P (checked s v)
   checked-by validity.Valid e = read (rfc3629 .accepts s .0 e)
   checked-by (validity.IllFormed n) e = ill n (rfc3629 .refuses s n .0 e .inside)
@@ -187,15 +193,17 @@ accepts s q rs =
     (λ e. let z : _≡_ {A = ℕ} 0 1 = cc in absurd (omega arith)) (λ n h e. let z : _≡_ {A = ℕ} 0 1 = cc in absurd (omega arith))
     (file-accepts s q rs)
 
--- a refusal that was made here
-made : (s : List ℕ) (g f : Fault) → _≡_ {A = Out} (bad g) (bad f) → Refusal s g → Refusal s f
-made s g f e r = let q : g ≡ f = cc in subst (Refusal s) q r
+-- before a text is read
+unread : (s : List ℕ) (reason : Reason) (p : ℕ) → (1 ≤ numberOf reason) × (numberOf reason ≤ 2) → p ≤ length s
+    → Refusal s (faultAt reason p)
+unread s reason p k h =
+    record { number = (k .0, omega (arith, k .1)); place = h; empty = refl; early = λ x. absurd (omega (arith, k .1)) }
 
 refuses : (s : List ℕ) (f : Fault) → strict s ≡ bad f → Refusal s f
 refuses s f =
     strict-by s (λ o. o ≡ bad f → Refusal s f)
-    (λ e. made s (nowhere TooLong) f e (record { number = (omega arith, omega arith); place = omega arith; empty = refl; early = λ x. absurd (omega arith) }))
-    (λ n h e. made s (faultAt NotUtf8 n) f e (record { number = (omega arith, omega arith); place = omega arith; empty = refl; early = λ x. absurd (omega arith) }))
+    (λ e. subst (Refusal s) (bad-is e) (unread s TooLong 0 (omega arith) (omega arith)))
+    (λ n h e. subst (Refusal s) (bad-is e) (unread s NotUtf8 n (omega arith) (omega arith)))
     (λ o. file-refuses s f)
 
 decides : (s : List ℕ) (q a : ℕ) (rs : List Row) → strict s ≡ again q rs a → ⊥
@@ -212,7 +220,7 @@ strict-reading =
       longer = λ s t p q rs e. entry-longer s p q rs e t;
       cut = entry-cut;
       items = item-same;
-      moves = λ a. file-good .shift a .moves;
+      moves = λ a. from-start file-laws .shift a .moves;
       accepts = accepts;
       refuses = refuses;
       decides = decides;

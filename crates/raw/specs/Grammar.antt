@@ -1,21 +1,22 @@
 -- The grammar, in the order of src/raw.rs [raw.rs].
 -- Assumes nothing.
 use Prim.Native.Nat.{ℕ, zero, suc, _+_}
-use mathlib.Core.Bool.{Bool, true, false, cond, not, _&&_, _||_}
+use mathlib.Core.Bool.{Bool, true, false, cond, _&&_, _||_}
 use mathlib.Core.List.{List, [], _∷_}
 use lib.Dec.{eqb, ltb, leb}
 use Rattle.text.specs.Class.{isWhitespace, isKey, isIdStart, isIdContinue, holdsOf}
 use Rattle.text.specs.Scan.{see, fails}
-use Rattle.text.specs.declared.scanner.Seen.{Seen}
 use Rattle.text.specs.declared.scanner.Seen.the-variants.{End, Char}
 use Rattle.text.specs.declared.class.Test.the-variants as test
 use Rattle.row.specs.declared.form.Kind.{Kind}
 use Rattle.row.specs.declared.form.Kind.the-variants as kind
 use Rattle.raw.specs.declared.entry.Form.{Form}
 use Rattle.raw.specs.declared.entry.Form.the-variants.{Strings, Preambles, Comments, Other}
-use Rattle.row.specs.declared.fault.Reason.the-variants.{UnexpectedEof, ExpectedIdentifier, ExpectedOpeningBrace, ExpectedClosingBrace, ExpectedComma, ExpectedQuotationMark, ExpectedEquals, UnexpectedDecimalPoint}
+use Rattle.row.specs.Row.{plain}
+use Rattle.row.specs.declared.fault.Reason.the-variants.{UnexpectedEof, ExpectedIdentifier, ExpectedOpeningBrace, ExpectedClosingBrace, ExpectedComma}
+use Rattle.row.specs.declared.fault.Reason.the-variants.{ExpectedQuotationMark, ExpectedEquals, UnexpectedDecimalPoint}
 use Rattle.row.specs.declared.fault.Reason.{Reason}
-use Rattle.raw.specs.Reader.{Out, ok, Reader, andThen, stop, turn, refuse, _then_, over, overFrom, put, when, sees, many, scan}
+use Rattle.raw.specs.Reader.{Reader, andThen, stop, turn, refuse, _then_, over, overFrom, put, when, sees, many, scan}
 
 -- the character c
 abbrev pub is : ℕ → ℕ → Bool
@@ -75,7 +76,7 @@ unfoldable pub string : Reader
 string = quote then quoted then quote
 
 unfoldable pub stringLiteral : Reader
-stringLiteral = quote then over kind.Literal quoted then quote
+stringLiteral = quote then over (plain kind.Literal) quoted then quote
 
 -- digits and one point; a = 0 before the point
 unfoldable pub numberTurn : ℕ → Reader
@@ -113,7 +114,7 @@ unfoldable pub inBraces : Reader
 inBraces = many bracedTurn 0
 
 unfoldable pub braced : Reader
-braced = opening then over kind.Literal inBraces then closing
+braced = opening then over (plain kind.Literal) inBraces then closing
 
 unfoldable pub ident : Reader
 ident = when isIdStart (scan isIdContinue) (refuse ExpectedIdentifier)
@@ -123,8 +124,8 @@ singleField = sees (is 0x7B) braced (sees (is 0x22) stringLiteral (refuse Unexpe
 
 unfoldable pub abbrElement : Reader
 abbrElement =
-    sees (holdsOf test.Digit) (over kind.Literal number)
-    (sees isIdStart (over kind.Name ident)
+    sees (holdsOf test.Digit) (over (plain kind.Literal) number)
+    (sees isIdStart (over (plain kind.Name) ident)
     singleField)
 
 unfoldable pub abbrTurn : ℕ → Reader
@@ -132,7 +133,7 @@ abbrTurn a = abbrElement then white then when (holdsOf test.Hash) (white then tu
 
 -- "A value's span takes in the white space after it" [01:Strict reading]
 unfoldable pub abbrField : Reader
-abbrField = over kind.Value (many abbrTurn 0)
+abbrField = over (plain kind.Value) (many abbrTurn 0)
 
 -- ---- fields: k is the kind of their names
 
@@ -141,7 +142,7 @@ unfoldable pub comment : Reader
 comment = when (holdsOf test.Percent) (scan (fails test.Newline)) stop
 
 unfoldable pub field : Kind → Reader
-field k = over k ident then white then equals then white then abbrField then white then comment
+field k = over (plain k) ident then white then equals then white then abbrField then white then comment
 
 -- after a field: another, or the brace that closes, which is not eaten
 unfoldable pub fieldEnd : Reader
@@ -174,7 +175,8 @@ spells [] s a e = eqb a e
 spells (w ∷ word) s a e =
     cond (ltb a e) (elim (see s a) [ End ↦ false | Char c n ↦ eqb (lower c) w && spells word s n e ]) false
 
--- what an entry of the type from a to e is. "Its name and those of `string` and `preamble` ignore ASCII case" [01:Strict reading]: string, preamble, comment
+-- what an entry of the type from a to e is: string, preamble, comment, or another. "Its name and those of `string` and `preamble`
+-- ignore ASCII case" [01:Strict reading]
 unfoldable pub formOf : List ℕ → ℕ → ℕ → Form
 formOf s a e =
     cond (spells (0x73 ∷ 0x74 ∷ 0x72 ∷ 0x69 ∷ 0x6E ∷ 0x67 ∷ []) s a e) Strings
@@ -185,14 +187,14 @@ unfoldable pub strings : Reader
 strings = fields kind.DefinitionName
 
 unfoldable pub preamble : Reader
-preamble = over kind.Preamble string
+preamble = over (plain kind.Preamble) string
 
 -- "`@comment` ends at its first "}", uncounted" [01:Strict reading]
 unfoldable pub commented : Reader
 commented = scan (fails test.ClosingBrace)
 
 unfoldable pub body : Reader
-body = over kind.Key key then white then comma then white then comment then white then fields kind.FieldName
+body = over (plain kind.Key) key then white then comma then white then comment then white then fields kind.FieldName
 
 -- from an entry's type to what stands between the delimiters
 unfoldable pub lead : Reader
@@ -203,7 +205,7 @@ unfoldable pub rest : Form → ℕ → ℕ → ℕ → Reader
 rest Strings p a e = lead then strings
 rest Preambles p a e = lead then preamble
 rest Comments p a e = lead then commented
-rest Other p a e = overFrom kind.Entry p (put kind.EntryType a e then lead then body)
+rest Other p a e = overFrom (plain kind.Entry) p (put (plain kind.EntryType) a e then lead then body)
 
 -- "An entry's span ends before its closing delimiter" [01:Strict reading]
 unfoldable pub entry : Reader

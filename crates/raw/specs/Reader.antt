@@ -1,19 +1,18 @@
 -- Readers of text, and the few ways to make one of others. All that a reader knows of the text it knows by `see`.
 -- A reading is a list of parts or a refusal, for parts of any type; places are relative to the text.
 -- Assumes nothing.
-use Prim.Native.Nat.{ℕ, zero, suc, _+_}
-use mathlib.Core.Bool.{Bool, true, false, cond}
+use Prim.Native.Nat.{ℕ, zero, suc}
+use mathlib.Core.Bool.{Bool, cond}
 use mathlib.Core.List.{List, [], _∷_, _++_}
 use lib.ListN.{length}
 use Rattle.text.specs.Scan.{see}
 use Rattle.text.specs.declared.scanner.Seen.{Seen}
 use Rattle.text.specs.declared.scanner.Seen.the-variants.{End, Char}
-use Rattle.row.specs.declared.form.Kind.{Kind}
 use Rattle.row.specs.declared.fault.Fault.{Fault}
 use Rattle.row.specs.declared.fault.Reason.the-variants.{UnexpectedEof}
 use Rattle.row.specs.declared.fault.Reason.{Reason}
 use Rattle.row.specs.Fault.{faultAt}
-use Rattle.row.specs.Row.{Row, row}
+use Rattle.row.specs.Row.{Row, Mark, marked}
 
 -- a reader is done at a place; or one turn of a loop is, and the loop goes on with a number; or it refuses. P is what it emits
 pub data OutOf (P : Type 0) : Type 0 where
@@ -86,7 +85,7 @@ when t f g s p = eaten t (see s p) (f s) (g s p)
 abbrev pub sees : {P : Type 0} → (ℕ → Bool) → ReaderOf P → ReaderOf P → ReaderOf P
 sees t f g s p = eaten t (see s p) (λ n. f s p) (g s p)
 
--- turns of f, beginning with the number a, for as long as they say `again`. The fuel never runs out (`many-turn` of proofs/Loop.antt)
+-- turns of f, beginning with the number a, for as long as they say `again`. The fuel never runs out (`many-turn` of proofs/readers/Loop.antt)
 unfoldable pub loop : {P : Type 0} → (ℕ → ReaderOf P) → ℕ → ℕ → ReaderOf P
 loop f zero a s p = bad (faultAt UnexpectedEof p)
 loop f (suc n) a s p = after (f a s p) (λ b q. loop f n b s q)
@@ -103,13 +102,13 @@ scan t = many (scanTurn t) 0
 
 -- ---- readers of rows
 
--- a row over all that f reads, or from a place before it
-abbrev pub over : Kind → Reader → Reader
-over k f s p = under (row k p) (f s p)
+-- a row of the mark m over all that f reads, or from a place before it
+abbrev pub over : Mark → Reader → Reader
+over m f s p = under (marked m p) (f s p)
 
-abbrev pub overFrom : Kind → ℕ → Reader → Reader
-overFrom k a f s p = under (row k a) (f s p)
+abbrev pub overFrom : Mark → ℕ → Reader → Reader
+overFrom m a f s p = under (marked m a) (f s p)
 
 -- a row from a place to another
-abbrev pub put : Kind → ℕ → ℕ → Reader
-put k a e s p = ok p (row k a e ∷ [])
+abbrev pub put : Mark → ℕ → ℕ → Reader
+put m a e s p = ok p (marked m a e ∷ [])

@@ -24,8 +24,8 @@ use Rattle.row.specs.declared.fault.Reason.the-variants.{UnexpectedEof}
 use Rattle.row.specs.Fault.{faultAt}
 use Rattle.raw.specs.Reader.{OutOf, ok, again, bad, more, andThen, eaten, after, loop, many, turn, stop}
 use Rattle.raw.specs.Grammar.{is, any}
-use Rattle.raw.proofs.Good.{Sound}
-use Rattle.raw.proofs.Loop.{sound-turn}
+use Rattle.raw.proofs.readers.Kept.{Advances}
+use Rattle.raw.proofs.readers.Loop.{advancing-turn}
 use Rattle.command.specs.Commands.{isSingleCharFunc}
 use Rattle.resolve.specs.Content.{Part, put, cut, math, Reader, nameEnd, takesOne, opensAt, withName, command, braced, argumentEnd, endTurn, endsAt, ran}
 use Rattle.command.specs.Execute.{absent, executeCommand}
@@ -137,10 +137,10 @@ pub end-inside : (s : List ℕ) (p : ℕ) → p ≤ length s → Ends (length s)
 unfolding argumentEnd many
 end-inside s p h = ends-loop (suc (length s)) 0 s p h
 
-pub end-sound : (d : ℕ) (s : List ℕ) (p : ℕ) → p ≤ length s → Sound 1 0 p (length s) (endTurn d s p)
+pub end-sound : (d : ℕ) (s : List ℕ) (p : ℕ) → p ≤ length s → Advances 1 0 p (length s) (endTurn d s p)
 end-sound d s p h = by (endTurn d s p) (end-turn s p h d)
   where
-    by : (o : OutOf Part) → EndsTurn (length s) p o → Sound 1 0 p (length s) o
+    by : (o : OutOf Part) → EndsTurn (length s) p o → Advances 1 0 p (length s) o
     by (ok e xs) k = (omega (arith, k .0), omega (arith, k .1))
     by (again e xs a) k = (omega (arith, k .0), omega (arith, k .1))
     by (bad f) k = tt
@@ -148,7 +148,7 @@ end-sound d s p h = by (endTurn d s p) (end-turn s p h d)
 -- ---- the readers of a turn: from q they stay inside
 
 abbrev Fine : List ℕ → ℕ → OutOf Part → Type 0
-Fine s q o = Sound 0 0 q (length s) o
+Fine s q o = Advances 0 0 q (length s) o
 
 fine-ok : (s : List ℕ) (q r : ℕ) → q ≤ r → r ≤ length s → (q + 0 ≤ r) × (r ≤ max q (length s))
 fine-ok s q r h k = (omega (arith, h), omega (arith, k))
@@ -231,66 +231,66 @@ backslash-fine argument verb s q h = by verb (see s q) refl
 -- ---- a turn
 
 -- a reader from q on, and then the loop
-turned : (s : List ℕ) (p q d : ℕ) (o : OutOf Part) → p < q → q ≤ length s → Fine s q o → Sound 1 0 p (length s) (andThen o (turn d s))
+turned : (s : List ℕ) (p q d : ℕ) (o : OutOf Part) → p < q → q ≤ length s → Fine s q o → Advances 1 0 p (length s) (andThen o (turn d s))
 turned s p q d (ok r xs) h k f = (omega (arith, h, f .0), omega (arith, h, k, f .1))
 turned s p q d (again r xs a) h k f = (omega (arith, h, f .0), omega (arith, h, k, f .1))
 turned s p q d (bad g) h k f = tt
 
 -- by what is seen at p
 eaten-sound : (t : ℕ → Bool) (s : List ℕ) (p : ℕ) (f : ℕ → OutOf Part) (o : OutOf Part)
-    → ((c n : ℕ) → see s p ≡ Char c n → p < n → n ≤ length s → t c ≡ true → Sound 1 0 p (length s) (f n)) → Sound 1 0 p (length s) o
-    → Sound 1 0 p (length s) (eaten t (see s p) f o)
+    → ((c n : ℕ) → see s p ≡ Char c n → p < n → n ≤ length s → t c ≡ true → Advances 1 0 p (length s) (f n)) → Advances 1 0 p (length s) o
+    → Advances 1 0 p (length s) (eaten t (see s p) f o)
 eaten-sound t s p f o h k = by (see s p) refl
   where
-    by : (v : Seen) → see s p ≡ v → Sound 1 0 p (length s) (eaten t v f o)
+    by : (v : Seen) → see s p ≡ v → Advances 1 0 p (length s) (eaten t v f o)
     by End e = k
     by (Char c n) e = let a = see-ahead s p c n e in two (t c) (h c n e (a .0) (a .1))
       where
-        two : (b : Bool) → (b ≡ true → Sound 1 0 p (length s) (f n)) → Sound 1 0 p (length s) (cond b (f n) o)
+        two : (b : Bool) → (b ≡ true → Advances 1 0 p (length s) (f n)) → Advances 1 0 p (length s) (cond b (f n) o)
         two true g = g refl
         two false g = k
 
-maths-sound : (d : ℕ) (s : List ℕ) (p : ℕ) → p < length s → Sound 1 0 p (length s) (andThen (maths d s p) (turn d s))
+maths-sound : (d : ℕ) (s : List ℕ) (p : ℕ) → p < length s → Advances 1 0 p (length s) (andThen (maths d s p) (turn d s))
 unfolding maths
 maths-sound d s p h = by (skip (fails test.Dollar) s (p + 1)) (skip-inside (fails test.Dollar) s (p + 1) (omega (arith, h)))
   where
     by : (e : ℕ) → (p + 1 ≤ e) × (e ≤ length s)
-        → Sound 1 0 p (length s) (andThen (cond (ltb e (length s)) (ok (e + 1) (cut d p (e + 1) ∷ math (part s (p + 1) e) (p + 1) e ∷ []))
+        → Advances 1 0 p (length s) (andThen (cond (ltb e (length s)) (ok (e + 1) (cut d p (e + 1) ∷ math (part s (p + 1) e) (p + 1) e ∷ []))
         (bad (faultAt UnexpectedEof e))) (turn d s))
     by e l = two (ltb e (length s)) (ltb-true e (length s))
       where
         two : (b : Bool) → (b ≡ true → e < length s)
-            → Sound 1 0 p (length s) (andThen (cond b (ok (e + 1) (cut d p (e + 1) ∷ math (part s (p + 1) e) (p + 1) e ∷ []))
+            → Advances 1 0 p (length s) (andThen (cond b (ok (e + 1) (cut d p (e + 1) ∷ math (part s (p + 1) e) (p + 1) e ∷ []))
             (bad (faultAt UnexpectedEof e))) (turn d s))
         two true m = let k = m refl in (omega (arith, l .0), omega (arith, k))
         two false m = tt
 
-hyphens-sound : (d : ℕ) (s : List ℕ) (p c n : ℕ) → see s p ≡ Char c n → eqb c 0x2D ≡ true → Sound 1 0 p (length s) (andThen (hyphens s p) (turn d s))
+hyphens-sound : (d : ℕ) (s : List ℕ) (p c n : ℕ) → see s p ≡ Char c n → eqb c 0x2D ≡ true → Advances 1 0 p (length s) (andThen (hyphens s p) (turn d s))
 unfolding hyphens
 hyphens-sound d s p c n e t =
     let a = see-ahead s p c n e in
     rw (e, t) (by (see s n) refl (a .0) (a .1))
   where
     three : (v : Seen) (m : ℕ) → see s m ≡ v → p < m → m ≤ length s
-        → Sound 1 0 p (length s) (andThen (eaten (is 0x2D) v (λ r. ok r (put (0xE2 ∷ 0x80 ∷ 0x94 ∷ []) ∷ []))
+        → Advances 1 0 p (length s) (andThen (eaten (is 0x2D) v (λ r. ok r (put (0xE2 ∷ 0x80 ∷ 0x94 ∷ []) ∷ []))
         (ok m (put (0xE2 ∷ 0x80 ∷ 0x93 ∷ []) ∷ []))) (turn d s))
     three End m e h k = (omega (arith, h), omega (arith, k))
     three (Char c r) m e h k = let a = see-ahead s m c r e in two (eqb c 0x2D)
       where
-        two : (b : Bool) → Sound 1 0 p (length s) (andThen (cond b (ok r (put (0xE2 ∷ 0x80 ∷ 0x94 ∷ []) ∷ []))
+        two : (b : Bool) → Advances 1 0 p (length s) (andThen (cond b (ok r (put (0xE2 ∷ 0x80 ∷ 0x94 ∷ []) ∷ []))
             (ok m (put (0xE2 ∷ 0x80 ∷ 0x93 ∷ []) ∷ []))) (turn d s))
         two true = let a = see-ahead s m c r e in (omega (arith, h, a .0), omega (arith, a .1))
         two false = (omega (arith, h), omega (arith, k))
 
     by : (v : Seen) → see s n ≡ v → p < n → n ≤ length s
-        → Sound 1 0 p (length s) (andThen (eaten (is 0x2D) v (λ m. eaten (is 0x2D) (see s m) (λ r. ok r (put (0xE2 ∷ 0x80 ∷ 0x94 ∷ []) ∷ []))
+        → Advances 1 0 p (length s) (andThen (eaten (is 0x2D) v (λ m. eaten (is 0x2D) (see s m) (λ r. ok r (put (0xE2 ∷ 0x80 ∷ 0x94 ∷ []) ∷ []))
         (ok m (put (0xE2 ∷ 0x80 ∷ 0x93 ∷ []) ∷ []))) (ok n (put (0x2D ∷ []) ∷ []))) (turn d s))
     by End f h k = (omega (arith, h), omega (arith, k))
     by (Char c₁ m) f h k = let a = see-ahead s n c₁ m f in two (eqb c₁ 0x2D) (three (see s m) m refl (omega (arith, h, a .0)) (a .1))
       where
-        two : (b : Bool) → Sound 1 0 p (length s) (andThen (eaten (is 0x2D) (see s m) (λ r. ok r (put (0xE2 ∷ 0x80 ∷ 0x94 ∷ []) ∷ []))
+        two : (b : Bool) → Advances 1 0 p (length s) (andThen (eaten (is 0x2D) (see s m) (λ r. ok r (put (0xE2 ∷ 0x80 ∷ 0x94 ∷ []) ∷ []))
             (ok m (put (0xE2 ∷ 0x80 ∷ 0x93 ∷ []) ∷ []))) (turn d s))
-            → Sound 1 0 p (length s) (andThen (cond b (eaten (is 0x2D) (see s m) (λ r. ok r (put (0xE2 ∷ 0x80 ∷ 0x94 ∷ []) ∷ []))
+            → Advances 1 0 p (length s) (andThen (cond b (eaten (is 0x2D) (see s m) (λ r. ok r (put (0xE2 ∷ 0x80 ∷ 0x94 ∷ []) ∷ []))
             (ok m (put (0xE2 ∷ 0x80 ∷ 0x93 ∷ []) ∷ []))) (ok n (put (0x2D ∷ []) ∷ []))) (turn d s))
         two true x = x
         two false x = (omega (arith, h), omega (arith, k))
@@ -299,7 +299,7 @@ and-left : (a b : Bool) → (a && b) ≡ true → a ≡ true
 and-left true b h = refl
 and-left false b h = h
 
-pub content-sound : (argument : Reader) (verb : Bool) (d : ℕ) (s : List ℕ) (p : ℕ) → Sound 1 0 p (length s) (contentTurn argument verb d s p)
+pub content-sound : (argument : Reader) (verb : Bool) (d : ℕ) (s : List ℕ) (p : ℕ) → Advances 1 0 p (length s) (contentTurn argument verb d s p)
 unfolding contentTurn closing
 content-sound argument verb d s p =
     eaten-sound (is 0x5C) s p _ _ (λ c n e h k t. turned s p n d (backslash argument verb s n) h k (backslash-fine argument verb s n k))
@@ -310,19 +310,19 @@ content-sound argument verb d s p =
     (eaten-sound isWhitespace s p _ _ (λ c n e h k t. blank c n e h k t)
     (eaten-sound any s p _ _ (λ c n e h k t. one c n e h k) (omega arith, omega arith)))))))
   where
-    closes : (d : ℕ) → p < length s → Sound 1 0 p (length s) (closing d s p)
+    closes : (d : ℕ) → p < length s → Advances 1 0 p (length s) (closing d s p)
     closes zero h = tt
     closes (suc d) h = (omega arith, omega (arith, h))
 
     blank : (c n : ℕ) → see s p ≡ Char c n → p < n → n ≤ length s → isWhitespace c ≡ true
-        → Sound 1 0 p (length s) (again (skip isWhitespace s p) (put (0x20 ∷ []) ∷ []) d)
+        → Advances 1 0 p (length s) (again (skip isWhitespace s p) (put (0x20 ∷ []) ∷ []) d)
     blank c n e h k t = let a = skip-inside isWhitespace s n k in let b = white-on s p c n e t in (omega (arith, h, a .0, b), omega (arith, a .1, b))
 
-    one : (c n : ℕ) → see s p ≡ Char c n → p < n → n ≤ length s → Sound 1 0 p (length s) (andThen (copy s p) (turn d s))
+    one : (c n : ℕ) → see s p ≡ Char c n → p < n → n ≤ length s → Advances 1 0 p (length s) (andThen (copy s p) (turn d s))
     one c n e h k = rw e (omega (arith, h), omega (arith, k))
 
 -- ---- content is its first turn and then content
 
 pub turns-on : (argument : Reader) (verb : Bool) (d : ℕ) (s : List ℕ) (p : ℕ)
     → turns argument verb d s p ≡ after (contentTurn argument verb d s p) (λ b q. turns argument verb b s q)
-turns-on argument verb d s p = sound-turn 0 (contentTurn argument verb) (λ d s p. content-sound argument verb d s p) d s p
+turns-on argument verb d s p = advancing-turn 0 (contentTurn argument verb) (λ d s p. content-sound argument verb d s p) d s p

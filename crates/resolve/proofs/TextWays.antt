@@ -27,8 +27,8 @@ use Rattle.raw.specs.declared.answer.Step.{Step}
 use Rattle.raw.specs.declared.answer.Step.the-variants as step
 use Rattle.raw.specs.Reader.{OutOf, ok, again, bad, more, andThen, after, turn, eaten, many}
 use Rattle.raw.specs.Grammar.{is}
-use Rattle.raw.proofs.Good.{Sound}
-use Rattle.raw.proofs.Loop.{sound-turn}
+use Rattle.raw.proofs.readers.Kept.{Advances}
+use Rattle.raw.proofs.readers.Loop.{advancing-turn}
 use Rattle.chunk.proofs.Parts.{part-head}
 use Rattle.resolve.specs.Content.{Part, put, Reader, begins, hyphens, endTurn, argumentEnd, contentTurn}
 use Rattle.resolve.specs.Inner.{Behind, Ordinary, endOf}
@@ -195,20 +195,20 @@ skip-at t s (suc n) i h l = by (t (code (drop i s))) refl (λ k. skip-at t s n (
         subst (λ (j : ℕ). t (code (drop j s)) ≡ false) (sym q) (ih (omega (arith, l, q)))
     by false e ih = subst (λ (j : ℕ). t (code (drop j s)) ≡ false) (sym (skip-stop t s i inside e)) e
 
-sound-any : (d : ℕ) (s : List ℕ) (p : ℕ) → Sound 1 0 p (length s) (endTurn d s p)
+sound-any : (d : ℕ) (s : List ℕ) (p : ℕ) → Advances 1 0 p (length s) (endTurn d s p)
 unfolding endTurn
 sound-any d s p = by (leb p (length s)) refl
   where
-    past : (d : ℕ) → length s ≤ p → Sound 1 0 p (length s) (endTurn d s p)
+    past : (d : ℕ) → length s ≤ p → Advances 1 0 p (length s) (endTurn d s p)
     past zero h = rw (skip-end (fails test.Brace) s p h, see-end s p h) tt
     past (suc d) h = rw (skip-end (fails test.Brace) s p h, see-end s p h) tt
 
-    by : (w : Bool) → leb p (length s) ≡ w → Sound 1 0 p (length s) (endTurn d s p)
+    by : (w : Bool) → leb p (length s) ≡ w → Advances 1 0 p (length s) (endTurn d s p)
     by true e = end-sound d s p (leb-true p (length s) e)
     by false e = past d (omega (arith, leb-false p (length s) e))
 
 end-un : (d : ℕ) (s : List ℕ) (p : ℕ) → many endTurn d s p ≡ after (endTurn d s p) (λ b q. many endTurn b s q)
-end-un d s p = sound-turn 0 endTurn sound-any d s p
+end-un d s p = advancing-turn 0 endTurn sound-any d s p
 
 end-more : (xs : List Part) (o : OutOf Part) → endOf (more xs o) ≡ endOf o
 end-more xs (ok q ys) = refl

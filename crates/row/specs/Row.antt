@@ -35,6 +35,17 @@ rowWith k d a b = rowOf (kindOf k) d a b
 abbrev pub row : Kind → ℕ → ℕ → Row
 row k a b = rowWith k 0 a b
 
+-- what a row says of its span; and the mark of detail 0
+pub record Mark : Type 0 where
+  pub kind : Kind
+  pub detail : ℕ
+
+abbrev pub plain : Kind → Mark
+plain k = record { kind = k; detail = 0 }
+
+abbrev pub marked : Mark → ℕ → ℕ → Row
+marked m a b = rowWith (m .kind) (m .detail) a b
+
 -- a row d places on
 abbrev pub rowUp : ℕ → Row → Row
 rowUp d r = record { kind = r .kind; detail = r .detail; start = r .start + d; end = r .end + d }

@@ -26,8 +26,9 @@ use Rattle.raw.specs.Grammar.{file}
 use Rattle.row.specs.Limits.{mostBytes}
 use Rattle.raw.specs.Read.{checked, strict}
 use Rattle.raw.specs.Strict.{Fresh}
-use Rattle.raw.proofs.Trace.{Refused, Traced}
-use Rattle.raw.proofs.Entries.{file-good}
+use Rattle.raw.proofs.readers.Trace.{Refused, Traced}
+use Rattle.raw.proofs.grammar.Readers.{from-start}
+use Rattle.raw.proofs.grammar.Files.{file-laws}
 
 module _ (s : List ℕ) (h : length s ≤ mostBytes) where
   strict-checked : strict s ≡ checked s (validityOf s)
@@ -48,7 +49,7 @@ module _ (s : List ℕ) (h : length s ≤ mostBytes) where
   strict-bad f e = by (validityOf s) (sym strict-checked ∙ e)
     where
       by : (v : Validity) → checked s v ≡ bad f → 2 ≤ numberOf (f .reason)
-      by validity.Valid e = let r : Refused s 0 f = subst (Traced s 0) e (file-good .traced s 0) in omega (arith, r .least)
+      by validity.Valid e = let r : Refused s 0 f = subst (Traced s 0) e (from-start file-laws .traced s 0) in omega (arith, r .least)
       by (validity.IllFormed n) e = let z : faultAt NotUtf8 n ≡ f = cc in rw (← z) (omega arith)
 
   valid-ok : (q : ℕ) (rs : List Row) → strict s ≡ ok q rs → Octets s × (file s 0 ≡ ok q rs)

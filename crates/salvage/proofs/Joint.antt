@@ -18,7 +18,7 @@ use Rattle.row.specs.Row.{Row}
 use Rattle.raw.specs.Reader.{Out, ok, again, bad, more, after}
 use Rattle.raw.specs.Grammar.{white, fileTurn, file}
 use Rattle.raw.specs.Strict.{Fresh}
-use Rattle.raw.proofs.Then.{more-none}
+use Rattle.raw.proofs.readers.Then.{more-none}
 use Rattle.raw.proofs.Strict.{file-turn}
 use Rattle.salvage.specs.Demand3.{Opens, here, later}
 use Rattle.salvage.proofs.Scanned.{Halts, Clear, Scanned, ok-place, scan-found, white-found, white-scanned, white-stays}

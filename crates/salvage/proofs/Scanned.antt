@@ -18,8 +18,8 @@ use Rattle.text.proofs.Moved.{see-ahead}
 use Rattle.row.specs.Row.{Row}
 use Rattle.raw.specs.Reader.{ok, more, after, eaten, stop, turn, many, scanTurn, scan}
 use Rattle.raw.specs.Grammar.{white}
-use Rattle.raw.proofs.Loop.{many-turn}
-use Rattle.raw.proofs.Readers.{scan-turn-good}
+use Rattle.raw.proofs.readers.Loop.{many-turn}
+use Rattle.raw.proofs.readers.Scans.{scan-turn-kept}
 
 -- a scan of class t stops here
 abbrev pub Halts : (ℕ → Bool) → Seen → Type 0
@@ -45,7 +45,7 @@ ok-place e = cc
 
 module _ (t : ℕ → Bool) (s : List ℕ) where
   scan-turned : (p : ℕ) → scan {P = Row} t s p ≡ after (eaten t (see s p) (turn 0 s) (stop s p)) (λ b q. many (scanTurn t) b s q)
-  scan-turned p = many-turn (λ a. scan-turn-good t a .kept) 0 s p
+  scan-turned p = many-turn (scan-turn-kept t) 0 s p
 
   -- where it must stop it eats nothing
   pub scan-stays : (p : ℕ) → Halts t (see s p) → scan {P = Row} t s p ≡ ok p []

@@ -24,8 +24,8 @@ use Rattle.row.specs.Row.{Row, moved}
 use Rattle.raw.specs.Reader.{Out, ok, again, bad}
 use Rattle.raw.specs.Grammar.{white, fileTurn, file}
 use Rattle.raw.specs.Strict.{Fresh, shifted}
-use Rattle.raw.proofs.Readers.{white-good}
-use Rattle.raw.proofs.Entries.{file-turn-good, file-good}
+use Rattle.raw.proofs.grammar.Readers.{from-start, white-laws}
+use Rattle.raw.proofs.grammar.Files.{file-turn-laws, file-laws}
 use Rattle.salvage.specs.Salvage.{head, newline, push, cut}
 use Rattle.salvage.specs.Demand3.{lined, Boundary, line, Opens, here, later}
 use Rattle.salvage.proofs.Scanned.{true-not-false, scan-found, ok-place, white-found, white-scanned, white-stays}
@@ -171,18 +171,18 @@ seen-back d c n End e = let z : _≡_ {A = ℕ} 0 1 = cc in absurd (omega arith)
 seen-back d c n (Char k m) e = let z : k ≡ c = cc in (m, ap (λ (i : ℕ). Char i m) z)
 
 pub file-back : (a s : List ℕ) (p q : ℕ) (rs : List Row) → file (a ++ s) (p + length a) ≡ ok q rs → (r : ℕ) × (ss : List Row) × (file s p ≡ ok r ss) × (q ≡ r + length a) × (rs ≡ moved (length a) ss)
-file-back a s p q rs e = shifted-ok (length a) q rs (file s p) (sym (file-good .shift a .moves s p) ∙ e)
+file-back a s p q rs e = shifted-ok (length a) q rs (file s p) (sym (from-start file-laws .shift a .moves s p) ∙ e)
 
 pub opens-back : (a s : List ℕ) {i j : ℕ} (p e : ℕ) → Opens (a ++ s) i j → i ≡ p + length a → j ≡ e + length a → Opens s p e
 unfolding moved
 opens-back a s {i} {j} p e (here {n = n} w x) hi hj =
     let z = scan-found isWhitespace s p in
     let y = white-found s p (z .0) (z .1) in
-    let v : white (a ++ s) i ≡ ok (z .0 + length a) [] = ap (white (a ++ s)) hi ∙ white-good .shift a .moves s p ∙ ap (shifted (length a)) y in
+    let v : white (a ++ s) i ≡ ok (z .0 + length a) [] = ap (white (a ++ s)) hi ∙ from-start white-laws .shift a .moves s p ∙ ap (shifted (length a)) y in
     let u : j ≡ z .0 + length a = ok-place (sym w ∙ v) in
     let t : z .0 ≡ e = omega arith in
     let k = seen-back (length a) 0x40 n (see s e) (sym (see-up a s e) ∙ ap (see (a ++ s)) (sym hj) ∙ x) in
     here (y ∙ ap (λ (m : ℕ). ok m []) t) (k .1)
 opens-back a s {i} {j} p e (later {q = q} {a = b} {rs = rs} t o) hi hj =
-    let z = shifted-again (length a) q b rs (fileTurn 0 s p) (sym (file-turn-good 0 .shift a .moves s p) ∙ ap (fileTurn 0 (a ++ s)) (sym hi) ∙ t) in
+    let z = shifted-again (length a) q b rs (fileTurn 0 s p) (sym (file-turn-laws {e = 0} {n = 0} 0 .shift a .moves s p) ∙ ap (fileTurn 0 (a ++ s)) (sym hi) ∙ t) in
     later (z .2) (opens-back a s (z .0) e o (z .3) hj)

@@ -21,10 +21,11 @@ use Rattle.row.specs.Row.{Row}
 use Rattle.raw.specs.Reader.{Out, ok, again, bad, Reader, andThen, eaten, stop, turn}
 use Rattle.raw.specs.Grammar.{is, any, white, comment, entry, fileTurn}
 use Rattle.raw.specs.Strict.{Same}
-use Rattle.raw.proofs.Good.{Stops, Sound}
-use Rattle.raw.proofs.Then.{more-none}
-use Rattle.raw.proofs.Readers.{white-good, comment-good}
-use Rattle.raw.proofs.Entries.{entry-good, file-turn-good}
+use Rattle.raw.proofs.readers.Kept.{Stops, Advances}
+use Rattle.raw.proofs.readers.Then.{more-none}
+use Rattle.raw.proofs.grammar.Readers.{from-start, white-laws, comment-laws}
+use Rattle.raw.proofs.grammar.Entries.{entry-kept}
+use Rattle.raw.proofs.grammar.Files.{file-turn-kept}
 use Rattle.salvage.proofs.Scanned.{Halts, Clear, Scanned, true-not-false, ok-place, scan-found, white-found, white-stays}
 
 -- ---- after the white space
@@ -46,7 +47,7 @@ turn-white s p q e = ap (λ (o : Out). andThen o (item s)) e ∙ more-none (item
 -- a turn that goes on, goes on
 pub turn-sound : (s : List ℕ) (p q a : ℕ) (rs : List Row) → fileTurn 0 s p ≡ again q rs a → (p < q) × (q ≤ max p (length s))
 turn-sound s p q a rs e =
-    let y : Sound 1 0 p (length s) (again q rs a) = subst (Sound 1 0 p (length s)) e (file-turn-good 0 .kept .sound s p) in
+    let y : Advances 1 0 p (length s) (again q rs a) = subst (Advances 1 0 p (length s)) e (file-turn-kept 0 .advances s p) in
     (omega arith, omega arith)
 
 pub item-sound : (s : List ℕ) (p q a : ℕ) (rs : List Row) → Halts isWhitespace (see s p) → item s p ≡ again q rs a → (p < q) × (q ≤ max p (length s))
@@ -108,13 +109,13 @@ module _ {s t : List ℕ} {k : ℕ} (m : Alike s t k) where
       w = white-found t p r (z .1)
 
       by : (q ≡ suc k) ⊎ (q < suc k) → white t p ≡ ok q []
-      by (inr l) = white-good .kept .local s t p q (ends (white s p) q a) (omega (arith, m .second)) (λ i u v. m .same i (omega arith)) ∙ a
+      by (inr l) = from-start white-laws .core .kept .local s t p q (ends (white s p) q a) (omega (arith, m .second)) (λ i u v. m .same i (omega arith)) ∙ a
       by (inl e) = w ∙ ap (λ (n : ℕ). ok n []) (at-end (eq-or-lt-of-le (z .1 .least (suc k) g (m .clear) (m .halts))))
         where
           at-end : (r ≡ suc k) ⊎ (r < suc k) → r ≡ q
           at-end (inl d) = omega arith
           at-end (inr d) =
-              let b : white s p ≡ ok r [] = white-good .kept .local t s p r (ends (white t p) r w) (omega (arith, m .first)) (λ i u v. sym (m .same i (omega arith))) ∙ w in
+              let b : white s p ≡ ok r [] = from-start white-laws .core .kept .local t s p r (ends (white t p) r w) (omega (arith, m .first)) (λ i u v. sym (m .same i (omega arith))) ∙ w in
               ok-place (sym b ∙ a)
 
   -- a comment ends before the newline
@@ -144,11 +145,11 @@ module _ {s t : List ℕ} {k : ℕ} (m : Alike s t k) where
         where
           by : (b b′ : Bool) → holdsOf test.Percent c ≡ b′ → Stops (cond b (andThen (entry s p) (turn 0 s)) (cond b′ (andThen (comment s p) (turn 0 s)) (again n [] 0))) q → cond b (andThen (entry t p) (turn 0 t)) (cond b′ (andThen (comment t p) (turn 0 t)) (again n [] 0)) ≡ cond b (andThen (entry s p) (turn 0 s)) (cond b′ (andThen (comment s p) (turn 0 s)) (again n [] 0))
           by true b′ e x =
-              ap (λ (o : Out). andThen o (turn 0 s)) (entry-good .kept .local s t p q (turned-stops (entry s p) 0 q x) (omega (arith, m .second)) inside)
+              ap (λ (o : Out). andThen o (turn 0 s)) (entry-kept .local s t p q (turned-stops (entry s p) 0 q x) (omega (arith, m .second)) inside)
           by false true e x =
               let x′ = turned-stops (comment s p) 0 q x in
               let l : q ≤ k = comment-cut p q c n d e h x′ in
-              ap (λ (o : Out). andThen o (turn 0 s)) (comment-good .kept .local s t p q x′ (omega (arith, m .second)) (λ i a b. m .same i (omega arith)))
+              ap (λ (o : Out). andThen o (turn 0 s)) (from-start comment-laws .core .kept .local s t p q x′ (omega (arith, m .second)) (λ i a b. m .same i (omega arith)))
           by false false e x = refl
 
   pub turn-cut : (p q a : ℕ) (rs : List Row) → fileTurn 0 s p ≡ again q rs a → q ≤ suc k → fileTurn 0 t p ≡ again q rs a

@@ -22,7 +22,8 @@ use Rattle.row.specs.Limits.{mostBytes}
 use Rattle.raw.specs.Read.{strict}
 use Rattle.row.specs.Rules.{clean}
 use Rattle.raw.specs.Strict.{shifted}
-use Rattle.raw.proofs.Entries.{file-good}
+use Rattle.raw.proofs.grammar.Readers.{from-start}
+use Rattle.raw.proofs.grammar.Files.{file-laws}
 use Rattle.raw.proofs.Strict.{strict-reading}
 use Rattle.row.proofs.Rows.{moved-none}
 use Rattle.salvage.specs.Salvage.{head, cut, told, pieces, salvageOf}
@@ -70,7 +71,7 @@ salvage-none r d e = ap (λ (l : List ℕ). moved d (salvageOf l)) e
 
 -- the file of two texts, from the second on
 rest : (a s : List ℕ) (k : ℕ) → length a ≡ suc k → file (a ++ s) (suc k) ≡ shifted (length a) (file s 0)
-rest a s k e = let x : suc k ≡ 0 + length a = omega arith in ap (file (a ++ s)) x ∙ file-good .shift a .moves s 0
+rest a s k e = let x : suc k ≡ 0 + length a = omega arith in ap (file (a ++ s)) x ∙ from-start file-laws .shift a .moves s 0
 
 pub head-opens : (r : List ℕ) → head r ≡ true → fresh r ≡ true
 unfolding fresh

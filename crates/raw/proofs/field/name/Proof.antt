@@ -1,6 +1,6 @@
 -- `raw::field::name` meets its contract. Assumes nothing.
 use borrow.Author.Needs.{needs}
-use Rattle.raw.proofs.Steps.{ident-letters}
+use Rattle.raw.proofs.TokenWays.{ident-letters}
 use Rattle.raw.proofs.field.name.Statement.{statement}
 use Rattle.raw.proofs.field.name.Tie as tie
 

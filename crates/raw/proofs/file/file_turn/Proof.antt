@@ -3,7 +3,7 @@ use mathlib.Core.Path.{refl, _∙_}
 use native.Mathlib.Omega.{arith}
 use lib.ListN.{length}
 use borrow.Author.Needs.{needs}
-use Rattle.raw.proofs.Bare.{then-off}
+use Rattle.raw.proofs.readers.Then.{then-off}
 use Rattle.raw.proofs.Saying.{says-at, said-off, turn-of, turn-done, turn-again, turn-off, turn-then}
 use Rattle.raw.proofs.Bounds.{answer-place}
 use Rattle.raw.proofs.FileWays.{file-end, file-entry, file-comment, file-other, comment-further}

@@ -1,7 +1,7 @@
 -- `raw::token::comment` meets its contract. Assumes nothing.
 use borrow.Author.Needs.{needs}
 use Rattle.text.specs.Class.{holdsOf}
-use Rattle.raw.proofs.Steps.{comment-off, comment-line}
+use Rattle.raw.proofs.TokenWays.{comment-off, comment-line}
 use Rattle.raw.proofs.token.comment.Statement.{statement}
 use Rattle.raw.proofs.token.comment.Tie as tie
 

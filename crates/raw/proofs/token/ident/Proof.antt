@@ -1,6 +1,6 @@
 -- `raw::token::ident` meets its contract. Assumes nothing.
 use borrow.Author.Needs.{needs}
-use Rattle.raw.proofs.Steps.{ident-off, ident-line}
+use Rattle.raw.proofs.TokenWays.{ident-off, ident-line}
 use Rattle.raw.proofs.token.ident.Statement.{statement}
 use Rattle.raw.proofs.token.ident.Tie as tie
 

@@ -1,6 +1,6 @@
 -- `raw::token::key` meets its contract. Assumes nothing.
 use borrow.Author.Needs.{needs}
-use Rattle.raw.proofs.Steps.{key-told}
+use Rattle.raw.proofs.TokenWays.{key-told}
 use Rattle.raw.proofs.token.key.Statement.{statement}
 use Rattle.raw.proofs.token.key.Tie as tie
 

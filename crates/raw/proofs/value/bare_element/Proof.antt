@@ -7,10 +7,10 @@ use Rattle.row.specs.declared.form.Kind.the-variants as kind
 use Rattle.row.specs.Row.{row}
 use Rattle.raw.specs.Reader.{under}
 use Rattle.raw.specs.Grammar.{number, ident}
-use Rattle.raw.proofs.Bare.{bare-at, bare-off}
+use Rattle.raw.proofs.grammar.Rowless.{rowless-at, rowless-off}
 use Rattle.raw.proofs.Saying.{says-of, says-on, says-under}
 use Rattle.raw.proofs.Eaten.{not-at}
-use Rattle.raw.proofs.Steps.{number-bare, ident-bare}
+use Rattle.raw.proofs.grammar.Rowless.{number-rowless, ident-rowless}
 use Rattle.raw.proofs.Bounds.{step-place, off-step, off-answer}
 use Rattle.raw.proofs.Fields.{single-none, element-number, number-past, element-name, element-field}
 use Rattle.raw.proofs.value.bare_element.Statement.{statement}
@@ -40,7 +40,7 @@ returns c =
     let enum-told = c .before .enum-told in
     off-step (length (a .s .now)) 1 (a .at)
     (element-number (a .s .now) (a .at) (eat-if .ensures .0) (if1 .taken) ∙ ap (under (row kind.Literal (a .at)))
-    (bare-off (number (a .s .now) (a .at)) (the-number .ensures .0) (enum-told .given .1))) (enum-told .given .1) (c .refused .ensures)
+    (rowless-off (number (a .s .now) (a .at)) (the-number .ensures .0) (enum-told .given .1))) (enum-told .given .1) (c .refused .ensures)
 
 add-put-row : tie.Need-add-put-row
 add-put-row c = search needs
@@ -82,7 +82,7 @@ returns-2 c =
     let put-row = c .before .before .put-row in
     let len = length (a .s .now) in
     let k = step-place len 0 (a .at) (r1 .given .1) (number .ensures .1) (asked .0 .place) in
-    let e = bare-at (number-bare (a .s .now) (a .at)) (number .ensures .0) (r1 .given .1) in
+    let e = rowless-at (number-rowless (a .s .now) (a .at)) (number .ensures .0) (r1 .given .1) in
     let l = number-past (a .s .now) (a .at) (eat-if .ensures .0) (if1 .taken) e in
     let m = not-at (eat-if .ensures .1 .from) (if1 .taken) in (
       rw (put-row .ensures)
@@ -116,7 +116,7 @@ returns-3 c =
     let enum-told2 = c .before .enum-told2 in
     off-step (length (a .s .now)) 1 (a .at)
     (element-name (a .s .now) (a .at) (eat-if .ensures .0) (if1 .left) (eat-if2 .ensures .0) (if2 .taken) ∙ ap (under (row kind.Name (a .at)))
-    (bare-off (ident (a .s .now) (a .at)) (the-ident .ensures .0) (enum-told2 .given .1))) (enum-told2 .given .1) (c .refused2 .ensures)
+    (rowless-off (ident (a .s .now) (a .at)) (the-ident .ensures .0) (enum-told2 .given .1))) (enum-told2 .given .1) (c .refused2 .ensures)
 
 add-put-row-3 : tie.Need-add-put-row-3
 add-put-row-3 c = search needs
@@ -160,7 +160,7 @@ returns-4 c =
     let put-row2 = c .before .before .put-row2 in
     let len = length (a .s .now) in
     let k = step-place len 1 (a .at) (r2 .given .1) (ident .ensures .1) (asked .0 .place) in
-    let e = bare-at (ident-bare (a .s .now) (a .at)) (ident .ensures .0) (r2 .given .1) in (
+    let e = rowless-at (ident-rowless (a .s .now) (a .at)) (ident .ensures .0) (r2 .given .1) in (
       rw (put-row2 .ensures)
           (says-of (element-name (a .s .now) (a .at) (eat-if .ensures .0) (if1 .left) (eat-if2 .ensures .0) (if2 .taken))
           (says-under kind.Name (a .at) (says-on e))),

@@ -3,7 +3,7 @@ use native.Mathlib.Omega.{arith}
 use lib.ListN.{length}
 use borrow.Author.Needs.{needs}
 use Rattle.raw.specs.Grammar.{braced, closing, inBraces, opening}
-use Rattle.raw.proofs.Steps.{closing-bare, in-braces-bare, opening-bare}
+use Rattle.raw.proofs.grammar.Rowless.{closing-rowless, in-braces-rowless, opening-rowless}
 use Rattle.raw.proofs.Bounds.{step-place, off-step}
 use Rattle.raw.proofs.Enclosed.{opens-off, inside-off, closes-off, closes-on}
 use Rattle.raw.proofs.value.braced.Statement.{statement}
@@ -28,8 +28,8 @@ returns c =
     let the-opening = c .before .before .before .opening in
     let enum-told = c .before .enum-told in
     off-step (length (a .s .now)) 2 (a .at)
-    (opens-off opening inBraces closing (a .s .now) (a .at) (opening-bare (a .s .now) (a .at)) (in-braces-bare (a .s .now))
-    (closing-bare (a .s .now)) (the-opening .ensures .0) (enum-told .given .1)) (enum-told .given .1) (c .refused .ensures)
+    (opens-off opening inBraces closing (a .s .now) (a .at) (opening-rowless (a .s .now) (a .at)) (in-braces-rowless (a .s .now))
+    (closing-rowless (a .s .now)) (the-opening .ensures .0) (enum-told .given .1)) (enum-told .given .1) (c .refused .ensures)
 
 in-braces-requires : tie.Need-in-braces-requires
 in-braces-requires c κs = search needs
@@ -52,8 +52,8 @@ returns-2 c =
     let in-braces = c .before .before .before .in-braces in
     let enum-told2 = c .before .enum-told2 in
     off-step (length (a .s .now)) 2 (a .at)
-    (inside-off opening inBraces closing (a .s .now) (a .at) (opening-bare (a .s .now) (a .at)) (in-braces-bare (a .s .now))
-    (closing-bare (a .s .now)) (the-opening .ensures .0) (r1 .given .1) (in-braces .ensures .0) (enum-told2 .given .1))
+    (inside-off opening inBraces closing (a .s .now) (a .at) (opening-rowless (a .s .now) (a .at)) (in-braces-rowless (a .s .now))
+    (closing-rowless (a .s .now)) (the-opening .ensures .0) (r1 .given .1) (in-braces .ensures .0) (enum-told2 .given .1))
     (enum-told2 .given .1) (c .refused2 .ensures)
 
 closing-requires : tie.Need-closing-requires
@@ -79,8 +79,8 @@ returns-3 c =
     let the-closing = c .before .before .before .closing in
     let enum-told3 = c .before .enum-told3 in
     off-step (length (a .s .now)) 2 (a .at)
-    (closes-off opening inBraces closing (a .s .now) (a .at) (opening-bare (a .s .now) (a .at)) (in-braces-bare (a .s .now))
-    (closing-bare (a .s .now)) (the-opening .ensures .0) (r1 .given .1) (in-braces .ensures .0) (r2 .given .1) (the-closing .ensures .0)
+    (closes-off opening inBraces closing (a .s .now) (a .at) (opening-rowless (a .s .now) (a .at)) (in-braces-rowless (a .s .now))
+    (closing-rowless (a .s .now)) (the-opening .ensures .0) (r1 .given .1) (in-braces .ensures .0) (r2 .given .1) (the-closing .ensures .0)
     (enum-told3 .given .1)) (enum-told3 .given .1) (c .refused3 .ensures)
 
 add-put-row : tie.Need-add-put-row
@@ -144,8 +144,8 @@ returns-4 c =
     let k = step-place len 1 (a .at) (r1 .given .1) (the-opening .ensures .1) (asked .place) in
     let l = step-place len 0 _ (r2 .given .1) (in-braces .ensures .1) (k .1) in
     let m = step-place len 1 _ (r3 .given .1) (the-closing .ensures .1) (l .1) in
-    let e = closes-on opening inBraces closing (a .s .now) (a .at) (opening-bare (a .s .now) (a .at)) (in-braces-bare (a .s .now))
-    (closing-bare (a .s .now)) (the-opening .ensures .0) (r1 .given .1) (in-braces .ensures .0) (r2 .given .1) (the-closing .ensures .0)
+    let e = closes-on opening inBraces closing (a .s .now) (a .at) (opening-rowless (a .s .now) (a .at)) (in-braces-rowless (a .s .now))
+    (closing-rowless (a .s .now)) (the-opening .ensures .0) (r1 .given .1) (in-braces .ensures .0) (r2 .given .1) (the-closing .ensures .0)
     (r3 .given .1) in
     (rw (put-row .ensures) e, (omega arith, omega arith, omega arith))
 

@@ -3,7 +3,7 @@ use native.Mathlib.Omega.{arith}
 use lib.ListN.{length}
 use borrow.Author.Needs.{needs}
 use Rattle.raw.specs.Grammar.{stringLiteral, quote, quoted}
-use Rattle.raw.proofs.Steps.{quote-bare, quoted-bare}
+use Rattle.raw.proofs.grammar.Rowless.{quote-rowless, quoted-rowless}
 use Rattle.raw.proofs.Bounds.{step-place, off-step}
 use Rattle.raw.proofs.Enclosed.{opens-off, inside-off, closes-off, closes-on}
 use Rattle.raw.proofs.value.string_literal.Statement.{statement}
@@ -28,7 +28,7 @@ returns c =
     let the-quote = c .before .before .before .quote in
     let enum-told = c .before .enum-told in
     off-step (length (a .s .now)) 2 (a .at)
-    (opens-off quote quoted quote (a .s .now) (a .at) (quote-bare (a .s .now) (a .at)) (quoted-bare (a .s .now)) (quote-bare (a .s .now))
+    (opens-off quote quoted quote (a .s .now) (a .at) (quote-rowless (a .s .now) (a .at)) (quoted-rowless (a .s .now)) (quote-rowless (a .s .now))
     (the-quote .ensures .0) (enum-told .given .1)) (enum-told .given .1) (c .refused .ensures)
 
 quoted-requires : tie.Need-quoted-requires
@@ -52,7 +52,7 @@ returns-2 c =
     let the-quoted = c .before .before .before .quoted in
     let enum-told2 = c .before .enum-told2 in
     off-step (length (a .s .now)) 2 (a .at)
-    (inside-off quote quoted quote (a .s .now) (a .at) (quote-bare (a .s .now) (a .at)) (quoted-bare (a .s .now)) (quote-bare (a .s .now))
+    (inside-off quote quoted quote (a .s .now) (a .at) (quote-rowless (a .s .now) (a .at)) (quoted-rowless (a .s .now)) (quote-rowless (a .s .now))
     (the-quote .ensures .0) (r1 .given .1) (the-quoted .ensures .0) (enum-told2 .given .1)) (enum-told2 .given .1) (c .refused2 .ensures)
 
 quote-requires-2 : tie.Need-quote-requires-2
@@ -78,7 +78,7 @@ returns-3 c =
     let quote2 = c .before .before .before .quote2 in
     let enum-told3 = c .before .enum-told3 in
     off-step (length (a .s .now)) 2 (a .at)
-    (closes-off quote quoted quote (a .s .now) (a .at) (quote-bare (a .s .now) (a .at)) (quoted-bare (a .s .now)) (quote-bare (a .s .now))
+    (closes-off quote quoted quote (a .s .now) (a .at) (quote-rowless (a .s .now) (a .at)) (quoted-rowless (a .s .now)) (quote-rowless (a .s .now))
     (the-quote .ensures .0) (r1 .given .1) (the-quoted .ensures .0) (r2 .given .1) (quote2 .ensures .0) (enum-told3 .given .1))
     (enum-told3 .given .1) (c .refused3 .ensures)
 
@@ -143,7 +143,7 @@ returns-4 c =
     let k = step-place len 1 (a .at) (r1 .given .1) (the-quote .ensures .1) (asked .place) in
     let l = step-place len 0 _ (r2 .given .1) (the-quoted .ensures .1) (k .1) in
     let m = step-place len 1 _ (r3 .given .1) (quote2 .ensures .1) (l .1) in
-    let e = closes-on quote quoted quote (a .s .now) (a .at) (quote-bare (a .s .now) (a .at)) (quoted-bare (a .s .now)) (quote-bare (a .s .now))
+    let e = closes-on quote quoted quote (a .s .now) (a .at) (quote-rowless (a .s .now) (a .at)) (quoted-rowless (a .s .now)) (quote-rowless (a .s .now))
     (the-quote .ensures .0) (r1 .given .1) (the-quoted .ensures .0) (r2 .given .1) (quote2 .ensures .0) (r3 .given .1) in
     (rw (put-row .ensures) e, (omega arith, omega arith, omega arith))
 

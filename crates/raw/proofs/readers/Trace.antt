@@ -3,17 +3,16 @@
 --     reach-on, trace-reach, reach-trace, joined      one after the other
 --     eat-traced, back-traced, lay-traced             after a character, or some; a row over it
 -- Assumes nothing.
-use Prim.Native.Nat.{ℕ, _+_, _≤_}
+use Prim.Native.Nat.{ℕ, _≤_}
 use mathlib.Core.Path.{_≡_}
 use mathlib.Core.Bool.{false}
 use mathlib.Core.List.{List, [], _∷_, _++_}
 use lib.Dec.{eqb}
 use Rattle.text.specs.Scan.{see}
 use Rattle.text.specs.declared.scanner.Seen.the-variants.{Char}
-use Rattle.row.specs.declared.form.Kind.{Kind}
 use Rattle.row.specs.declared.fault.Fault.{Fault}
 use Rattle.row.specs.Fault.{numberOf}
-use Rattle.row.specs.Row.{Row, row, kindOf}
+use Rattle.row.specs.Row.{Row, Mark, marked, kindOf}
 use Rattle.raw.specs.Reader.{Out, ok, again, bad, more, andThen, under, after}
 
 -- ---- the words
@@ -28,7 +27,7 @@ pub data Trace (s : List ℕ) : ℕ → List Row → ℕ → Type 0 where
   none : {p : ℕ} → Trace s p [] p
   eats : {p n q c : ℕ} {rs : List Row} → see s p ≡ Char c n → Trace s n rs q → Trace s p rs q
   joins : {p q r : ℕ} {rs ss : List Row} → Trace s p rs q → Trace s q ss r → Trace s p (rs ++ ss) r
-  lays : {p q : ℕ} {rs : List Row} (k : Kind) → eqb (kindOf k) 9 ≡ false → Trace s p rs q → Trace s p (row k p q ∷ rs) q
+  lays : {p q : ℕ} {rs : List Row} (m : Mark) → eqb (kindOf (m .kind)) 9 ≡ false → Trace s p rs q → Trace s p (marked m p q ∷ rs) q
 
 -- a refusal by one of the numbers 3 to 10, at an empty place that was reached
 pub record Refused (s : List ℕ) (p : ℕ) (f : Fault) : Type 0 where
@@ -89,7 +88,7 @@ module _ (s : List ℕ) (p : ℕ) where
   after-traced (again q rs a) g t G = joined (g a q) t (G a q)
   after-traced (bad f) g t G = t
 
-  pub lay-traced : (k : Kind) (o : Out) → eqb (kindOf k) 9 ≡ false → Traced s p o → Traced s p (under (row k p) o)
-  lay-traced k (ok q rs) d t = lays k d t
-  lay-traced k (again q rs a) d t = lays k d t
-  lay-traced k (bad f) d t = t
+  pub lay-traced : (m : Mark) (o : Out) → eqb (kindOf (m .kind)) 9 ≡ false → Traced s p o → Traced s p (under (marked m p) o)
+  lay-traced m (ok q rs) d t = lays m d t
+  lay-traced m (again q rs a) d t = lays m d t
+  lay-traced m (bad f) d t = t

@@ -3,7 +3,7 @@
 --     reach-same                                      a text cut there shows the same up to there
 --     trace-rising, trace-spans, trace-clean          of the rows
 -- Assumes nothing.
-use Prim.Native.Nat.{ℕ, _+_, _-_, _≤_, _<_}
+use Prim.Native.Nat.{ℕ, _≤_, _<_}
 use native.Mathlib.Omega.{arith}
 use mathlib.Core.Path.{_≡_, refl, sym, _∙_, subst}
 use mathlib.Core.Bool.{Bool, true, false, cond}
@@ -19,7 +19,7 @@ use Rattle.text.proofs.Boundaries.{boundaries}
 use Rattle.row.specs.Row.{Row}
 use Rattle.row.specs.Rules.{clean}
 use Rattle.raw.specs.Strict.{Same, Rising, Spans}
-use Rattle.raw.proofs.Trace.{Reach, here, on, Trace, none, eats, joins, lays, trace-reach}
+use Rattle.raw.proofs.readers.Trace.{Reach, here, on, Trace, none, eats, joins, lays, trace-reach}
 
 -- ---- of rows
 
@@ -38,7 +38,8 @@ unfolding clean
 clean-append [] ss h k = k
 clean-append (r ∷ rs) ss h k = by (eqb (r .kind) 9) h (clean-append rs ss)
   where
-    by : (b : Bool) → cond b false (clean rs) ≡ true → (clean rs ≡ true → clean ss ≡ true → clean (rs ++ ss) ≡ true) → cond b false (clean (rs ++ ss)) ≡ true
+    by : (b : Bool) → cond b false (clean rs) ≡ true → (clean rs ≡ true → clean ss ≡ true → clean (rs ++ ss) ≡ true)
+        → cond b false (clean (rs ++ ss)) ≡ true
     by true h ih = h
     by false h ih = ih h k
 
@@ -62,7 +63,8 @@ module _ {s : List ℕ} where
   reach-seen i here h l = absurd (omega arith)
   reach-seen {p} {q} i (on {n = n} {c = c} e x) h l = by (ltb i n) refl (λ y. reach-seen i x y l)
     where
-      by : (b : Bool) → ltb i n ≡ b → (n ≤ i → (c : ℕ) × (n : ℕ) × (see s i ≡ Char c n) × (n ≤ q)) → (c : ℕ) × (n : ℕ) × (see s i ≡ Char c n) × (n ≤ q)
+      by : (b : Bool) → ltb i n ≡ b → (n ≤ i → (c : ℕ) × (n : ℕ) × (see s i ≡ Char c n) × (n ≤ q))
+          → (c : ℕ) × (n : ℕ) × (see s i ≡ Char c n) × (n ≤ q)
       by true y ih =
           let z = see-within s p i c n e h (ltb-true i n y) in (z .0, z .1, z .2, omega (arith, z .3, reach-order x))
       by false y ih = ih (ltb-false i n y)
@@ -75,7 +77,8 @@ module _ {s : List ℕ} where
   unfolding Rising
   rising-on {p} n ss none h x = rising-less n p ss h x
   rising-on {p} n ss (eats {n = m} {c = c} e t) h x = rising-on n ss t (omega (arith, see-ahead s p c m e)) x
-  rising-on n ss (joins {q = m} {rs = rs} {ss = us} t u) h x = rw (append-assoc rs us ss) (rising-on n (us ++ ss) t h (rising-on m ss u (omega arith) x))
+  rising-on n ss (joins {q = m} {rs = rs} {ss = us} t u) h x =
+      rw (append-assoc rs us ss) (rising-on n (us ++ ss) t h (rising-on m ss u (omega arith) x))
   rising-on {p} n ss (lays k d t) h x = (h, rising-on p ss t (omega arith) x)
 
   pub trace-rising : {p q : ℕ} {rs : List Row} → Trace s p rs q → Rising p rs

@@ -26,7 +26,9 @@ spells-by : (w : ℕ) (word s : List ℕ) (a e : ℕ) → spells (w ∷ word) s 
 unfolding spells
 spells-by w word s a e = by (see s a)
   where
-    by : (x : Seen) → cond (ltb a e) (elim x [ End ↦ false | Char c n ↦ eqb (lower c) w && spells word s n e ]) false ≡ cond (ltb a e) (led w (λ n. spells word s n e) x) false
+    by : (x : Seen)
+        → cond (ltb a e) (elim x [ End ↦ false | Char c n ↦ eqb (lower c) w && spells word s n e ]) false
+        ≡ cond (ltb a e) (led w (λ n. spells word s n e) x) false
     by End = refl
     by (Char c n) = refl
 
@@ -43,12 +45,14 @@ unfolding spells
 spells-same [] s t a e h = refl
 spells-same (w ∷ word) s t a e h = spells-by w word t a e ∙ by (ltb a e) refl (λ n. spells-same word s t n e) ∙ sym (spells-by w word s a e)
   where
-    by : (b : Bool) → ltb a e ≡ b → ((n : ℕ) → Same s t n e → spells word t n e ≡ spells word s n e) → cond b (led w (λ n. spells word t n e) (see t a)) false ≡ cond b (led w (λ n. spells word s n e) (see s a)) false
+    by : (b : Bool) → ltb a e ≡ b → ((n : ℕ) → Same s t n e → spells word t n e ≡ spells word s n e)
+        → cond b (led w (λ n. spells word t n e) (see t a)) false ≡ cond b (led w (λ n. spells word s n e) (see s a)) false
     by false q ih = refl
     by true q ih =
         let l = ltb-true a e q in
         ap (led w (λ n. spells word t n e)) (sym (h a (omega arith) l))
-        ∙ led-same w (λ n. spells word t n e) (λ n. spells word s n e) (see s a) (λ c n x. let y = see-ahead s a c n x in ih n (λ i j k. h i (omega arith) k))
+        ∙ led-same w (λ n. spells word t n e) (λ n. spells word s n e) (see s a)
+        (λ c n x. let y = see-ahead s a c n x in ih n (λ i j k. h i (omega arith) k))
 
 ltb-up : (a e d : ℕ) → ltb (a + d) (e + d) ≡ ltb a e
 ltb-up a e d = by (ltb a e) refl

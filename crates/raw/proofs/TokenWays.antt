@@ -1,0 +1,82 @@
+-- The ways through the functions of src/token.rt, by what the scanner told.
+--     scan-on, white-on, comment-on, key-on       scans, white space, a comment and a key, which are never refused
+--     key-told, comment-off, comment-line, ident-off, ident-line, ident-letters       the ways through `key`, `comment` and `ident`
+-- Assumes nothing.
+use Prim.Native.Nat.{ℕ, _+_, _≤_, _<_, max}
+use mathlib.Core.Path.{_≡_, refl, sym, ap, _∙_}
+use mathlib.Core.Bool.{Bool, true, _||_}
+use mathlib.Core.List.{List, []}
+use native.Mathlib.Omega.{arith}
+use lib.ListN.{length, getD}
+use lib.Dec.{eqb}
+use Rattle.text.specs.Class.{isWhitespace, isKey, isIdStart, isIdContinue, holdsOf}
+use Rattle.text.specs.Scan.{see, skip, pastOne, fails, Ahead}
+use Rattle.text.specs.Inner.{Letters}
+use Rattle.text.specs.declared.class.Test.the-variants as test
+use Rattle.text.proofs.AsciiTurns.{letters-id}
+use Rattle.row.specs.declared.fault.Reason.the-variants.{ExpectedIdentifier}
+use Rattle.row.specs.Fault.{faultAt}
+use Rattle.row.specs.Row.{Row}
+use Rattle.raw.specs.declared.answer.Step.the-variants as step
+use Rattle.raw.specs.Reader.{ok, bad, scan}
+use Rattle.raw.specs.Grammar.{white, comment, key, ident}
+use Rattle.raw.specs.Says.{stepOf, Onward}
+use Rattle.raw.proofs.readers.Scans.{scan-skip}
+use Rattle.raw.proofs.grammar.Rowless.{rowless-at, comment-rowless, key-rowless}
+use Rattle.raw.proofs.Eaten.{not-at, eaten-off, eaten-on}
+
+-- ---- scans
+
+pub scan-on : (t : ℕ → Bool) (s : List ℕ) (i : ℕ) {r : ℕ} → r ≡ skip t s i → scan {P = Row} t s i ≡ ok r []
+scan-on t s i e = scan-skip t s i ∙ ap (λ (x : ℕ). ok x []) (sym e)
+
+module _ (s : List ℕ) (i : ℕ) where
+  pub white-on : {r : ℕ} → r ≡ skip isWhitespace s i → white s i ≡ ok r []
+  unfolding white
+  white-on e = scan-on isWhitespace s i e
+
+-- ---- the ways through
+
+module _ (s : List ℕ) (i : ℕ) where
+  -- a reader that is never refused: by the place it told
+  pub comment-on : {r : ℕ} → step.At r ≡ stepOf (comment s i) → comment s i ≡ ok r []
+  comment-on e = rowless-at (comment-rowless s i) e refl
+
+  pub key-on : {r : ℕ} → step.At r ≡ stepOf (key s i) → key s i ≡ ok r []
+  key-on e = rowless-at (key-rowless s i) e refl
+
+  pub key-told : {r : ℕ} → r ≡ skip isKey s i → Ahead s i r → (step.At r ≡ stepOf (key s i)) × (i ≤ r) × (r ≤ max i (length s))
+  unfolding key
+  key-told e a = (sym (ap stepOf (scan-on isKey s i e)), a .from, a .to)
+
+  module _ {r : ℕ} (e : r ≡ pastOne (holdsOf test.Percent) i (see s i)) where
+    pub comment-off : r ≡ i → (step.At i ≡ stepOf (comment s i)) × (i ≤ i) × (i ≤ max i (length s))
+    unfolding comment
+    comment-off h = (sym (ap stepOf (eaten-off (holdsOf test.Percent) s i (scan (fails test.Newline) s) (ok i []) e h)), omega arith, omega arith)
+
+    pub comment-line : {q : ℕ} → (r ≡ i → ⊥) → Ahead s i r → q ≡ skip (fails test.Newline) s r → Ahead s r q
+        → (step.At q ≡ stepOf (comment s i)) × (i ≤ q) × (q ≤ max i (length s))
+    unfolding comment
+    comment-line h a d b =
+        let line = scan-on (fails test.Newline) s r d in
+        (sym (ap stepOf (eaten-on (holdsOf test.Percent) s i (scan (fails test.Newline) s) (ok i []) e h ∙ line)), omega arith, omega arith)
+
+  module _ {r : ℕ} (e : r ≡ pastOne isIdStart i (see s i)) where
+    pub ident-off : r ≡ i → (step.Refused (faultAt ExpectedIdentifier i) ≡ stepOf (ident s i)) × Unit {0}
+    unfolding ident
+    ident-off h = (sym (ap stepOf (eaten-off isIdStart s i (scan isIdContinue s) (bad (faultAt ExpectedIdentifier i)) e h)), tt)
+
+    pub ident-line : {q : ℕ} → (r ≡ i → ⊥) → Ahead s i r → q ≡ skip isIdContinue s r → Ahead s r q
+        → (step.At q ≡ stepOf (ident s i)) × Onward (length s) 1 i (step.At q)
+    unfolding ident
+    ident-line h a d b =
+        let l : i + 1 ≤ r = not-at (a .from) h in
+        let name = eaten-on isIdStart s i (scan isIdContinue s) (bad (faultAt ExpectedIdentifier i)) e h in
+        (sym (ap stepOf (name ∙ scan-on isIdContinue s r d)), (omega arith, omega arith))
+
+  -- by letters alone
+  pub ident-letters : {r : ℕ} → Letters s i r → i < r → r < length s → (eqb (getD s r 0) 0x20 || eqb (getD s r 0) 0x3D) ≡ true
+      → (step.At r ≡ stepOf (ident s i)) × Onward (length s) 1 i (step.At r)
+  ident-letters {r} a p q t =
+      let x = letters-id a p q t in
+      ident-line (x .0) (λ z. omega arith) (record { from = omega arith; to = omega arith }) (x .1) (record { from = omega arith; to = omega arith })
