@@ -6,7 +6,7 @@ use mathlib.Core.Path.{_≡_, sym, _∙_}
 use mathlib.Core.List.{List}
 use borrow.Fn.Kinds.{Out}
 use denote.Ref.{now}
-use Rattle.text.proofs.Unique.{Both}
+use Rattle.text.proofs.general.Outcomes.{Both}
 use Rattle.raw.specs.Reader as reader
 use Rattle.bib.specs.Export.{Exported}
 use Rattle.bib.proofs.bib_read.Kinds as read-kinds

@@ -12,9 +12,9 @@ use borrow.Author.Tests.{leb-false}
 use Rattle.text.specs.Utf8.{isChar, Octets, none, next, value, isScalar, octets}
 use Rattle.text.specs.Class.{whiteSpace, isWhitespace}
 use Rattle.text.specs.Scan.{code}
-use Rattle.text.proofs.Shape.{char-some}
-use Rattle.text.proofs.Values.{writes, reads, encodes}
-use Rattle.text.proofs.Boundary.{code-char}
+use Rattle.text.proofs.sequences.Lengths.{char-some}
+use Rattle.text.proofs.sequences.ScalarValues.{writes, reads, encodes}
+use Rattle.text.proofs.sequences.CutPlaces.{code-char}
 use Rattle.chunk.specs.Format.{lastCode, endsWhite, Written, written, before, isLineEnd, white, lines, isEscapable, escaped}
 use Rattle.chunk.specs.Characters.{utf8Of, Scalars, charLines, charEndsWhite, charEscaped, Characters}
 use Rattle.chunk.specs.Inner.{plain}

@@ -11,7 +11,7 @@ use mathlib.Core.Bool.{Bool, true, false, _&&_}
 use mathlib.Core.List.{List, [], _∷_}
 use lib.ListN.{length, getD, drop, drop-of-length-le}
 use borrow.Author.Tests.{eq-eqb, ne-eqb}
-use Rattle.text.proofs.Places.{drop-next, drop-more}
+use Rattle.text.proofs.general.Places.{drop-next, drop-more}
 use Rattle.chunk.specs.Chunk.{ChunkRow, chunkRow, chunkRows, Stores, isChunk, everyChunk, areChunks}
 
 -- the row of the five numbers from i on

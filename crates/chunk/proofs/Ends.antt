@@ -18,8 +18,8 @@ use Rattle.text.specs.Class.{isWhitespace}
 use Rattle.text.specs.Scan.{part, code, seeFrom}
 use Rattle.text.specs.declared.scanner.Seen.{Seen}
 use Rattle.text.specs.declared.scanner.Seen.the-variants.{End, Char}
-use Rattle.text.proofs.Places.{boundary-in}
-use Rattle.text.proofs.Shape.{char-some, char-first, char-further}
+use Rattle.text.proofs.general.Places.{boundary-in}
+use Rattle.text.proofs.sequences.Lengths.{char-some, char-first, char-further}
 use Rattle.chunk.specs.Format.{lastFrom, lastAt, lastCode, endsWhite}
 use Rattle.chunk.proofs.Parts.{part-none, part-more, length-part, drop-take, drop-part}
 

@@ -12,10 +12,10 @@ use lib.Dec.{eqb, leb}
 use borrow.Author.Tests.{ne-eqb, leb-true}
 use Rattle.text.specs.Utf8.{isChar, Octets, isScalar, octets, value, gather}
 use Rattle.text.specs.Class.{mark}
-use Rattle.text.proofs.Grammar.{both-true}
-use Rattle.text.proofs.Shape.{Shape, one, two, three, four, char-shape, shape-char}
-use Rattle.text.proofs.Octets.{octets-char}
-use Rattle.text.proofs.Values.{writes, reads}
+use Rattle.text.proofs.general.Tests.{both-true}
+use Rattle.text.proofs.sequences.Lengths.{Shape, one, two, three, four, char-shape, shape-char}
+use Rattle.text.proofs.sequences.Octets.{octets-char}
+use Rattle.text.proofs.sequences.ScalarValues.{writes, reads}
 use Rattle.chunk.specs.Format.{isLineEnd, alwaysMarks, plainMarks, isEscapable, escaped}
 use Rattle.chunk.specs.Inner.{plain}
 

@@ -14,7 +14,7 @@ use lib.Dec.{leb}
 use borrow.Author.Tests.{leb-true, le-leb, lt-leb}
 use Rattle.text.specs.Range.{within}
 use Rattle.text.specs.Utf8.{tail, isBoundary}
-use Rattle.text.proofs.Grammar.{both-true}
+use Rattle.text.proofs.general.Tests.{both-true}
 use Rattle.chunk.specs.declared.answer.Total.the-variants as total
 use Rattle.chunk.specs.Chunk.{Chunk, ChunkRow, chunkRows, chunkOf, isChunk, everyChunk, areChunks, Stores}
 use Rattle.chunk.specs.Put.{Puts, Fills}

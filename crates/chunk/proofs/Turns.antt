@@ -11,7 +11,7 @@ use lib.ListN.{length, getD}
 use lib.Dec.{eqb}
 use borrow.Author.Tests.{eqb-true}
 use Rattle.text.specs.Scan.{part}
-use Rattle.text.proofs.Grammar.{both-true}
+use Rattle.text.proofs.general.Tests.{both-true}
 use Rattle.chunk.specs.declared.answer.Total.the-variants as total
 use Rattle.chunk.specs.declared.form.Kind.{Kind}
 use Rattle.chunk.specs.Chunk.{kindFrom, chunkRows, chunksOf, everyChunk, areChunks, Stores}

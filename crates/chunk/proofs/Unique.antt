@@ -3,7 +3,7 @@
 -- Assumes nothing.
 use mathlib.Core.Path.{_≡_, sym, _∙_}
 use denote.Ref.{now}
-use Rattle.text.proofs.Unique.{One, Both}
+use Rattle.text.proofs.general.Outcomes.{One, Both}
 use Rattle.chunk.proofs.form.kind_number.Kinds as kind-number-kinds
 use Rattle.chunk.proofs.form.kind_number.Reads as kind-number
 use Rattle.chunk.proofs.form.kind_from.Kinds as kind-from-kinds

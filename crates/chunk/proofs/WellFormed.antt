@@ -11,10 +11,10 @@ use lib.Dec.{eqb, leb}
 use borrow.Author.Tests.{leb-true}
 use Rattle.text.specs.Utf8.{isChar, Octets, none, next, isBoundary}
 use Rattle.text.specs.Scan.{part}
-use Rattle.text.proofs.Grammar.{both-true}
-use Rattle.text.proofs.Shape.{char-shape}
-use Rattle.text.proofs.Octets.{accepts, octets-char, octets-append, octets-after}
-use Rattle.text.proofs.Boundary.{boundary}
+use Rattle.text.proofs.general.Tests.{both-true}
+use Rattle.text.proofs.sequences.Lengths.{char-shape}
+use Rattle.text.proofs.sequences.Octets.{accepts, octets-char, octets-append, octets-after}
+use Rattle.text.proofs.sequences.CutPlaces.{boundary}
 use Rattle.chunk.specs.declared.form.Kind.{Kind}
 use Rattle.chunk.specs.declared.form.Kind.the-variants.{Normal, Verbatim, Math}
 use Rattle.chunk.specs.declared.answer.Checked.the-variants as checked

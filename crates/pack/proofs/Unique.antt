@@ -3,7 +3,7 @@
 -- Assumes nothing.
 use mathlib.Core.Path.{_≡_, sym, _∙_}
 use denote.Ref.{now}
-use Rattle.text.proofs.Unique.{Both}
+use Rattle.text.proofs.general.Outcomes.{Both}
 use Rattle.pack.proofs.packing.pack.Kinds as pack-kinds
 use Rattle.pack.proofs.packing.pack.Reads as pack
 use Rattle.pack.proofs.unpacking.unpack.Kinds as unpack-kinds

@@ -16,8 +16,8 @@ use Rattle.text.specs.Class.{holdsOf}
 use Rattle.text.specs.declared.class.Test.the-variants as test
 use Rattle.text.specs.Scan.{see}
 use Rattle.text.specs.declared.scanner.Seen.the-variants.{End, Char}
-use Rattle.text.proofs.Grammar.{within-true}
-use Rattle.text.proofs.Seen.{see-end, see-ascii}
+use Rattle.text.proofs.sequences.Alternatives.{within-true}
+use Rattle.text.proofs.scanning.Seen.{see-end, see-ascii}
 use Rattle.row.specs.declared.fault.Reason.the-variants.{UnexpectedEof, UnexpectedDecimalPoint}
 use Rattle.row.specs.Fault.{faultAt}
 use Rattle.raw.specs.declared.answer.Step.{Step}
@@ -27,7 +27,7 @@ use Rattle.raw.specs.Grammar.{is, escape, quotedTurn, quoted, numberTurn
 use Rattle.raw.specs.Says.{stepOf, Onward}
 use Rattle.raw.proofs.readers.Loop.{many-turn}
 use Rattle.raw.proofs.grammar.Readers.{quoted-turn-kept, number-turn-kept, braced-turn-kept}
-use Rattle.raw.proofs.Eaten.{narrow-is}
+use Rattle.text.proofs.general.Tests.{narrow-is}
 use Rattle.raw.proofs.Bytes.{Narrow, seen-key, seen-other, Unrolls, Wide, Reached, on-turn, on-char, on-cut, on-escape, at-stop, at-bad}
 
 -- what a reader without rows is to answer

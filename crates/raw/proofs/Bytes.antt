@@ -22,11 +22,11 @@ use Rattle.text.specs.Range.{within}
 use Rattle.text.specs.Utf8.{tail, width}
 use Rattle.text.specs.Scan.{code, rest, see, Inside}
 use Rattle.text.specs.declared.scanner.Seen.the-variants.{Char}
-use Rattle.text.proofs.Grammar.{width-char}
-use Rattle.text.proofs.Shape.{char-further, width-tail}
-use Rattle.text.proofs.Places.{drop-next}
-use Rattle.text.proofs.Seen.{see-end, see-at, see-inside, see-ascii}
-use Rattle.text.proofs.Skip.{code-wide}
+use Rattle.text.proofs.sequences.Alternatives.{width-char}
+use Rattle.text.proofs.sequences.Lengths.{char-further, width-tail}
+use Rattle.text.proofs.general.Places.{drop-next}
+use Rattle.text.proofs.scanning.Seen.{see-end, see-at, see-inside, see-ascii}
+use Rattle.text.proofs.scanning.Skip.{code-wide}
 use Rattle.row.specs.declared.fault.Fault.{Fault}
 use Rattle.raw.specs.declared.answer.Step.the-variants as step
 use Rattle.raw.specs.Reader.{ok, again, bad, Reader, after, many}

@@ -14,9 +14,9 @@ use borrow.Author.Tests.{ne-eqb, eqb-true, eqb-false, ltb-true, ltb-false}
 use Rattle.text.specs.Scan.{see, code, rest, pastOne, Ahead, Inside}
 use Rattle.text.specs.declared.scanner.Seen.{Seen}
 use Rattle.text.specs.declared.scanner.Seen.the-variants.{End, Char}
-use Rattle.text.proofs.Places.{drop-next}
-use Rattle.text.proofs.Seen.{see-inside, see-end, see-at, see-ascii}
-use Rattle.text.proofs.Skip.{code-wide}
+use Rattle.text.proofs.general.Places.{drop-next}
+use Rattle.text.proofs.scanning.Seen.{see-inside, see-end, see-at, see-ascii}
+use Rattle.text.proofs.scanning.Skip.{code-wide}
 use Rattle.row.specs.declared.fault.Reason.{Reason}
 use Rattle.row.specs.Fault.{faultAt}
 use Rattle.raw.specs.declared.answer.Step.the-variants as step

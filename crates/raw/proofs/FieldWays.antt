@@ -8,7 +8,7 @@ use lib.ListN.{length, getD}
 use borrow.Author.Tests.{eq-eqb, ne-eqb}
 use Rattle.text.specs.Class.{isWhitespace, holdsOf}
 use Rattle.text.specs.Scan.{see, skip}
-use Rattle.text.proofs.Seen.{see-at}
+use Rattle.text.proofs.scanning.Seen.{see-at}
 use Rattle.row.specs.declared.form.Kind.{Kind}
 use Rattle.row.specs.declared.fault.Fault.{Fault}
 use Rattle.row.specs.declared.fault.Reason.the-variants.{UnexpectedEof, ExpectedComma}
@@ -25,7 +25,8 @@ use Rattle.raw.specs.Grammar.{is, any, white, comma, ident, equals, abbr
 use Rattle.raw.specs.Says.{stepOf, Says, SaysTurn}
 use Rattle.raw.proofs.grammar.Rowless.{rowless-at, rowless-off}
 use Rattle.raw.proofs.readers.Then.{then-on, then-off}
-use Rattle.raw.proofs.Eaten.{narrow-is, byte-end, byte-on, byte-off}
+use Rattle.raw.proofs.Eaten.{byte-end, byte-on, byte-off}
+use Rattle.text.proofs.general.Tests.{narrow-is}
 use Rattle.raw.proofs.TokenWays.{white-on, comment-on}
 use Rattle.raw.proofs.grammar.Rowless.{ident-rowless, equals-rowless}
 use Rattle.raw.proofs.Saying.{says-of, says-at, says-on, says-off, says-then, says-mark, said-off, turn-of, turn-then, turn-off}

@@ -26,7 +26,8 @@ use Rattle.raw.proofs.readers.Kept.{Advances}
 use Rattle.raw.proofs.readers.Loop.{many-turn}
 use Rattle.raw.proofs.grammar.Readers.{from-start, number-turn-kept, number-laws}
 use Rattle.raw.proofs.readers.Then.{more-none, then-on, then-off}
-use Rattle.raw.proofs.Eaten.{narrow-is, eaten-off, eaten-on, byte-end, byte-on, byte-off}
+use Rattle.raw.proofs.Eaten.{eaten-off, eaten-on, byte-end, byte-on, byte-off}
+use Rattle.text.proofs.general.Tests.{narrow-is}
 use Rattle.raw.proofs.TokenWays.{white-on}
 use Rattle.raw.proofs.Saying.{turn-of, turn-done, turn-again, turn-then, said-off}
 

@@ -17,8 +17,8 @@ use Rattle.text.specs.Utf8.{validityOf}
 use Rattle.text.specs.declared.class.Test.the-variants as test
 use Rattle.text.specs.declared.utf8.Validity.{Validity}
 use Rattle.text.specs.declared.utf8.Validity.the-variants as validity
-use Rattle.text.proofs.Seen.{see-end, see-inside}
-use Rattle.text.proofs.Skip.{skip-ahead}
+use Rattle.text.proofs.scanning.Seen.{see-end, see-inside}
+use Rattle.text.proofs.scanning.Skip.{skip-ahead}
 use Rattle.row.specs.declared.fault.Fault.{Fault}
 use Rattle.row.specs.declared.fault.Reason.the-variants.{TooLong, NotUtf8, NoRoom}
 use Rattle.row.specs.Fault.{faultAt, nowhere}
@@ -38,7 +38,7 @@ use Rattle.raw.proofs.readers.Then.{then-on}
 use Rattle.raw.proofs.Saying.{says-at, said-off}
 use Rattle.raw.proofs.TokenWays.{scan-on, white-on, comment-on}
 use Rattle.raw.proofs.Bytes.{seen-key, seen-other}
-use Rattle.raw.proofs.Eaten.{narrow-is}
+use Rattle.text.proofs.general.Tests.{narrow-is}
 
 -- ---- a turn
 

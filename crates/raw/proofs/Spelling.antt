@@ -10,11 +10,11 @@ use mathlib.Core.Path.{_≡_, refl, _∙_}
 use mathlib.Core.Bool.{Bool, true, false, cond, _&&_}
 use mathlib.Core.List.{List, [], _∷_}
 use lib.ListN.{length, getD, drop, drop-of-length-le}
-use Rattle.text.proofs.Places.{drop-next}
+use Rattle.text.proofs.general.Places.{drop-next}
 use lib.Dec.{T, ltb, leb, eqb, ltb→lt}
 use borrow.Author.Tests.{lt-ltb, le-ltb, ltb-true, ltb-false, eq-eqb, ne-eqb, eqb-true, eqb-false}
-use Rattle.text.proofs.Bytes.{below, each}
-use Rattle.text.proofs.Seen.{see-ascii}
+use Rattle.text.proofs.general.Below.{below, each}
+use Rattle.text.proofs.scanning.Seen.{see-ascii}
 use Rattle.raw.specs.Grammar.{lower, spells}
 use Rattle.raw.specs.Says.{Ascii}
 use Rattle.raw.proofs.Bytes.{Narrow, seen-other}

@@ -17,8 +17,8 @@ use Rattle.text.specs.declared.scanner.Seen.the-variants.{End, Char}
 use Rattle.text.specs.declared.class.Test.the-variants as test
 use Rattle.text.specs.declared.utf8.Validity.{Validity}
 use Rattle.text.specs.declared.utf8.Validity.the-variants as validity
-use Rattle.text.proofs.Seen.{see-inside}
-use Rattle.text.proofs.Moved.{see-front}
+use Rattle.text.proofs.scanning.Seen.{see-inside}
+use Rattle.text.proofs.scanning.LongerText.{see-front}
 use Rattle.text.proofs.Rfc3629.{rfc3629}
 use Rattle.row.specs.declared.fault.Fault.{Fault}
 use Rattle.row.specs.declared.fault.Reason.the-variants.{TooLong, NotUtf8}

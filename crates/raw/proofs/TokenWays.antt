@@ -13,7 +13,7 @@ use Rattle.text.specs.Class.{isWhitespace, isKey, isIdStart, isIdContinue, hold
 use Rattle.text.specs.Scan.{see, skip, pastOne, fails, Ahead}
 use Rattle.text.specs.Inner.{Letters}
 use Rattle.text.specs.declared.class.Test.the-variants as test
-use Rattle.text.proofs.AsciiTurns.{letters-id}
+use Rattle.text.proofs.scanning.AsciiLoops.{letters-id}
 use Rattle.row.specs.declared.fault.Reason.the-variants.{ExpectedIdentifier}
 use Rattle.row.specs.Fault.{faultAt}
 use Rattle.row.specs.Row.{Row}

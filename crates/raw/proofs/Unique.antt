@@ -3,7 +3,7 @@
 -- Assumes nothing.
 use mathlib.Core.Path.{_≡_, sym, _∙_}
 use denote.Ref.{now}
-use Rattle.text.proofs.Unique.{Both}
+use Rattle.text.proofs.general.Outcomes.{Both}
 use Rattle.raw.proofs.file.read.Kinds as read-kinds
 use Rattle.raw.proofs.file.read.Reads as read
 

@@ -15,7 +15,7 @@ use mathlib.Core.List.{List}
 use lib.ListN.{length, getD}
 use Rattle.text.specs.declared.block.Set.{Set}
 use Rattle.text.specs.Block.{inSet, braces, quotes, Clear}
-use Rattle.text.proofs.Clear.{clear-not}
+use Rattle.text.proofs.scanning.Blocks.{clear-not}
 use Rattle.row.specs.declared.fault.Reason.the-variants.{UnexpectedEof}
 use Rattle.row.specs.Fault.{faultAt}
 use Rattle.raw.specs.declared.answer.Step.{Step}

@@ -12,8 +12,8 @@ use Rattle.text.specs.Class.{isWhitespace, isControl}
 use Rattle.text.specs.Scan.{see, nextOf, skip, part, Inside}
 use Rattle.text.specs.declared.scanner.Seen.{Seen}
 use Rattle.text.specs.declared.scanner.Seen.the-variants.{End, Char}
-use Rattle.text.proofs.Seen.{see-inside}
-use Rattle.text.proofs.Moved.{see-ahead}
+use Rattle.text.proofs.scanning.Seen.{see-inside}
+use Rattle.text.proofs.scanning.LongerText.{see-ahead}
 use Rattle.row.specs.declared.fault.Fault.{Fault}
 use Rattle.row.specs.declared.fault.Reason.the-variants.{UnexpectedEof}
 use Rattle.row.specs.Fault.{faultAt}

@@ -17,9 +17,9 @@ use Rattle.text.specs.Scan.{see, nextOf, skip, fails, part, code, rest, Ahead}
 use Rattle.text.specs.declared.scanner.Seen.{Seen}
 use Rattle.text.specs.declared.scanner.Seen.the-variants.{End, Char}
 use Rattle.text.specs.declared.class.Test.the-variants as test
-use Rattle.text.proofs.Seen.{see-at, see-end}
-use Rattle.text.proofs.Skip.{skip-on, skip-ahead}
-use Rattle.text.proofs.Moved.{see-ahead}
+use Rattle.text.proofs.scanning.Seen.{see-at, see-end}
+use Rattle.text.proofs.scanning.Skip.{skip-on, skip-ahead}
+use Rattle.text.proofs.scanning.LongerText.{see-ahead}
 use Rattle.row.specs.declared.fault.Reason.the-variants.{UnexpectedEof}
 use Rattle.row.specs.Fault.{faultAt}
 use Rattle.raw.specs.Reader.{OutOf, ok, again, bad, more, andThen, eaten, after, loop, many, turn, stop}

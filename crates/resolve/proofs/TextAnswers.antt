@@ -11,9 +11,9 @@ use Rattle.text.specs.Scan.{see, skip, part, Ahead}
 use Rattle.text.specs.declared.scanner.Seen.{Seen}
 use Rattle.text.specs.declared.scanner.Seen.the-variants.{End, Char}
 use Rattle.text.specs.Scan.{Inside}
-use Rattle.text.proofs.Seen.{see-inside}
-use Rattle.text.proofs.Skip.{skip-ahead}
-use Rattle.text.proofs.Moved.{see-ahead}
+use Rattle.text.proofs.scanning.Seen.{see-inside}
+use Rattle.text.proofs.scanning.Skip.{skip-ahead}
+use Rattle.text.proofs.scanning.LongerText.{see-ahead}
 use Rattle.command.specs.Stack.{Lays}
 use Rattle.command.proofs.Stacks.{lays-as, lays-on}
 use Rattle.resolve.specs.Content.{Reader, begins}

@@ -18,9 +18,9 @@ use Rattle.text.specs.Scan.{see, skip, fails, part, pastOne, single, code, rest
 use Rattle.text.specs.declared.scanner.Seen.{Seen}
 use Rattle.text.specs.declared.scanner.Seen.the-variants.{End, Char}
 use Rattle.text.specs.declared.class.Test.the-variants as test
-use Rattle.text.proofs.Seen.{see-end, see-at}
-use Rattle.text.proofs.Skip.{skip-end, skip-on, skip-stop, skip-ahead}
-use Rattle.text.proofs.Moved.{see-ahead}
+use Rattle.text.proofs.scanning.Seen.{see-end, see-at}
+use Rattle.text.proofs.scanning.Skip.{skip-end, skip-on, skip-stop, skip-ahead}
+use Rattle.text.proofs.scanning.LongerText.{see-ahead}
 use Rattle.row.specs.declared.fault.Reason.the-variants.{UnexpectedEof}
 use Rattle.row.specs.Fault.{faultAt}
 use Rattle.raw.specs.declared.answer.Step.{Step}

@@ -13,7 +13,7 @@ use borrow.Author.Tests.{ltb-true, eqb-true, eqb-false}
 use Rattle.text.specs.Class.{isWhitespace, whiteSpace}
 use Rattle.text.specs.Scan.{see, part}
 use Rattle.text.specs.declared.scanner.Seen.the-variants.{End, Char}
-use Rattle.text.proofs.Bytes.{each}
+use Rattle.text.proofs.general.Below.{each}
 use Rattle.raw.specs.Reader.{OutOf, ok, again, bad, more}
 use Rattle.compose.proofs.Rows.{both}
 use Rattle.chunk.proofs.Parts.{part-none, part-head}

@@ -18,9 +18,9 @@ use Rattle.text.specs.Scan.{see, nextOf, skip, part, code, rest}
 use Rattle.text.specs.declared.scanner.Seen.{Seen}
 use Rattle.text.specs.declared.scanner.Seen.the-variants.{End, Char}
 use Rattle.text.specs.declared.class.Test.the-variants as test
-use Rattle.text.proofs.Places.{drop-next}
-use Rattle.text.proofs.Seen.{see-end, see-ascii}
-use Rattle.text.proofs.Skip.{code-wide}
+use Rattle.text.proofs.general.Places.{drop-next}
+use Rattle.text.proofs.scanning.Seen.{see-end, see-ascii}
+use Rattle.text.proofs.scanning.Skip.{code-wide}
 use Rattle.row.specs.declared.fault.Fault.{Fault}
 use Rattle.row.specs.declared.fault.Reason.the-variants.{UnexpectedEof, UnexpectedClosingBrace}
 use Rattle.row.specs.Fault.{faultAt}

@@ -9,8 +9,8 @@ use mathlib.Core.Path.{_≡_, refl, ap₂}
 use mathlib.Core.Bool.{Bool, true, false, cond, _&&_, _||_, Bool·beq}
 use lib.Dec.{T, eqb, ltb, eqb→eq}
 use borrow.Author.Tests.{eqb-true, eqb-false, ne-eqb, ltb-true, ltb-false}
-use Rattle.text.proofs.Bytes.{below, each}
-use Rattle.text.proofs.Masks.{beq-eq}
+use Rattle.text.proofs.general.Below.{below, each}
+use Rattle.text.proofs.scanning.Masks.{beq-eq}
 use Rattle.row.specs.declared.mask.Masks.{Masks}
 use Rattle.row.specs.Rules.{Await, part, type, key, value, chunk, chunks, cause, wrong, isDetail, next, whole}
 use Rattle.row.specs.Masks.{mayOf, moreOf, masks, masksOf, bit, takenOf, afterOf, stepOf, endsOf}

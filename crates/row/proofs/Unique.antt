@@ -2,7 +2,7 @@
 -- source, so that a contract which said less would fail here.
 -- Assumes nothing.
 use mathlib.Core.Path.{_≡_, sym, _∙_}
-use Rattle.text.proofs.Unique.{One}
+use Rattle.text.proofs.general.Outcomes.{One}
 use Rattle.row.proofs.fault.number.Kinds as number-kinds
 use Rattle.row.proofs.fault.number.Reads as number
 use Rattle.row.proofs.form.kind_number.Kinds as kind-number-kinds

@@ -11,8 +11,8 @@ use lib.ListN.{length, length-append}
 use Rattle.text.specs.Class.{whiteSpace, isWhitespace}
 use Rattle.text.specs.Scan.{see, Inside}
 use Rattle.text.specs.declared.scanner.Seen.the-variants.{End, Char}
-use Rattle.text.proofs.Seen.{see-end, see-inside}
-use Rattle.text.proofs.Moved.{see-ahead, see-front}
+use Rattle.text.proofs.scanning.Seen.{see-end, see-inside}
+use Rattle.text.proofs.scanning.LongerText.{see-ahead, see-front}
 use Rattle.row.specs.declared.fault.Fault.{Fault}
 use Rattle.row.specs.Row.{Row}
 use Rattle.raw.specs.Reader.{Out, ok, again, bad, more, after}

@@ -12,8 +12,8 @@ use lib.ListN.{length, getD, drop, drop-of-length-le}
 use lib.Dec.{eqb}
 use borrow.Author.Tests.{eq-eqb, ne-eqb}
 use Rattle.text.specs.Block.{Found}
-use Rattle.text.proofs.Grammar.{both-true}
-use Rattle.text.proofs.Places.{drop-next}
+use Rattle.text.proofs.general.Tests.{both-true}
+use Rattle.text.proofs.general.Places.{drop-next}
 use Rattle.salvage.specs.Salvage.{head, newline, cut}
 use Rattle.salvage.specs.Demand3.{fresh}
 use Rattle.salvage.specs.Inner.{Ends}

@@ -14,7 +14,7 @@ use Rattle.text.specs.Class.{isWhitespace}
 use Rattle.text.specs.Scan.{see}
 use Rattle.text.specs.declared.scanner.Seen.{Seen}
 use Rattle.text.specs.declared.scanner.Seen.the-variants.{End, Char}
-use Rattle.text.proofs.Moved.{see-ahead}
+use Rattle.text.proofs.scanning.LongerText.{see-ahead}
 use Rattle.row.specs.Row.{Row}
 use Rattle.raw.specs.Reader.{ok, more, after, eaten, stop, turn, many, scanTurn, scan}
 use Rattle.raw.specs.Grammar.{white}

@@ -17,9 +17,9 @@ use Rattle.text.specs.Class.{whiteSpace, isWhitespace}
 use Rattle.text.specs.Scan.{see}
 use Rattle.text.specs.declared.scanner.Seen.{Seen}
 use Rattle.text.specs.declared.scanner.Seen.the-variants.{End, Char}
-use Rattle.text.proofs.Seen.{see-ascii}
-use Rattle.text.proofs.Grammar.{both-true}
-use Rattle.text.proofs.Moved.{see-ahead, see-front, seenUp, see-up}
+use Rattle.text.proofs.scanning.Seen.{see-ascii}
+use Rattle.text.proofs.general.Tests.{both-true}
+use Rattle.text.proofs.scanning.LongerText.{see-ahead, see-front, seenUp, see-up}
 use Rattle.row.specs.Row.{Row, moved}
 use Rattle.raw.specs.Reader.{Out, ok, again, bad}
 use Rattle.raw.specs.Grammar.{white, fileTurn, file}

@@ -14,7 +14,7 @@ use lib.Dec.{eqb}
 use Rattle.text.specs.Walk.{walkFrom}
 use Rattle.text.specs.Utf8.{Octets, validityOf}
 use Rattle.text.specs.Scan.{seeFrom}
-use Rattle.text.proofs.Octets.{octets-append}
+use Rattle.text.proofs.sequences.Octets.{octets-append}
 use Rattle.row.specs.Row.{Row, moved}
 use Rattle.raw.specs.Reader.{Out, ok, again, bad, more, loop, many}
 use Rattle.raw.specs.Grammar.{white, fileTurn, file}

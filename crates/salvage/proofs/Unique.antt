@@ -3,7 +3,7 @@
 -- Assumes nothing.
 use mathlib.Core.Path.{_≡_, sym, _∙_}
 use denote.Ref.{now}
-use Rattle.text.proofs.Unique.{Both}
+use Rattle.text.proofs.general.Outcomes.{Both}
 use Rattle.salvage.proofs.file.salvage.Kinds as salvage-kinds
 use Rattle.salvage.proofs.file.salvage.Reads as salvage
 

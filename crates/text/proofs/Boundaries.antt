@@ -2,7 +2,7 @@
 --     boundaries
 -- Assumes nothing.
 use Rattle.text.specs.Boundaries.{Boundaries}
-use Rattle.text.proofs.Boundary as place
+use Rattle.text.proofs.sequences.CutPlaces as place
 
 pub boundaries : Boundaries
 boundaries = record { sees = place.sees; skips = place.skips }

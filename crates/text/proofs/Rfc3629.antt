@@ -2,9 +2,9 @@
 --     rfc3629
 -- Assumes nothing.
 use Rattle.text.specs.Rfc3629.{Rfc3629}
-use Rattle.text.proofs.Octets as octets
-use Rattle.text.proofs.Values as values
-use Rattle.text.proofs.Boundary as place
+use Rattle.text.proofs.sequences.Octets as octets
+use Rattle.text.proofs.sequences.ScalarValues as values
+use Rattle.text.proofs.sequences.CutPlaces as place
 
 pub rfc3629 : Rfc3629
 rfc3629 = record {

@@ -8,7 +8,7 @@ use contract.Lifetimes.{Lfts}
 use borrow.Fn.Kinds.{PK, RK, Out, Dens, resT, endedOf}
 use denote.Triple.Clauses.{AtExit}
 use denote.Ref.{now}
-use Rattle.text.proofs.Clear.{found-once}
+use Rattle.text.proofs.scanning.Blocks.{found-once}
 use Rattle.text.proofs.utf8.sequence_length.Kinds as sequence-length-kinds
 use Rattle.text.proofs.utf8.sequence_length.Reads as sequence-length
 use Rattle.text.proofs.utf8.validate.Kinds as validate-kinds

@@ -15,7 +15,7 @@ use Rattle.text.specs.Scan.{see}
 use Rattle.text.specs.declared.scanner.Seen.{Seen}
 use Rattle.text.specs.declared.scanner.Seen.the-variants.{End, Char}
 use Rattle.text.specs.declared.class.Test.the-variants as test
-use Rattle.text.proofs.Seen.{see-end}
+use Rattle.text.proofs.scanning.Seen.{see-end}
 use Rattle.row.specs.declared.fault.Reason.the-variants.{UnexpectedEof}
 use Rattle.row.specs.Fault.{numberOf, faultAt}
 use Rattle.row.specs.Row.{Row}

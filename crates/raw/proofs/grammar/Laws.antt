@@ -16,7 +16,7 @@ use mathlib.Core.List.{List, _++_}
 use lib.ListN.{length}
 use lib.Dec.{eqb}
 use Rattle.text.specs.Scan.{see}
-use Rattle.text.proofs.Moved.{see-ahead}
+use Rattle.text.proofs.scanning.LongerText.{see-ahead}
 use Rattle.row.specs.declared.fault.Reason.{Reason}
 use Rattle.row.specs.Fault.{numberOf}
 use Rattle.row.specs.Row.{Row, Mark, marked, kindOf}

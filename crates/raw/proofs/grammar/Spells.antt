@@ -13,7 +13,7 @@ use borrow.Author.Tests.{ltb-true, ltb-false, eqb-true, eqb-false, lt-ltb, le-lt
 use Rattle.text.specs.Scan.{see}
 use Rattle.text.specs.declared.scanner.Seen.{Seen}
 use Rattle.text.specs.declared.scanner.Seen.the-variants.{End, Char}
-use Rattle.text.proofs.Moved.{see-ahead, seenUp, see-up}
+use Rattle.text.proofs.scanning.LongerText.{see-ahead, seenUp, see-up}
 use Rattle.raw.specs.Grammar.{lower, spells, formOf}
 use Rattle.raw.specs.Strict.{Same}
 

@@ -10,7 +10,7 @@ use mathlib.Core.List.{List}
 use Rattle.text.specs.Class.{isIdStart, holdsOf}
 use Rattle.text.specs.Scan.{see}
 use Rattle.text.specs.declared.class.Test.the-variants as test
-use Rattle.text.proofs.Moved.{see-ahead}
+use Rattle.text.proofs.scanning.LongerText.{see-ahead}
 use Rattle.row.specs.declared.fault.Reason.the-variants.{UnexpectedEof}
 use Rattle.row.specs.Fault.{faultAt}
 use Rattle.row.specs.Row.{Row}

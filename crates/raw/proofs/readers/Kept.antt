@@ -15,7 +15,7 @@ use lib.ListN.{length}
 use Rattle.text.specs.Scan.{see}
 use Rattle.text.specs.declared.scanner.Seen.{Seen}
 use Rattle.text.specs.declared.scanner.Seen.the-variants.{End, Char}
-use Rattle.text.proofs.Moved.{see-ahead}
+use Rattle.text.proofs.scanning.LongerText.{see-ahead}
 use Rattle.row.specs.Row.{Mark}
 use Rattle.row.specs.declared.fault.Reason.{Reason}
 use Rattle.raw.specs.Strict.{Same}

@@ -9,8 +9,8 @@ use lib.ListN.{length, drop}
 use lib.Dec.{ltb}
 use borrow.Author.Tests.{ltb-true, ltb-false}
 use Rattle.text.specs.Scan.{code, rest, skip}
-use Rattle.text.proofs.Seen.{see-end, see-at}
-use Rattle.text.proofs.Skip.{skip-end, skip-on, skip-stop}
+use Rattle.text.proofs.scanning.Seen.{see-end, see-at}
+use Rattle.text.proofs.scanning.Skip.{skip-end, skip-on, skip-stop}
 use Rattle.raw.specs.Reader.{ok, scanTurn, scan, many}
 use Rattle.raw.proofs.readers.Loop.{many-turn}
 use Rattle.raw.proofs.readers.Kept.{Kept, stop-kept, turn-kept, when-kept}

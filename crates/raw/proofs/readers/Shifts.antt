@@ -12,7 +12,7 @@ use lib.ListN.{length, length-append}
 use Rattle.text.specs.Scan.{see}
 use Rattle.text.specs.declared.scanner.Seen.{Seen}
 use Rattle.text.specs.declared.scanner.Seen.the-variants.{End, Char}
-use Rattle.text.proofs.Moved.{seenUp, see-up}
+use Rattle.text.proofs.scanning.LongerText.{seenUp, see-up}
 use Rattle.row.specs.Row.{Row, Mark, marked, moved}
 use Rattle.row.specs.declared.fault.Reason.{Reason}
 use Rattle.row.proofs.Rows.{moved-append}

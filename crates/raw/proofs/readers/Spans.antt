@@ -14,7 +14,7 @@ use borrow.Author.Tests.{ltb-true, ltb-false}
 use Rattle.text.specs.Utf8.{Octets, isBoundary}
 use Rattle.text.specs.Scan.{see}
 use Rattle.text.specs.declared.scanner.Seen.the-variants.{Char}
-use Rattle.text.proofs.Moved.{see-ahead, see-within, see-cut}
+use Rattle.text.proofs.scanning.LongerText.{see-ahead, see-within, see-cut}
 use Rattle.text.proofs.Boundaries.{boundaries}
 use Rattle.row.specs.Row.{Row}
 use Rattle.row.specs.Rules.{clean}

@@ -1,7 +1,7 @@
 -- `raw::entry::lower` meets its contract. Assumes nothing.
 use native.Mathlib.Omega.{arith}
 use Rattle.text.specs.Range.{_–_}
-use Rattle.text.proofs.Grammar.{within-true}
+use Rattle.text.proofs.sequences.Alternatives.{within-true}
 use Rattle.raw.proofs.entry.lower.Statement.{statement}
 use Rattle.raw.proofs.entry.lower.Tie as tie
 

@@ -4,7 +4,8 @@ use borrow.Author.Tests.{eq-eqb, ne-eqb}
 use borrow.Author.Needs.{needs}
 use Rattle.row.specs.declared.fault.Reason.the-variants.{ExpectedIdentifier}
 use Rattle.raw.specs.Grammar.{is, atSign}
-use Rattle.raw.proofs.Eaten.{narrow-is, need-end, need-other, need-byte}
+use Rattle.raw.proofs.Eaten.{need-end, need-other, need-byte}
+use Rattle.text.proofs.general.Tests.{narrow-is}
 use Rattle.raw.proofs.token.at_sign.Statement.{statement}
 use Rattle.raw.proofs.token.at_sign.Tie as tie
 

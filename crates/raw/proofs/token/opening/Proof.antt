@@ -4,7 +4,8 @@ use native.Mathlib.Omega.{arith}
 use borrow.Author.Needs.{needs}
 use Rattle.row.specs.declared.fault.Reason.the-variants.{ExpectedOpeningBrace}
 use Rattle.raw.specs.Grammar.{is, opening}
-use Rattle.raw.proofs.Eaten.{narrow-is, narrow-or, need-end, need-other, need-byte}
+use Rattle.raw.proofs.Eaten.{need-end, need-other, need-byte}
+use Rattle.text.proofs.general.Tests.{narrow-is, narrow-or}
 use Rattle.raw.proofs.token.opening.Statement.{statement}
 use Rattle.raw.proofs.token.opening.Tie as tie
 

@@ -1,6 +1,6 @@
 -- `text::block::distance` meets its contract. Assumes nothing.
 use borrow.Author.Needs.{needs}
-use Rattle.text.proofs.Clear.{distance-none}
+use Rattle.text.proofs.scanning.Blocks.{distance-none}
 use Rattle.text.proofs.block.distance.Statement.{statement}
 use Rattle.text.proofs.block.distance.Tie as tie
 

@@ -3,7 +3,7 @@ use Prim.Native.Nat.{_-_}
 use native.Mathlib.Omega.{arith}
 use lib.ListN.{length}
 use borrow.Author.Needs.{needs}
-use Rattle.text.proofs.Clear.{clear-as, Lacking, lacking, lacking-more, found-at}
+use Rattle.text.proofs.scanning.Blocks.{clear-as, Lacking, lacking, lacking-more, found-at}
 use Rattle.text.proofs.block.find.Statement.{statement}
 use Rattle.text.proofs.block.find.Tie as tie
 

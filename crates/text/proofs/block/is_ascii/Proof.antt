@@ -3,7 +3,7 @@ use Prim.Native.Nat.{_-_, _≤_}
 use native.Mathlib.Omega.{arith}
 use borrow.Author.Tests.{ltb-true}
 use borrow.Author.Needs.{needs}
-use Rattle.text.proofs.Clear.{Least, least-more, least-done}
+use Rattle.text.proofs.scanning.Blocks.{Least, least-more, least-done}
 use Rattle.text.proofs.block.is_ascii.Statement.{statement}
 use Rattle.text.proofs.block.is_ascii.Tie as tie
 

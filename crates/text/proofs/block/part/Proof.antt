@@ -2,7 +2,7 @@
 use Prim.Native.Nat.{_+_, _-_, _≤_}
 use native.Mathlib.Omega.{arith}
 use borrow.Author.Needs.{needs}
-use Rattle.text.proofs.Clear.{Before, part-more, part-done}
+use Rattle.text.proofs.scanning.Blocks.{Before, part-more, part-done}
 use Rattle.text.proofs.block.part.Statement.{statement}
 use Rattle.text.proofs.block.part.Tie as tie
 

@@ -3,7 +3,7 @@ use Prim.Native.Nat.{_-_}
 use native.Mathlib.Omega.{arith}
 use lib.ListN.{length}
 use borrow.Author.Needs.{needs}
-use Rattle.text.proofs.Clear.{clear-none, clear-join, clear-block}
+use Rattle.text.proofs.scanning.Blocks.{clear-none, clear-join, clear-block}
 use Rattle.text.specs.Block.{Clear}
 use Rattle.text.proofs.block.past.Statement.{statement}
 use Rattle.text.proofs.block.past.Tie as tie

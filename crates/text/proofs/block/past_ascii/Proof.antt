@@ -4,7 +4,7 @@ use native.Mathlib.Omega.{arith}
 use lib.ListN.{length}
 use borrow.Author.Tests.{not-false}
 use borrow.Author.Needs.{needs}
-use Rattle.text.proofs.Clear.{clear-none, clear-join, clear-as}
+use Rattle.text.proofs.scanning.Blocks.{clear-none, clear-join, clear-as}
 use Rattle.text.specs.Block.{others, Clear}
 use Rattle.text.proofs.block.past_ascii.Statement.{statement}
 use Rattle.text.proofs.block.past_ascii.Tie as tie

@@ -1,5 +1,5 @@
 -- `text::block::past_braces` meets its contract. Assumes nothing.
-use Rattle.text.proofs.Clear.{clear-as}
+use Rattle.text.proofs.scanning.Blocks.{clear-as}
 use borrow.Author.Needs.{needs}
 use Rattle.text.proofs.block.past_braces.Statement.{statement}
 use Rattle.text.proofs.block.past_braces.Tie as tie

@@ -1,5 +1,5 @@
 -- `text::block::past_quotes` meets its contract. Assumes nothing.
-use Rattle.text.proofs.Clear.{clear-as}
+use Rattle.text.proofs.scanning.Blocks.{clear-as}
 use borrow.Author.Needs.{needs}
 use Rattle.text.proofs.block.past_quotes.Statement.{statement}
 use Rattle.text.proofs.block.past_quotes.Tie as tie

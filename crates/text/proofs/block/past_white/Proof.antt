@@ -1,7 +1,7 @@
 -- `text::block::past_white` meets its contract. Assumes nothing.
 use native.Mathlib.Omega.{arith}
 use borrow.Author.Needs.{needs}
-use Rattle.text.proofs.Clear.{clear-none, clear-as}
+use Rattle.text.proofs.scanning.Blocks.{clear-none, clear-as}
 use Rattle.text.proofs.block.past_white.Statement.{statement}
 use Rattle.text.proofs.block.past_white.Tie as tie
 

@@ -5,7 +5,7 @@ use borrow.Author.Needs.{needs}
 use Rattle.text.specs.Class.{whiteSpace, control, isWhitespace, isControl, isKey, isIdContinue, isIdStart, holdsOf}
 use Rattle.text.specs.Inner.{hasBit}
 use Rattle.text.specs.declared.class.Test.the-variants.{Whitespace, Key, IdStart, IdContinue, Digit, Comma, QuotationMark, Equals, Hash, Percent, OpeningBrace, ClosingBrace, Brace, Newline, Dollar}
-use Rattle.text.proofs.Masks.{masks, wide, single, digit, braces}
+use Rattle.text.proofs.scanning.Masks.{masks, wide, single, digit, braces}
 use Rattle.text.proofs.class.ascii.Statement.{statement}
 use Rattle.text.proofs.class.ascii.Tie as tie
 

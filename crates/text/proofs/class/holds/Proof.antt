@@ -4,7 +4,7 @@ use mathlib.Core.Path.{sym, ap, _∙_}
 use lib.Dec.{eqb}
 use borrow.Author.Needs.{needs}
 use Rattle.text.specs.Class.{holdsOf}
-use Rattle.text.proofs.Masks.{told}
+use Rattle.text.proofs.scanning.Masks.{told}
 use Rattle.text.proofs.class.holds.Statement.{statement}
 use Rattle.text.proofs.class.holds.Tie as tie
 

@@ -1,5 +1,5 @@
 -- `text::class::is_id_mark` meets its contract. Assumes nothing.
-use Rattle.text.proofs.Masks.{thirteen}
+use Rattle.text.proofs.scanning.Masks.{thirteen}
 use Rattle.text.proofs.class.is_id_mark.Statement.{statement}
 use Rattle.text.proofs.class.is_id_mark.Tie as tie
 

@@ -6,7 +6,7 @@ use native.Mathlib.Omega.{arith}
 use lib.ListN.{length}
 use borrow.Author.Needs.{needs}
 use borrow.Author.Tests.{not-true, not-false}
-use Rattle.text.proofs.Skip.{Passed, passed-more}
+use Rattle.text.proofs.scanning.Skip.{Passed, passed-more}
 use Rattle.text.proofs.scanner.ascii_run.Statement.{statement}
 use Rattle.text.proofs.scanner.ascii_run.Tie as tie
 

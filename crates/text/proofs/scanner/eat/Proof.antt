@@ -1,6 +1,6 @@
 -- `text::scanner::eat` meets its contract. Assumes nothing.
 use borrow.Author.Needs.{needs}
-use Rattle.text.proofs.Seen.{next-told}
+use Rattle.text.proofs.scanning.Seen.{next-told}
 use Rattle.text.proofs.scanner.eat.Statement.{statement}
 use Rattle.text.proofs.scanner.eat.Tie as tie
 

@@ -1,6 +1,6 @@
 -- `text::scanner::eat_byte` meets its contract. Assumes nothing.
 use borrow.Author.Needs.{needs}
-use Rattle.text.proofs.Skip.{single-end, single-on, single-off}
+use Rattle.text.proofs.scanning.Skip.{single-end, single-on, single-off}
 use Rattle.text.proofs.scanner.eat_byte.Statement.{statement}
 use Rattle.text.proofs.scanner.eat_byte.Tie as tie
 

@@ -1,8 +1,8 @@
 -- `text::scanner::eat_gap` meets its contract. Assumes nothing.
 use mathlib.Core.Path.{sym, _∙_}
 use borrow.Author.Needs.{needs}
-use Rattle.text.proofs.AsciiTurns.{gap-over}
-use Rattle.text.proofs.Skip.{ran}
+use Rattle.text.proofs.scanning.AsciiLoops.{gap-over}
+use Rattle.text.proofs.scanning.Skip.{ran}
 use Rattle.text.specs.Class.{isWhitespace}
 use Rattle.text.proofs.scanner.eat_gap.Statement.{statement}
 use Rattle.text.proofs.scanner.eat_gap.Tie as tie

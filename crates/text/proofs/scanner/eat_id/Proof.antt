@@ -7,8 +7,8 @@ use borrow.Author.Needs.{needs}
 use borrow.Author.Tests.{not-false}
 use Rattle.text.specs.Class.{isIdContinue, holdsOf}
 use Rattle.text.specs.Scan.{skip}
-use Rattle.text.proofs.Skip.{skip-end, ran}
-use Rattle.text.proofs.AsciiTurns.{letter-on, id-stop}
+use Rattle.text.proofs.scanning.Skip.{skip-end, ran}
+use Rattle.text.proofs.scanning.AsciiLoops.{letter-on, id-stop}
 use Rattle.text.proofs.scanner.eat_id.Statement.{statement}
 use Rattle.text.proofs.scanner.eat_id.Tie as tie
 

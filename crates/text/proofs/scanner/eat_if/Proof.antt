@@ -1,7 +1,7 @@
 -- `text::scanner::eat_if` meets its contract. Assumes nothing.
 use borrow.Author.Needs.{needs}
 use Rattle.text.specs.Class.{holdsOf}
-use Rattle.text.proofs.Skip.{passed, bit-end, bit-on, bit-off}
+use Rattle.text.proofs.scanning.Skip.{passed, bit-end, bit-on, bit-off}
 use Rattle.text.proofs.scanner.eat_if.Statement.{statement}
 use Rattle.text.proofs.scanner.eat_if.Tie as tie
 

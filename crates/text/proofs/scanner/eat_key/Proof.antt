@@ -4,8 +4,8 @@ use mathlib.Core.Path.{_≡_, refl, sym, _∙_}
 use native.Mathlib.Omega.{arith}
 use lib.ListN.{length}
 use borrow.Author.Needs.{needs}
-use Rattle.text.proofs.AsciiTurns.{key-on, key-stop}
-use Rattle.text.proofs.Skip.{skip-end, ran}
+use Rattle.text.proofs.scanning.AsciiLoops.{key-on, key-stop}
+use Rattle.text.proofs.scanning.Skip.{skip-end, ran}
 use Rattle.text.specs.Scan.{skip}
 use Rattle.text.specs.Class.{isKey, holdsOf}
 use Rattle.text.proofs.scanner.eat_key.Statement.{statement}

@@ -5,7 +5,7 @@ use native.Mathlib.Omega.{arith}
 use lib.ListN.{length}
 use borrow.Author.Tests.{not-false}
 use borrow.Author.Needs.{needs}
-use Rattle.text.proofs.AsciiTurns.{letters-none, letters-more}
+use Rattle.text.proofs.scanning.AsciiLoops.{letters-none, letters-more}
 use Rattle.text.specs.Inner.{Letters}
 use Rattle.text.proofs.scanner.eat_letters.Statement.{statement}
 use Rattle.text.proofs.scanner.eat_letters.Tie as tie

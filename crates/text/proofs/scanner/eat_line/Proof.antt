@@ -1,6 +1,6 @@
 -- `text::scanner::eat_line` meets its contract. Assumes nothing.
 use borrow.Author.Needs.{needs}
-use Rattle.text.proofs.Clear.{line}
+use Rattle.text.proofs.scanning.Blocks.{line}
 use Rattle.text.proofs.scanner.eat_line.Statement.{statement}
 use Rattle.text.proofs.scanner.eat_line.Tie as tie
 

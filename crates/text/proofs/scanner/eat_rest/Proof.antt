@@ -6,7 +6,7 @@ use lib.ListN.{length}
 use borrow.Author.Needs.{needs}
 use Rattle.text.specs.Scan.{skip}
 use Rattle.text.specs.Inner.{wants}
-use Rattle.text.proofs.Skip.{skip-end, one-on, one-stop, wide-on, wide-stop, wants-on, wants-off, ran-on, ran-stop, ran}
+use Rattle.text.proofs.scanning.Skip.{skip-end, one-on, one-stop, wide-on, wide-stop, wants-on, wants-off, ran-on, ran-stop, ran}
 use Rattle.text.proofs.scanner.eat_rest.Statement.{statement}
 use Rattle.text.proofs.scanner.eat_rest.Tie as tie
 

@@ -2,7 +2,7 @@
 use mathlib.Core.Path.{sym, _∙_}
 use borrow.Author.Needs.{needs}
 use Rattle.text.specs.Inner.{wants}
-use Rattle.text.proofs.Skip.{skip-end, ran-on, ran-stop, ran}
+use Rattle.text.proofs.scanning.Skip.{skip-end, ran-on, ran-stop, ran}
 use Rattle.text.proofs.scanner.eat_run.Statement.{statement}
 use Rattle.text.proofs.scanner.eat_run.Tie as tie
 

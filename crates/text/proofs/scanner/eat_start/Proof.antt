@@ -2,8 +2,8 @@
 use mathlib.Core.Path.{sym, _∙_}
 use Rattle.text.specs.Class.{isIdStart, holdsOf}
 use Rattle.text.specs.declared.class.Test.the-variants.{IdStart}
-use Rattle.text.proofs.Skip.{bit-end}
-use Rattle.text.proofs.AsciiTurns.{letter-start}
+use Rattle.text.proofs.scanning.Skip.{bit-end}
+use Rattle.text.proofs.scanning.AsciiLoops.{letter-start}
 use borrow.Author.Needs.{needs}
 use Rattle.text.proofs.scanner.eat_start.Statement.{statement}
 use Rattle.text.proofs.scanner.eat_start.Tie as tie

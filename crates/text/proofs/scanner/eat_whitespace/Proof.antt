@@ -6,8 +6,8 @@ use native.Mathlib.Omega.{arith}
 use lib.ListN.{length}
 use borrow.Author.Tests.{not-false}
 use borrow.Author.Needs.{needs}
-use Rattle.text.proofs.AsciiTurns.{space-on, tab-on, solid-stop}
-use Rattle.text.proofs.Skip.{skip-end, ran}
+use Rattle.text.proofs.scanning.AsciiLoops.{space-on, tab-on, solid-stop}
+use Rattle.text.proofs.scanning.Skip.{skip-end, ran}
 use Rattle.text.specs.Scan.{skip}
 use Rattle.text.specs.Class.{isWhitespace, holdsOf}
 use Rattle.text.proofs.scanner.eat_whitespace.Statement.{statement}

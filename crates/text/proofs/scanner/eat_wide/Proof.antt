@@ -2,8 +2,8 @@
 use mathlib.Core.Path.{sym, _∙_}
 use borrow.Author.Needs.{needs}
 use Rattle.text.specs.Inner.{wants}
-use Rattle.text.proofs.Skip.{wants-told}
-use Rattle.text.proofs.Seen.{past-told, past-hit, past-miss}
+use Rattle.text.proofs.scanning.Skip.{wants-told}
+use Rattle.text.proofs.scanning.Seen.{past-told, past-hit, past-miss}
 use Rattle.text.proofs.scanner.eat_wide.Statement.{statement}
 use Rattle.text.proofs.scanner.eat_wide.Tie as tie
 

@@ -1,6 +1,6 @@
 -- `text::scanner::from` meets its contract. Assumes nothing.
 use borrow.Author.Needs.{needs}
-use Rattle.text.proofs.Places.{part-clamped}
+use Rattle.text.proofs.general.Places.{part-clamped}
 use Rattle.text.proofs.scanner.from.Statement.{statement}
 use Rattle.text.proofs.scanner.from.Tie as tie
 

@@ -1,7 +1,7 @@
 -- `text::scanner::peek` meets its contract. Assumes nothing.
 use mathlib.Core.Path.{sym}
 use borrow.Author.Needs.{needs}
-use Rattle.text.proofs.Seen.{see-end, see-ascii, seen-inside}
+use Rattle.text.proofs.scanning.Seen.{see-end, see-ascii, seen-inside}
 use Rattle.text.proofs.scanner.peek.Statement.{statement}
 use Rattle.text.proofs.scanner.peek.Tie as tie
 

@@ -1,6 +1,6 @@
 -- `text::scanner::peek_wide` meets its contract. Assumes nothing.
 use borrow.Author.Needs.{needs}
-use Rattle.text.proofs.Seen.{seen-told}
+use Rattle.text.proofs.scanning.Seen.{seen-told}
 use Rattle.text.proofs.scanner.peek_wide.Statement.{statement}
 use Rattle.text.proofs.scanner.peek_wide.Tie as tie
 

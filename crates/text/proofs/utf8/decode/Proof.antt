@@ -4,7 +4,7 @@ use mathlib.Core.Path.{sym, ap, _∙_}
 use native.Mathlib.Omega.{arith}
 use borrow.Author.Needs.{needs}
 use Rattle.text.specs.declared.utf8.Decoded.the-variants.{Char}
-use Rattle.text.proofs.Seen.{decode-end, decode-none, decode-some}
+use Rattle.text.proofs.scanning.Seen.{decode-end, decode-none, decode-some}
 use Rattle.text.proofs.utf8.decode.Statement.{statement}
 use Rattle.text.proofs.utf8.decode.Tie as tie
 

@@ -4,7 +4,7 @@ use native.Mathlib.Omega.{arith}
 use lib.ListN.{length-set}
 use borrow.Author.Tests.{not-true, not-false}
 use borrow.Author.Needs.{needs}
-use Rattle.text.proofs.Encoding.{encode-not, short-one, encode-one, short-two, encode-two, short-three, encode-three, short-four, encode-four, scalar-high}
+use Rattle.text.proofs.sequences.EncodeWays.{encode-not, short-one, encode-one, short-two, encode-two, short-three, encode-three, short-four, encode-four, scalar-high}
 use Rattle.text.proofs.utf8.encode.Statement.{statement}
 use Rattle.text.proofs.utf8.encode.Tie as tie
 

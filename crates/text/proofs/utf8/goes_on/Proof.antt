@@ -1,7 +1,7 @@
 -- `text::utf8::goes_on` meets its contract. Assumes nothing.
 use native.Mathlib.Omega.{arith}
 use borrow.Author.Needs.{needs}
-use Rattle.text.proofs.Lead.{on-two, on-three, on-four}
+use Rattle.text.proofs.sequences.FirstOctet.{on-two, on-three, on-four}
 use Rattle.text.proofs.utf8.goes_on.Statement.{statement}
 use Rattle.text.proofs.utf8.goes_on.Tie as tie
 

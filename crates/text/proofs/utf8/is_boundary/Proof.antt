@@ -1,6 +1,6 @@
 -- `text::utf8::is_boundary` meets its contract. Assumes nothing.
 use borrow.Author.Needs.{needs}
-use Rattle.text.proofs.Places.{boundary-in, boundary-out}
+use Rattle.text.proofs.general.Places.{boundary-in, boundary-out}
 use Rattle.text.proofs.utf8.is_boundary.Statement.{statement}
 use Rattle.text.proofs.utf8.is_boundary.Tie as tie
 

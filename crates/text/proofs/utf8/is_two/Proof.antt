@@ -6,8 +6,8 @@ use native.Mathlib.Omega.{arith}
 use lib.Dec.{leb}
 use lib.ListN.{getD}
 use borrow.Author.Needs.{needs}
-use Rattle.text.proofs.Lead.{width-two}
-use Rattle.text.proofs.Grammar.{both-true}
+use Rattle.text.proofs.sequences.FirstOctet.{width-two}
+use Rattle.text.proofs.general.Tests.{both-true}
 use Rattle.text.proofs.utf8.is_two.Statement.{statement}
 use Rattle.text.proofs.utf8.is_two.Tie as tie
 

@@ -2,7 +2,7 @@
 use mathlib.Core.Path.{sym}
 use native.Mathlib.Omega.{arith}
 use borrow.Author.Needs.{needs}
-use Rattle.text.proofs.Lead.{width-end, width-ascii, width-none, length-range, width-short, width-whole, width-broken}
+use Rattle.text.proofs.sequences.FirstOctet.{width-end, width-ascii, width-none, length-range, width-short, width-whole, width-broken}
 use Rattle.text.proofs.utf8.sequence.Statement.{statement}
 use Rattle.text.proofs.utf8.sequence.Tie as tie
 

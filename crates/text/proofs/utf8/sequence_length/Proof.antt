@@ -3,7 +3,7 @@ use Prim.Native.Nat.{_-_}
 use native.Mathlib.Omega.{arith}
 use lib.Count.{leading-le}
 use borrow.Author.Needs.{needs}
-use Rattle.text.proofs.Lead.{ones, none, some}
+use Rattle.text.proofs.sequences.FirstOctet.{ones, none, some}
 use Rattle.text.proofs.utf8.sequence_length.Statement.{statement}
 use Rattle.text.proofs.utf8.sequence_length.Tie as tie
 

@@ -4,8 +4,8 @@ use mathlib.Core.Path.{_≡_, refl, sym, _∙_}
 use native.Mathlib.Omega.{arith}
 use lib.ListN.{length}
 use borrow.Author.Needs.{needs}
-use Rattle.text.proofs.Valid.{valid-on, valid-ascii, valid-stop}
-use Rattle.text.proofs.Walk.{walk-end}
+use Rattle.text.proofs.sequences.ValidateLoop.{valid-on, valid-ascii, valid-stop}
+use Rattle.text.proofs.sequences.Walk.{walk-end}
 use Rattle.text.specs.declared.utf8.Validity.the-variants.{Valid}
 use Rattle.text.specs.Utf8.{lookValid, validityOf}
 use Rattle.text.specs.Walk.{walk}

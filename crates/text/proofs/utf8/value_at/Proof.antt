@@ -2,7 +2,7 @@
 use mathlib.Core.Path.{sym}
 use native.Mathlib.Omega.{arith}
 use borrow.Author.Needs.{needs}
-use Rattle.text.proofs.Places.{value-one, value-two, value-three, value-four}
+use Rattle.text.proofs.general.Places.{value-one, value-two, value-three, value-four}
 use Rattle.text.proofs.utf8.value_at.Statement.{statement}
 use Rattle.text.proofs.utf8.value_at.Tie as tie
 

@@ -3,7 +3,7 @@ use Prim.Native.Nat.{_≤_, _-_}
 use native.Mathlib.Omega.{arith}
 use lib.ListN.{length}
 use borrow.Author.Needs.{needs}
-use Rattle.text.proofs.Seen.{char-inside}
+use Rattle.text.proofs.scanning.Seen.{char-inside}
 use Rattle.text_cases.proofs.samples.walk.Statement.{statement}
 use Rattle.text_cases.proofs.samples.walk.Tie as tie
 

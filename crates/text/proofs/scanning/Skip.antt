@@ -26,12 +26,12 @@ use Rattle.text.specs.declared.class.Masks.{Masks}
 use Rattle.text.specs.declared.class.Test.{Test}
 use Rattle.text.specs.declared.scanner.Seen.{Seen}
 use Rattle.text.specs.declared.scanner.Seen.the-variants.{End, Char}
-use Rattle.text.proofs.Walk.{walk-end, walk-answer, walk-pass, walk-keeps, from-pass}
-use Rattle.text.proofs.Grammar.{width-char}
-use Rattle.text.proofs.Shape.{char-further, width-inside, width-tail}
-use Rattle.text.proofs.Values.{encodes}
-use Rattle.text.proofs.Places.{drop-next}
-use Rattle.text.proofs.Seen.{see-end, see-at, see-inside, see-ascii}
+use Rattle.text.proofs.sequences.Walk.{walk-end, walk-answer, walk-pass, walk-keeps, from-pass}
+use Rattle.text.proofs.sequences.Alternatives.{width-char}
+use Rattle.text.proofs.sequences.Lengths.{char-further, width-inside, width-tail}
+use Rattle.text.proofs.sequences.ScalarValues.{encodes}
+use Rattle.text.proofs.general.Places.{drop-next}
+use Rattle.text.proofs.scanning.Seen.{see-end, see-at, see-inside, see-ascii}
 
 -- ---- a character that is not ASCII
 

@@ -23,7 +23,7 @@ use Rattle.text.specs.declared.block.Set.{Set}
 use Rattle.text.specs.Class.{holdsOf}
 use Rattle.text.specs.Scan.{skip, fails, Ahead}
 use Rattle.text.specs.declared.class.Test.the-variants.{Newline}
-use Rattle.text.proofs.Skip.{skip-end, skip-over, byte-on, byte-stop, wide-on, ran}
+use Rattle.text.proofs.scanning.Skip.{skip-end, skip-over, byte-on, byte-stop, wide-on, ran}
 use Rattle.text.specs.Block.{inside, inSet, apart, others, only, Clear, Found}
 
 -- ---- the distance from a set

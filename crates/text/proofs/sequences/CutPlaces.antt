@@ -22,11 +22,12 @@ use Rattle.text.specs.Scan.{code, rest, seeFrom, see, lookPast, skip}
 use Rattle.text.specs.Rfc3629.{Cut}
 use Rattle.text.specs.declared.utf8.Decoded.the-variants as decoded
 use Rattle.text.specs.declared.scanner.Seen.the-variants.{Char}
-use Rattle.text.proofs.Walk.{from-answer}
-use Rattle.text.proofs.Grammar.{both-true, char-width}
-use Rattle.text.proofs.Shape.{char-some, char-first, char-further}
-use Rattle.text.proofs.Values.{writes, reads}
-use Rattle.text.proofs.Octets.{octets-char, octets-append, walk-char}
+use Rattle.text.proofs.sequences.Walk.{from-answer}
+use Rattle.text.proofs.sequences.Alternatives.{char-width}
+use Rattle.text.proofs.general.Tests.{both-true}
+use Rattle.text.proofs.sequences.Lengths.{char-some, char-first, char-further}
+use Rattle.text.proofs.sequences.ScalarValues.{writes, reads}
+use Rattle.text.proofs.sequences.Octets.{octets-char, octets-append, walk-char}
 
 -- ---- a sequence at a place
 

@@ -17,9 +17,9 @@ use Rattle.text.specs.Utf8.{width, lookValid}
 use Rattle.text.specs.Block.{others, Clear}
 use Rattle.text.specs.declared.utf8.Validity.{Validity}
 use Rattle.text.specs.declared.utf8.Validity.the-variants.{Valid, IllFormed}
-use Rattle.text.proofs.Walk.{walk-pass, walk-answer}
-use Rattle.text.proofs.Clear.{none-ascii}
-use Rattle.text.proofs.Lead.{width-ascii}
+use Rattle.text.proofs.sequences.Walk.{walk-pass, walk-answer}
+use Rattle.text.proofs.scanning.Blocks.{none-ascii}
+use Rattle.text.proofs.sequences.FirstOctet.{width-ascii}
 
 module _ (e : ℕ → Validity) (s : List ℕ) where
   pub valid-on : (i w : ℕ) → w ≡ width (drop i s) → (w ≡ 0 → ⊥) → i + w ≤ length s → walk lookValid e s i ≡ walk lookValid e s (i + w)

@@ -21,9 +21,9 @@ use Rattle.text.specs.Utf8.{isChar, Octets, none, next, width, lookValid
 use Rattle.text.specs.Rfc3629.{Longest}
 use Rattle.text.specs.declared.utf8.Validity.{Validity}
 use Rattle.text.specs.declared.utf8.Validity.the-variants as validity
-use Rattle.text.proofs.Walk.{from-passed, walk-keeps}
-use Rattle.text.proofs.Grammar.{width-char, char-width}
-use Rattle.text.proofs.Shape.{char-some}
+use Rattle.text.proofs.sequences.Walk.{from-passed, walk-keeps}
+use Rattle.text.proofs.sequences.Alternatives.{width-char, char-width}
+use Rattle.text.proofs.sequences.Lengths.{char-some}
 
 pub octets-char : (w : List ℕ) → isChar w ≡ true → Octets w
 octets-char w e = rw append-nil at (next w e none)

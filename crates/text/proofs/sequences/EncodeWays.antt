@@ -13,7 +13,7 @@ use lib.Dec.{leb}
 use borrow.Author.Tests.{le-leb, lt-leb, leb-true}
 use Rattle.text.specs.Range.{_–_, within}
 use Rattle.text.specs.Utf8.{isScalar, further, octets, fits, Encode}
-use Rattle.text.proofs.Grammar.{both-true}
+use Rattle.text.proofs.general.Tests.{both-true}
 use Rattle.text.specs.declared.utf8.Encoded.the-variants.{Wrote, NotScalar, NoRoom}
 
 pub scalar-high : (c : ℕ) → isScalar c ≡ true → c ≤ 0x10FFFF

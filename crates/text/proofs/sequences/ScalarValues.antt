@@ -15,9 +15,9 @@ use lib.Dec.{leb, eqb, eqb→eq}
 use borrow.Author.Tests.{leb-true, leb-false, le-leb, lt-leb, not-true}
 use Rattle.text.specs.Range.{_–_, within}
 use Rattle.text.specs.Utf8.{isChar, leadingOnes, sequenceLength, gather, value, isScalar, octets, further}
-use Rattle.text.proofs.Bytes.{each}
-use Rattle.text.proofs.Grammar.{both-true}
-use Rattle.text.proofs.Shape.{Tail, Three, Four, Shape, one, two, three, four, char-shape, shape-char}
+use Rattle.text.proofs.general.Below.{each}
+use Rattle.text.proofs.general.Tests.{both-true}
+use Rattle.text.proofs.sequences.Lengths.{Tail, Three, Four, Shape, one, two, three, four, char-shape, shape-char}
 
 -- ---- a scalar value
 

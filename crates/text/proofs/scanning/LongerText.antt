@@ -20,10 +20,10 @@ use Rattle.text.specs.Utf8.{tail, isChar, width}
 use Rattle.text.specs.Scan.{code, rest, seeFrom, see, Inside}
 use Rattle.text.specs.declared.scanner.Seen.{Seen}
 use Rattle.text.specs.declared.scanner.Seen.the-variants.{End, Char}
-use Rattle.text.proofs.Grammar.{width-char, char-width}
-use Rattle.text.proofs.Shape.{char-further, width-inside, width-tail}
-use Rattle.text.proofs.Seen.{see-at, see-inside}
-use Rattle.text.proofs.Places.{drop-next}
+use Rattle.text.proofs.sequences.Alternatives.{width-char, char-width}
+use Rattle.text.proofs.sequences.Lengths.{char-further, width-inside, width-tail}
+use Rattle.text.proofs.scanning.Seen.{see-at, see-inside}
+use Rattle.text.proofs.general.Places.{drop-next}
 
 -- what is seen, d places on
 abbrev pub seenUp : ℕ → Seen → Seen

@@ -18,7 +18,7 @@ use lib.Dec.{leb}
 use borrow.Author.Tests.{leb-true, leb-false, lt-leb}
 use Rattle.text.specs.Range.{Range, within}
 use Rattle.text.specs.Utf8.{alternatives, isChar, tail, width}
-use Rattle.text.proofs.Grammar.{Match, end, on, Any, here, there, any-of, char-by, in-within, width-char}
+use Rattle.text.proofs.sequences.Alternatives.{Match, end, on, Any, here, there, any-of, char-by, in-within, width-char}
 
 pub record Tail (b : ℕ) : Type 0 where
   pub low : 0x80 ≤ b

@@ -14,7 +14,7 @@ use Rattle.text.specs.Class.{mark, holdsOf}
 use Rattle.text.specs.Inner.{masksOf, hasBit, AsciiOf}
 use Rattle.text.specs.declared.class.Masks.{Masks}
 use Rattle.text.specs.declared.class.Test.{Test}
-use Rattle.text.proofs.Bytes.{below, each}
+use Rattle.text.proofs.general.Below.{below, each}
 
 pub beq-eq : (a b : Bool) → T (Bool·beq a b) → a ≡ b
 beq-eq true true t = refl

@@ -19,9 +19,9 @@ use Rattle.text.specs.declared.scanner.Seen.{Seen}
 use Rattle.text.specs.declared.scanner.Seen.the-variants as seen
 use Rattle.text.specs.declared.utf8.Decoded.{Decoded}
 use Rattle.text.specs.declared.utf8.Decoded.the-variants as decoded
-use Rattle.text.proofs.Shape.{width-inside}
-use Rattle.text.proofs.Lead.{width-ascii}
-use Rattle.text.proofs.Places.{drop-next, value-one}
+use Rattle.text.proofs.sequences.Lengths.{width-inside}
+use Rattle.text.proofs.sequences.FirstOctet.{width-ascii}
+use Rattle.text.proofs.general.Places.{drop-next, value-one}
 
 pub decode-end : (s : List ℕ) (i : ℕ) → length s ≤ i → decodeAt s i ≡ decoded.End
 unfolding decodeFrom

@@ -18,10 +18,11 @@ use Rattle.text.specs.Class.{whiteSpace, control, isWhitespace, isContro
 use Rattle.text.specs.Scan.{see, pastOne, skip, Ahead}
 use Rattle.text.specs.Block.{inSet, solids, Clear}
 use Rattle.text.specs.Inner.{letterOf, Letters, blankOf, rareOf}
-use Rattle.text.proofs.Bytes.{below, each}
-use Rattle.text.proofs.Grammar.{both-true, within-true}
-use Rattle.text.proofs.Seen.{see-ascii}
-use Rattle.text.proofs.Skip.{skip-over, byte-on, byte-stop, passed}
+use Rattle.text.proofs.general.Below.{below, each}
+use Rattle.text.proofs.sequences.Alternatives.{within-true}
+use Rattle.text.proofs.general.Tests.{both-true}
+use Rattle.text.proofs.scanning.Seen.{see-ascii}
+use Rattle.text.proofs.scanning.Skip.{skip-over, byte-on, byte-stop, passed}
 
 or-right : (a b : Bool) → a ≡ false → (a || b) ≡ true → b ≡ true
 or-right true b f e = let z : _≡_ {A = ℕ} 0 1 = cc in absurd (omega arith)

@@ -18,9 +18,9 @@ use lib.Count.{leadingZeros}
 use Rattle.text.specs.Range.{Range, _–_, within}
 use Rattle.text.specs.Utf8.{tail, alternatives, begins, widthBy, width, leadingOnes, orOne, sequenceLength}
 use Rattle.text.specs.Inner.{seconds, goesSecond}
-use Rattle.text.proofs.Bytes.{below, each}
-use Rattle.text.proofs.Grammar.{within-true}
-use Rattle.text.proofs.Places.{drop-next, drop-more}
+use Rattle.text.proofs.general.Below.{below, each}
+use Rattle.text.proofs.sequences.Alternatives.{within-true}
+use Rattle.text.proofs.general.Places.{drop-next, drop-more}
 
 -- ---- leading ones
 
