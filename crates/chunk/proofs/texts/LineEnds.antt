@@ -59,15 +59,15 @@ unfolding lines
 ends w b u [] h = refl
 ends w b u (a ∷ t) h = rw h refl
 
-run-turn : (w : Bool) (u t : List ℕ) → 0 < length u → plain u ≡ true → stops t ≡ true → lines w [] (u ++ t) ≡ before u (lines (endsWhite u) [] t)
+pub run-turn : (w : Bool) (u t : List ℕ) → 0 < length u → plain u ≡ true → stops t ≡ true → lines w [] (u ++ t) ≡ before u (lines (endsWhite u) [] t)
 run-turn w [] t l p s = absurd (omega arith)
 run-turn w (b ∷ u) t l p s = run w [] (b ∷ u) t p ∙ ap (before (b ∷ u)) (ends w b u t s)
 
-end-white : (b : ℕ) (t : List ℕ) → isLineEnd b ≡ true → lines true [] (b ∷ t) ≡ lines true [] t
+pub end-white : (b : ℕ) (t : List ℕ) → isLineEnd b ≡ true → lines true [] (b ∷ t) ≡ lines true [] t
 unfolding lines
 end-white b t e = rw e refl
 
-end-blank : (b : ℕ) (t : List ℕ) → isLineEnd b ≡ true → lines false [] (b ∷ t) ≡ before (0x20 ∷ []) (lines true [] t)
+pub end-blank : (b : ℕ) (t : List ℕ) → isLineEnd b ≡ true → lines false [] (b ∷ t) ≡ before (0x20 ∷ []) (lines true [] t)
 unfolding lines
 end-blank b t e = rw e refl
 

@@ -1,0 +1,282 @@
+-- The list of commands and the rows of bytes that src/names.rt has of it: for src/meaning.rt.
+--     other, at-key                      names of one octet: the list's, as the checker computes them
+--     left-on, left-off, other-length    two ranges of bytes, compared octet by octet
+--     Going, is-here, missed, found, ended, room       the search, one row after another
+-- Assumes nothing.
+use Prim.Native.Nat.{ℕ, suc, _+_, _-_, _≤_, _<_, min}
+use native.Mathlib.Omega.{arith}
+use mathlib.Core.Path.{_≡_, refl, sym, ap, ap₂, _∙_}
+use mathlib.Core.Bool.{Bool, true, false, cond, _&&_, _||_, and-false}
+use mathlib.Core.List.{List, [], _∷_, _++_}
+use lib.ListN.{length, getD, take, drop, length-drop, length-append}
+use lib.Seq.{getD-drop, drop-drop, take-append-seam, drop-append-seam}
+use lib.Dec.{eqb}
+use borrow.Author.Tests.{eqb-true, eqb-false, eq-eqb, ne-eqb}
+use Rattle.text.specs.Utf8.{octets}
+use Rattle.text.specs.Class.{mark}
+use Rattle.text.specs.Scan.{part}
+use Rattle.command.specs.declared.meaning.Meaning.{Meaning}
+use Rattle.command.specs.declared.meaning.Meaning.the-variants.{Unknown}
+use Rattle.chunk.specs.Worked.{utf8}
+use Rattle.chunk.proofs.texts.Parts.{part-head, length-part}
+use Rattle.command.specs.Commands.{Named, same, commands, meaningIn, meaningOf}
+use Rattle.command.specs.Names.{Row, codeOf, decoded, flat, meaningBy, rowOf, rowsOf, long, names}
+use Rattle.command.proofs.Parts.{part-empty}
+
+-- texts of different lengths are not the same
+same-long : (s t : List ℕ) → (length s ≡ length t → ⊥) → same s t ≡ false
+unfolding same
+same-long [] [] h = absurd (h refl)
+same-long [] (b ∷ t) h = refl
+same-long (a ∷ s) [] h = refl
+same-long (a ∷ s) (b ∷ t) h = rw (same-long s t (λ e. h (ap suc e))) (and-false (eqb a b))
+
+-- ---- names of one octet
+
+-- the rows whose names have n octets
+unfoldable pub only : ℕ → List Named → List Named
+only n [] = []
+only n (r ∷ rs) = cond (eqb (length (utf8 (r .name))) n) (r ∷ only n rs) (only n rs)
+
+only-says : (cs : List Named) (name : List ℕ) (n : ℕ) → length name ≡ n → meaningIn cs name ≡ meaningIn (only n cs) name
+unfolding meaningIn only
+only-says [] name n h = refl
+only-says (r ∷ cs) name n h = by (eqb (length (utf8 (r .name))) n) refl (only-says cs name n h)
+  where
+    by : (b : Bool) → eqb (length (utf8 (r .name))) n ≡ b → meaningIn cs name ≡ meaningIn (only n cs) name
+        → meaningIn (r ∷ cs) name ≡ meaningIn (cond b (r ∷ only n cs) (only n cs)) name
+    by true e ih = ap (cond (same (utf8 (r .name)) name) (r .means)) ih
+    by false e ih = rw (same-long (utf8 (r .name)) name (λ k. eqb-false _ _ e (k ∙ h))) ih
+
+one-says : (b : ℕ) → meaningOf (b ∷ []) ≡ meaningIn (only 1 commands) (b ∷ [])
+one-says b = only-says commands (b ∷ []) 1 refl
+
+-- the first octets of names
+unfoldable firsts : List Named → List ℕ
+firsts [] = []
+firsts (r ∷ rs) = getD (utf8 (r .name)) 0 0 ∷ firsts rs
+
+neither : (a b : Bool) → (a || b) ≡ false → (a ≡ false) × (b ≡ false)
+neither true b h = let z : _≡_ {A = ℕ} 0 1 = cc in absurd (omega arith)
+neither false b h = (refl, h)
+
+none : (rs : List Named) (b : ℕ) → mark (firsts rs) b ≡ false → Unknown ≡ meaningIn rs (b ∷ [])
+unfolding meaningIn firsts same
+none [] b h = refl
+none (r ∷ rs) b h =
+    let n = neither (eqb b (getD (utf8 (r .name)) 0 0)) (mark (firsts rs) b) h in
+    rw (differs (utf8 (r .name)) (n .0)) (none rs b (n .1))
+  where
+    differs : (t : List ℕ) → eqb b (getD t 0 0) ≡ false → same t (b ∷ []) ≡ false
+    differs [] e = refl
+    differs (a ∷ t) e = rw (ne-eqb a b (λ k. eqb-false b a e (sym k)))
+
+-- the octets that are names, in the order of the list
+abbrev pub keys : List ℕ
+keys =
+    0x6C ∷ 0x4C ∷ 0x69 ∷ 0x6F ∷ 0x4F ∷ 0x50 ∷ 0x53 ∷
+    0x60 ∷ 0x27 ∷ 0x5E ∷ 0x7E ∷ 0x3D ∷ 0x75 ∷ 0x2E ∷ 0x22 ∷ 0x72 ∷ 0x48 ∷ 0x76 ∷ 0x64 ∷ 0x63 ∷ 0x6B ∷ 0x62 ∷
+    0x2D ∷ []
+
+pub other : (b : ℕ) → mark keys b ≡ false → Unknown ≡ meaningOf (b ∷ [])
+unfolding only firsts commands utf8 octets
+other b h = none (only 1 commands) b h ∙ sym (one-says b)
+
+pub at-key : (b k : ℕ) (m : Meaning) → b ≡ k → m ≡ meaningIn (only 1 commands) (k ∷ []) → m ≡ meaningOf (b ∷ [])
+at-key b k m e h = h ∙ ap (λ (n : ℕ). meaningIn (only 1 commands) (n ∷ [])) (sym e) ∙ sym (one-says b)
+
+-- ---- two ranges of bytes
+
+module _ (t : List ℕ) (i : ℕ) (s : List ℕ) (a n : ℕ) (ht : i + n ≤ length t) (hs : a + n ≤ length s) where
+  -- whether they are the same from their octet k on
+  abbrev pub left : ℕ → Bool
+  left k = same (part t (i + k) (i + n)) (part s (a + k) (a + n))
+
+  pub left-start : same (part t i (i + n)) (part s a (a + n)) ≡ left 0
+  left-start = ap₂ (λ (p q : ℕ). same (part t p (i + n)) (part s q (a + n))) (omega arith) (omega arith)
+
+  module _ (k : ℕ) (h : k < n) where
+    heads : left k ≡ same (getD t (i + k) 0 ∷ part t (i + k + 1) (i + n)) (getD s (a + k) 0 ∷ part s (a + k + 1) (a + n))
+    heads = ap₂ same (part-head t (i + k) (i + n) (omega arith) ht) (part-head s (a + k) (a + n) (omega arith) hs)
+
+    pub left-off : (getD t (i + k) 0 ≡ getD s (a + k) 0 → ⊥) → false ≡ left k
+    unfolding same
+    left-off e = sym (heads ∙ rw (ne-eqb _ _ e))
+
+    pub left-on : getD t (i + k) 0 ≡ getD s (a + k) 0 → left k ≡ left (k + 1)
+    unfolding same
+    left-on e = heads ∙ rw (eq-eqb _ _ e) (ap₂ (λ (p q : ℕ). same (part t p (i + n)) (part s q (a + n))) (omega arith) (omega arith))
+
+  pub left-end : (k : ℕ) → n ≤ k → true ≡ left k
+  unfolding same
+  left-end k h = sym (ap₂ same (part-empty t (i + k) (i + n) (omega arith)) (part-empty s (a + k) (a + n) (omega arith)))
+
+pub other-length : (t : List ℕ) (i m : ℕ) (s : List ℕ) (a n : ℕ) → i + m ≤ length t → a + n ≤ length s → (m ≡ n → ⊥)
+    → false ≡ same (part t i (i + m)) (part s a (a + n))
+other-length t i m s a n p q h =
+    sym (same-long _ _ (λ e. h (sum m n (i + m - i) (a + n - a) (omega arith) (omega arith)
+    (sym (length-part t i (i + m) (omega arith) p) ∙ e ∙ length-part s a (a + n) (omega arith) q))))
+  where
+    sum : (m n p q : ℕ) → p ≡ m → q ≡ n → p ≡ q → m ≡ n
+    sum m n p q a b c = omega arith
+
+pub name-part : (s : List ℕ) (a e n : ℕ) → n ≡ e - a → a ≤ e → part s a (a + n) ≡ part s a e
+name-part s a e n h l = ap (part s a) (omega arith)
+
+pub name-one : (s : List ℕ) (a e b : ℕ) → e - a ≡ 1 → e ≤ length s → b ≡ getD s a 0 → b ∷ [] ≡ part s a e
+name-one s a e b h l q =
+    ap (λ (c : ℕ). c ∷ []) q
+    ∙ sym (part-head s a e (omega arith) l ∙ ap (λ (t : List ℕ). getD s a 0 ∷ t) (part-empty s (a + 1) e (omega arith)))
+
+pub name-long : (s : List ℕ) (a e : ℕ) → a ≤ e → e ≤ length s → (e - a ≡ 1 → ⊥) → length (part s a e) ≡ 1 → ⊥
+name-long s a e h l n q = n (sym (length-part s a e h l) ∙ q)
+
+-- ---- the rows of bytes say what the list says
+
+abbrev head : List Meaning → Meaning
+head [] = Unknown
+head (m ∷ ms) = m
+
+abbrev rest : List Meaning → List Meaning
+rest [] = []
+rest (m ∷ ms) = ms
+
+unfoldable told : List Named → List Meaning
+told [] = []
+told (r ∷ rs) = decoded (codeOf (rowOf r .x) (rowOf r .y) (rowOf r .z)) ∷ told rs
+
+unfoldable meant : List Named → List Meaning
+meant [] = []
+meant (r ∷ rs) = r .means ∷ meant rs
+
+rows-say : (cs : List Named) (name : List ℕ) → told cs ≡ meant cs → meaningBy (rowsOf cs) name ≡ meaningIn cs name
+unfolding told meant meaningBy rowsOf meaningIn
+rows-say [] name h = refl
+rows-say (r ∷ cs) name h = ap₂ (cond (same (utf8 (r .name)) name)) (ap head h) (rows-say cs name (ap rest h))
+
+long-says : (cs : List Named) (name : List ℕ) → (length name ≡ 1 → ⊥) → meaningIn (long cs) name ≡ meaningIn cs name
+unfolding meaningIn long
+long-says [] name h = refl
+long-says (r ∷ cs) name h = by (eqb (length (utf8 (r .name))) 1) refl (long-says cs name h)
+  where
+    by : (b : Bool) → eqb (length (utf8 (r .name))) 1 ≡ b → meaningIn (long cs) name ≡ meaningIn cs name
+        → meaningIn (cond b (long cs) (r ∷ long cs)) name ≡ meaningIn (r ∷ cs) name
+    by true e ih = rw (same-long (utf8 (r .name)) name (λ k. h (sym k ∙ eqb-true _ _ e))) ih
+    by false e ih = ap (cond (same (utf8 (r .name)) name) (r .means)) ih
+
+-- the one computed test: each row's three bytes stand for its meaning
+all-told : told (long commands) ≡ meant (long commands)
+unfolding told meant long commands utf8 octets decoded codeOf
+all-told = refl
+
+names-say : (name : List ℕ) → (length name ≡ 1 → ⊥) → meaningBy (rowsOf (long commands)) name ≡ meaningOf name
+names-say name h = rows-say (long commands) name all-told ∙ long-says commands name h
+
+-- ---- the search
+
+-- the rows from byte i on say of the name what the list says
+pub record Going (t name : List ℕ) (i : ℕ) : Type 0 where
+  pub rows : List Row
+  pub here : drop i t ≡ flat rows
+  pub inside : i ≤ length t
+  pub says : meaningBy rows name ≡ meaningOf name
+
+pub going : (t name : List ℕ) → t ≡ names → (length name ≡ 1 → ⊥) → Going t name 0
+unfolding names
+going t name e h = record { rows = rowsOf (long commands); here = e; inside = omega arith; says = names-say name h }
+
+-- the row at i, and those behind it
+pub record Here (t name : List ℕ) (i : ℕ) : Type 0 where
+  pub row : Row
+  pub rows : List Row
+  pub here : drop i t ≡ flat (row ∷ rows)
+  pub says : meaningBy (row ∷ rows) name ≡ meaningOf name
+
+pub is-here : (t name : List ℕ) (i : ℕ) → Going t name i → i < length t → Here t name i
+unfolding flat
+is-here t name i g l = by (g .rows) (g .here) (g .says)
+  where
+    by : (rs : List Row) → drop i t ≡ flat rs → meaningBy rs name ≡ meaningOf name → Here t name i
+    by [] h s = absurd (omega (arith, ap length h, length-drop i t, l))
+    by (r ∷ rs) h s = record { row = r; rows = rs; here = h; says = s }
+
+module _ (t name : List ℕ) (i : ℕ) (l : i < length t) (g : Here t name i) where
+  abbrev k : ℕ
+  k = length (g .row .key)
+
+  abbrev bytes : List ℕ
+  bytes = k ∷ g .row .x ∷ g .row .y ∷ g .row .z ∷ g .row .key ++ flat (g .rows)
+
+  spelled : drop i t ≡ bytes
+  unfolding flat
+  spelled = g .here
+
+  at : (j : ℕ) → getD t (i + j) 0 ≡ getD bytes j 0
+  at j = sym (getD-drop i t j 0) ∙ ap (λ (s : List ℕ). getD s j 0) spelled
+
+  first : getD t i 0 ≡ k
+  first = ap (λ (n : ℕ). getD t n 0) (omega arith) ∙ at 0
+
+  row-x : getD t (i + 1) 0 ≡ g .row .x
+  row-x = at 1
+
+  row-y : getD t (i + 2) 0 ≡ g .row .y
+  row-y = at 2
+
+  row-z : getD t (i + 3) 0 ≡ g .row .z
+  row-z = at 3
+
+  fits : i + 4 + k ≤ length t
+  fits =
+      sum (length t) i (length (drop i t)) k (length (flat (g .rows))) (length (g .row .key ++ flat (g .rows))) l
+      (length-drop i t) (ap length spelled) (length-append (g .row .key) (flat (g .rows)))
+    where
+      sum : (n i d k f a : ℕ) → i < n → d ≡ n - i → d ≡ suc (suc (suc (suc a))) → a ≡ k + f → i + 4 + k ≤ n
+      sum n i d k f a p q r s = omega arith
+
+  behind : drop (i + 4) t ≡ g .row .key ++ flat (g .rows)
+  behind = sym (drop-drop 4 i t) ∙ ap (drop 4) spelled
+
+  key-at : part t (i + 4) (i + 4 + k) ≡ g .row .key
+  key-at = ap (λ (n : ℕ). take n (drop (i + 4) t)) (least i k (length t) fits) ∙ ap (take k) behind ∙ take-append-seam (g .row .key) (flat (g .rows))
+    where
+      least : (i k n : ℕ) → i + 4 + k ≤ n → min (i + 4 + k) n - (i + 4) ≡ k
+      least i k n h = omega arith
+
+  miss : same (g .row .key) name ≡ false → Going t name (i + (4 + k))
+  unfolding meaningBy
+  miss e = record {
+    rows = g .rows;
+    here = ap (λ (n : ℕ). drop n t) (regroup i k) ∙ sym (drop-drop k (i + 4) t) ∙ ap (drop k) behind
+        ∙ drop-append-seam (g .row .key) (flat (g .rows));
+    inside = omega (arith, fits);
+    says = sym (rw e refl) ∙ g .says;
+  }
+    where
+      regroup : (i k : ℕ) → i + (4 + k) ≡ i + 4 + k
+      regroup i k = omega arith
+
+  -- the first byte m is the key's length, and b says whether the key is the name
+  module _ (m : ℕ) (b : Bool) (s : List ℕ) (e : m ≡ getD t i 0) (h : b ≡ same (part t (i + 4) (i + 4 + m)) s) (v : s ≡ name) where
+    key-same : same (g .row .key) name ≡ b
+    key-same =
+        sym (h ∙ ap₂ (λ (p : ℕ) (w : List ℕ). same (part t (i + 4) (i + 4 + p)) w) (e ∙ first) v
+        ∙ ap (λ (p : List ℕ). same p name) key-at)
+
+    pub missed : b ≡ false → Going t name (i + (4 + m))
+    missed f = rw (e ∙ first) (miss (key-same ∙ f))
+
+    pub found : b ≡ true → decoded (codeOf (getD t (i + 1) 0) (getD t (i + 2) 0) (getD t (i + 3) 0)) ≡ meaningOf name
+    unfolding meaningBy
+    found f = rw (row-x, row-y, row-z) (sym (rw (key-same ∙ f) refl) ∙ g .says)
+
+pub ended : (t name : List ℕ) (i : ℕ) → Going t name i → length t ≤ i → Unknown ≡ meaningOf name
+unfolding flat meaningBy
+ended t name i g l = by (g .rows) (g .here) (g .says)
+  where
+    by : (rs : List Row) → drop i t ≡ flat rs → meaningBy rs name ≡ meaningOf name → Unknown ≡ meaningOf name
+    by [] h s = s
+    by (r ∷ rs) h s = absurd (omega (arith, ap length h, length-drop i t, l))
+
+pub room : (t name : List ℕ) (i m : ℕ) → Going t name i → i < length t → m ≡ getD t i 0 → i + 4 + m ≤ length t
+room t name i m g l e = let h = is-here t name i g l in omega (arith, fits t name i l h, e, first t name i l h)

@@ -1,0 +1,209 @@
+-- `command::execute::execute_bare` meets its contract. Assumes nothing.
+use Prim.Native.Nat.{ℕ, _+_, _-_, _≤_, _<_}
+use native.Mathlib.Omega.{arith}
+use borrow.Author.Needs.{needs}
+use mathlib.Core.Path.{_≡_, refl, sym, ap, subst, _∙_}
+use mathlib.Core.List.{List, [], append-nil}
+use lib.ListN.{length}
+use Rattle.text.specs.Utf8.{octets, isScalar}
+use Rattle.text.specs.Scan.{part}
+use Rattle.command.proofs.Stacks.{lays-none, octets-three, octets-two}
+use Rattle.command.specs.declared.meaning.Meaning.the-variants.{Itself, Letter, Accent, Slash, Copyright, Hyphenation, Unknown}
+use Rattle.command.specs.Execute.{Sane}
+use Rattle.command.proofs.Combining as edit
+use Rattle.command.proofs.Executing as laws
+use Rattle.command.proofs.execute.execute_bare.Statement.{statement}
+use Rattle.command.proofs.execute.execute_bare.Tie as tie
+use Rattle.command.proofs.execute.execute_bare.Reads as reads
+use Rattle.command.proofs.execute.execute_bare.Lts as lts
+use Rattle.command.proofs.stack.put_code.Reads as put-code-reads
+use Rattle.command.proofs.stack.copy.Reads as copy-reads
+use Rattle.command.proofs.stack.push.Reads as push-reads
+
+enum-told : tie.Need-enum-told
+enum-told c = search needs
+
+copy-requires : tie.Need-copy-requires
+copy-requires c κs = search needs
+
+enum-known-m : tie.Need-enum-known-m
+enum-known-m c = search needs
+
+put-code-requires : tie.Need-put-code-requires
+put-code-requires c κs =
+    let a = c .before .before .before .before .before .before .args in
+    let p = c .before .before .before .before .before .before .pre in
+    let s = subst Sane (c .before .before .m .given .1) (p .0) in
+    (s .0, omega (arith, octets-three _ (s .1), p .1, p .3))
+
+enum-known-m-2 : tie.Need-enum-known-m-2
+enum-known-m-2 c = search needs
+
+put-code-requires-2 : tie.Need-put-code-requires-2
+put-code-requires-2 c κs =
+    let a = c .before .before .before .before .before .before .args in
+    let p = c .before .before .before .before .before .before .pre in
+    let s = subst Sane (c .before .before .m2 .given .1) (p .0) in
+    (s .0, omega (arith, octets-two _ (s .1), p .1, p .3))
+
+enum-told-2 : tie.Need-enum-told-2
+enum-told-2 c = search needs
+
+put-code-requires-3 : tie.Need-put-code-requires-3
+unfolding isScalar
+put-code-requires-3 c κs =
+    let a = c .before .before .before .before .before .args in
+    let p = c .before .before .before .before .before .pre in
+    (refl, omega (arith, octets-two 0xF8 (omega arith), p .1, p .3))
+
+enum-told-3 : tie.Need-enum-told-3
+enum-told-3 c = search needs
+
+put-code-requires-4 : tie.Need-put-code-requires-4
+unfolding isScalar
+put-code-requires-4 c κs =
+    let a = c .before .before .before .before .before .args in
+    let p = c .before .before .before .before .before .pre in
+    (refl, omega (arith, octets-two 0xA9 (omega arith), p .1, p .3))
+
+enum-told-4 : tie.Need-enum-told-4
+enum-told-4 c = search needs
+
+enum-told-5 : tie.Need-enum-told-5
+enum-told-5 c = search needs
+
+push-requires : tie.Need-push-requires
+push-requires c κs = search needs
+
+copy-requires-2 : tie.Need-copy-requires-2
+copy-requires-2 c κs = search needs
+
+push-requires-2 : tie.Need-push-requires-2
+push-requires-2 c κs = search needs
+
+same-length : tie.Need-same-length
+same-length c = search needs
+
+returns : tie.Need-returns
+returns c =
+    let a = c .before .before .before .before .before .before .before .before .args in
+    let p = c .before .before .before .before .before .before .before .before .pre in
+    let y = c .before .before .copy in (
+      laws.bare-as (part (a .s .now) (a .a) (a .e)) (a .m) (a .out .now) (a .at) Itself _ (y .result) _
+          (c .before .before .before .before .enum-told .given .1) refl (y .ensures .0),
+      omega (arith, y .ensures .1),
+    )
+
+same-length-2 : tie.Need-same-length-2
+same-length-2 c = search needs
+
+returns-2 : tie.Need-returns-2
+returns-2 c =
+    let a = c .before .before .before .before .before .before .before .before .before .args in
+    let p = c .before .before .before .before .before .before .before .before .before .pre in
+    let y = c .before .before .put-code in
+    let s = subst Sane (c .before .before .before .before .before .m .given .1) (p .0) in (
+      laws.bare-as (part (a .s .now) (a .a) (a .e)) (a .m) (a .out .now) (a .at) _ _ (y .result) _
+          (c .before .before .before .before .before .m .given .1) refl (y .ensures),
+      omega (arith, y .ensures .end, octets-three _ (s .1), p .1),
+    )
+
+same-length-3 : tie.Need-same-length-3
+same-length-3 c = search needs
+
+returns-3 : tie.Need-returns-3
+returns-3 c =
+    let a = c .before .before .before .before .before .before .before .before .before .args in
+    let p = c .before .before .before .before .before .before .before .before .before .pre in
+    let y = c .before .before .put-code2 in
+    let s = subst Sane (c .before .before .before .before .before .m2 .given .1) (p .0) in (
+      laws.bare-as (part (a .s .now) (a .a) (a .e)) (a .m) (a .out .now) (a .at) _ _ (y .result) _
+          (c .before .before .before .before .before .m2 .given .1) refl (y .ensures),
+      omega (arith, y .ensures .end, octets-two _ (s .1), p .1),
+    )
+
+same-length-4 : tie.Need-same-length-4
+same-length-4 c = search needs
+
+returns-4 : tie.Need-returns-4
+returns-4 c =
+    let a = c .before .before .before .before .before .before .before .before .args in
+    let p = c .before .before .before .before .before .before .before .before .pre in
+    let y = c .before .before .put-code3 in (
+      laws.bare-as (part (a .s .now) (a .a) (a .e)) (a .m) (a .out .now) (a .at) Slash _ (y .result) _
+          (c .before .before .before .before .enum-told2 .given .1) refl (y .ensures),
+      omega
+          (arith, y .ensures .end, octets-two 0xF8 (omega arith), p .1),
+    )
+
+same-length-5 : tie.Need-same-length-5
+same-length-5 c = search needs
+
+returns-5 : tie.Need-returns-5
+returns-5 c =
+    let a = c .before .before .before .before .before .before .before .before .args in
+    let p = c .before .before .before .before .before .before .before .before .pre in
+    let y = c .before .before .put-code4 in (
+      laws.bare-as (part (a .s .now) (a .a) (a .e)) (a .m) (a .out .now) (a .at) Copyright _ (y .result) _
+          (c .before .before .before .before .enum-told3 .given .1) (sym (append-nil (octets 0xA9))) (y .ensures),
+      omega
+          (arith, y .ensures .end, octets-two 0xA9 (omega arith), p .1),
+    )
+
+returns-6 : tie.Need-returns-6
+returns-6 c =
+    let a = c .before .before .before .before .args in
+    let p = c .before .before .before .before .pre in (
+      laws.bare-as (part (a .s .now) (a .a) (a .e)) (a .m) (a .out .now) (a .at) Hyphenation [] (a .at) _ (c .enum-told4 .given .1) refl
+          (lays-none (a .at) (a .out .now)),
+      omega (arith, p .1),
+    )
+
+same-length-6 : tie.Need-same-length-6
+same-length-6 c = search needs
+
+returns-7 : tie.Need-returns-7
+returns-7 c =
+    let a = c .before .before .before .before .before .before .before .before .before .before .before .before .before .before .before .before .args in
+    let p = c .before .before .before .before .before .before .before .before .before .before .before .before .before .before .before .before .pre in
+    let x = c .before .before .before .before .before .before .before .before .before .before .push in
+    let y = c .before .before .before .before .before .before .copy2 in
+    let z = c .before .before .push2 in (
+      laws.bare-unknown (part (a .s .now) (a .a) (a .e)) (a .m) (a .out .now) (a .at) (x .result) _ (y .result) _ (z .result) _
+          (c .before .before .before .before .before .before .before .before .before .before .before .before .enum-told5 .given .1) (x .ensures .0)
+          (y .ensures .0) (z .ensures .0),
+      omega (arith, x .ensures .1, y .ensures .1, z .ensures .1),
+    )
+
+pub execute-bare-spec : {M : Type 1} → statement M
+execute-bare-spec =
+    tie.close
+    (tie.spec
+    enum-told
+    copy-requires
+    enum-known-m
+    put-code-requires
+    enum-known-m-2
+    put-code-requires-2
+    enum-told-2
+    put-code-requires-3
+    enum-told-3
+    put-code-requires-4
+    enum-told-4
+    enum-told-5
+    push-requires
+    copy-requires-2
+    push-requires-2
+    same-length
+    returns
+    same-length-2
+    returns-2
+    same-length-3
+    returns-3
+    same-length-4
+    returns-4
+    same-length-5
+    returns-5
+    returns-6
+    same-length-6
+    returns-7)

@@ -1,0 +1,147 @@
+-- `command::execute::execute_before` meets its contract. Assumes nothing.
+use Prim.Native.Nat.{_+_, _*_, _≤_, _<_}
+use native.Mathlib.Omega.{arith}
+use mathlib.Core.Path.{refl}
+use lib.ListN.{length}
+use borrow.Author.Needs.{needs}
+use Rattle.text.specs.Scan.{part}
+use Rattle.text.specs.Utf8.{isScalar}
+use Rattle.command.specs.declared.meaning.Meaning.the-variants as meaning
+use Rattle.command.proofs.Stacks.{lays-none, octets-two}
+use Rattle.command.proofs.Executing.{leads, leads-unknown}
+use Rattle.command.proofs.execute.execute_before.Statement.{statement}
+use Rattle.command.proofs.execute.execute_before.Tie as tie
+
+enum-told : tie.Need-enum-told
+enum-told c = search needs
+
+put-code-requires : tie.Need-put-code-requires
+unfolding isScalar
+put-code-requires c κs = (refl, omega (arith, c .before .before .before .before .before .pre, octets-two 0xA9 (omega arith)))
+
+enum-told-2 : tie.Need-enum-told-2
+enum-told-2 c = search needs
+
+push-requires : tie.Need-push-requires
+push-requires c κs = search needs
+
+copy-requires : tie.Need-copy-requires
+copy-requires c κs = search needs
+
+push-requires-2 : tie.Need-push-requires-2
+push-requires-2 c κs = search needs
+
+enum-told-3 : tie.Need-enum-told-3
+enum-told-3 c = search needs
+
+enum-told-4 : tie.Need-enum-told-4
+enum-told-4 c = search needs
+
+enum-told-5 : tie.Need-enum-told-5
+enum-told-5 c = search needs
+
+enum-told-6 : tie.Need-enum-told-6
+enum-told-6 c = search needs
+
+enum-told-7 : tie.Need-enum-told-7
+enum-told-7 c = search needs
+
+same-length : tie.Need-same-length
+same-length c = search needs
+
+returns : tie.Need-returns
+returns c =
+    let begin = c .before .before .before .before .before .before .before .before in
+    let a = begin .args in
+    let known = c .before .before .before .before .enum-told .given .1 in
+    let put = c .before .before .put-code in (
+      leads (a .at) (part (a .s .now) (a .a) (a .e)) (a .out .now) (a .m) meaning.Copyright (put .result) _ known (put .ensures),
+      omega (arith, put .ensures .end, begin .pre .0, octets-two 0xA9 (omega arith)),
+    )
+
+same-length-2 : tie.Need-same-length-2
+same-length-2 c = search needs
+
+returns-2 : tie.Need-returns-2
+returns-2 c =
+    let match = c .before .before .before .before .before .before .before .before .before .before .before .before in
+    let begin = match .before .before .before .before in
+    let a = begin .args in
+    let known = match .enum-told2 .given .1 in
+    let push = c .before .before .before .before .before .before .before .before .before .before .push in
+    let copy = c .before .before .before .before .before .before .copy in
+    let last = c .before .before .push2 in (
+      leads-unknown (a .at) (part (a .s .now) (a .a) (a .e)) (a .out .now) (a .m) (push .result) _ (copy .result) _ (last .result) _ known
+          (push .ensures .0) (copy .ensures .0) (last .ensures .0),
+      omega (arith, push .ensures .1, copy .ensures .1, last .ensures .1, begin .pre .0),
+    )
+
+returns-3 : tie.Need-returns-3
+returns-3 c =
+    let begin = c .before .before .before .before in
+    let a = begin .args in (
+      leads (a .at) (part (a .s .now) (a .a) (a .e)) (a .out .now) (a .m) meaning.Itself (a .at) _ (c .enum-told3 .given .1)
+          (lays-none (a .at) (a .out .now)),
+      omega (arith, begin .pre .0),
+    )
+
+returns-4 : tie.Need-returns-4
+returns-4 c =
+    let begin = c .before .before .before .before in
+    let a = begin .args in (
+      leads (a .at) (part (a .s .now) (a .a) (a .e)) (a .out .now) (a .m) (meaning.Letter _) (a .at) _ (c .enum-told4 .given .1)
+          (lays-none (a .at) (a .out .now)),
+      omega (arith, begin .pre .0),
+    )
+
+returns-5 : tie.Need-returns-5
+returns-5 c =
+    let begin = c .before .before .before .before in
+    let a = begin .args in (
+      leads (a .at) (part (a .s .now) (a .a) (a .e)) (a .out .now) (a .m) (meaning.Accent _) (a .at) _ (c .enum-told5 .given .1)
+          (lays-none (a .at) (a .out .now)),
+      omega (arith, begin .pre .0),
+    )
+
+returns-6 : tie.Need-returns-6
+returns-6 c =
+    let begin = c .before .before .before .before in
+    let a = begin .args in (
+      leads (a .at) (part (a .s .now) (a .a) (a .e)) (a .out .now) (a .m) meaning.Slash (a .at) _ (c .enum-told6 .given .1)
+          (lays-none (a .at) (a .out .now)),
+      omega (arith, begin .pre .0),
+    )
+
+returns-7 : tie.Need-returns-7
+returns-7 c =
+    let begin = c .before .before .before .before in
+    let a = begin .args in (
+      leads (a .at) (part (a .s .now) (a .a) (a .e)) (a .out .now) (a .m) meaning.Hyphenation (a .at) _ (c .enum-told7 .given .1)
+          (lays-none (a .at) (a .out .now)),
+      omega (arith, begin .pre .0),
+    )
+
+pub execute-before-spec : {M : Type 1} → statement M
+execute-before-spec =
+    tie.close
+    (tie.spec
+    enum-told
+    put-code-requires
+    enum-told-2
+    push-requires
+    copy-requires
+    push-requires-2
+    enum-told-3
+    enum-told-4
+    enum-told-5
+    enum-told-6
+    enum-told-7
+    same-length
+    returns
+    same-length-2
+    returns-2
+    returns-3
+    returns-4
+    returns-5
+    returns-6
+    returns-7)

@@ -1,0 +1,202 @@
+-- `command::execute::execute_command` meets its contract. Assumes nothing.
+use Prim.Native.Nat.{ℕ, _+_, _-_, _≤_, _<_, max}
+use native.Mathlib.Omega.{arith}
+use borrow.Author.Needs.{needs}
+use mathlib.Core.Path.{_≡_, refl, sym, ap, subst, _∙_}
+use mathlib.Core.List.{List, []}
+use lib.ListN.{length}
+use Rattle.text.specs.Utf8.{octets, isScalar}
+use Rattle.text.specs.Scan.{part}
+use Rattle.command.proofs.Stacks.{lays-none, octets-three}
+use Rattle.command.specs.declared.meaning.Meaning.the-variants.{Itself, Letter, Accent, Slash, Copyright, Hyphenation, Unknown}
+use Rattle.command.specs.Execute.{Sane}
+use Rattle.command.proofs.Combining as edit
+use Rattle.command.proofs.Executing as laws
+use Rattle.command.proofs.execute.execute_command.Statement.{statement}
+use Rattle.command.proofs.execute.execute_command.Tie as tie
+use Rattle.command.proofs.execute.execute_command.Reads as reads
+use Rattle.command.proofs.execute.execute_command.Lts as lts
+use Rattle.command.proofs.execute.last_char_combine.Reads as last-char-combine-reads
+use Rattle.command.proofs.stack.put_code.Reads as put-code-reads
+use Rattle.command.proofs.stack.copy.Reads as copy-reads
+use Rattle.command.proofs.stack.push.Reads as push-reads
+
+enum-told : tie.Need-enum-told
+enum-told c = search needs
+
+copy-requires : tie.Need-copy-requires
+copy-requires c κs = search needs
+
+enum-known-m : tie.Need-enum-known-m
+enum-known-m c = search needs
+
+put-code-requires : tie.Need-put-code-requires
+put-code-requires c κs =
+    let a = c .before .before .before .before .before .before .before .args in
+    let p = c .before .before .before .before .before .before .before .pre .0 in
+    let q = c .before .before .before .before .before .before .before .pre .1 in
+    let s = subst Sane (c .before .before .m .given .1) (p .1) in
+    (s .0, omega (arith, octets-three _ (s .1), q .4))
+
+enum-known-m-2 : tie.Need-enum-known-m-2
+enum-known-m-2 c = search needs
+
+last-char-combine-requires : tie.Need-last-char-combine-requires
+last-char-combine-requires c κs =
+    let a = c .before .before .before .before .before .before .before .args in
+    let p = c .before .before .before .before .before .before .before .pre .0 in
+    let q = c .before .before .before .before .before .before .before .pre .1 in
+    let s = subst Sane (c .before .before .m2 .given .1) (p .1) in
+    let n = laws.no-lead (part (a .s .now) (a .a) (a .e)) (a .m) (a .out .now) (a .at) (a .from) (a .to) (q .0) (q .1) (omega (arith, q .2)) (q .5) _
+    (c .before .before .m2 .given .1) refl in
+    (p .0, q .1, omega (arith, n, q .3), s .0, s .1)
+
+enum-told-2 : tie.Need-enum-told-2
+enum-told-2 c = search needs
+
+last-char-combine-requires-2 : tie.Need-last-char-combine-requires-2
+unfolding isScalar
+last-char-combine-requires-2 c κs =
+    let a = c .before .before .before .before .before .before .args in
+    let p = c .before .before .before .before .before .before .pre .0 in
+    let q = c .before .before .before .before .before .before .pre .1 in
+    let n = laws.no-lead (part (a .s .now) (a .a) (a .e)) (a .m) (a .out .now) (a .at) (a .from) (a .to) (q .0) (q .1) (omega (arith, q .2)) (q .5)
+    Slash (c .before .enum-told2 .given .1) refl in
+    (p .0, q .1, omega (arith, n, q .3), refl, omega arith)
+
+enum-told-3 : tie.Need-enum-told-3
+enum-told-3 c = search needs
+
+enum-told-4 : tie.Need-enum-told-4
+enum-told-4 c = search needs
+
+enum-told-5 : tie.Need-enum-told-5
+enum-told-5 c = search needs
+
+push-requires : tie.Need-push-requires
+push-requires c κs = search needs
+
+same-length : tie.Need-same-length
+same-length c = search needs
+
+returns : tie.Need-returns
+returns c =
+    let a = c .before .before .before .before .before .before .before .before .before .args in
+    let p = c .before .before .before .before .before .before .before .before .before .pre .0 in
+    let q = c .before .before .before .before .before .before .before .before .before .pre .1 in
+    let y = c .before .before .copy in (
+      laws.runs-as (part (a .s .now) (a .a) (a .e)) (a .m) (a .out .now) (a .at) (a .from) (a .to) (q .0) (q .1) (omega (arith, q .2)) (q .5) Itself _
+          (y .result) _ (c .before .before .before .before .enum-told .given .1) refl (y .ensures .0),
+      omega (arith, y .ensures .1),
+    )
+
+same-length-2 : tie.Need-same-length-2
+same-length-2 c = search needs
+
+returns-2 : tie.Need-returns-2
+returns-2 c =
+    let a = c .before .before .before .before .before .before .before .before .before .before .args in
+    let p = c .before .before .before .before .before .before .before .before .before .before .pre .0 in
+    let q = c .before .before .before .before .before .before .before .before .before .before .pre .1 in
+    let y = c .before .before .put-code in
+    let s = subst Sane (c .before .before .before .before .before .m .given .1) (p .1) in (
+      laws.runs-as (part (a .s .now) (a .a) (a .e)) (a .m) (a .out .now) (a .at) (a .from) (a .to) (q .0) (q .1) (omega (arith, q .2)) (q .5) _ _
+          (y .result) _ (c .before .before .before .before .before .m .given .1) refl (y .ensures),
+      omega
+          (arith, y .ensures .end, octets-three _ (s .1), p .2),
+    )
+
+same-length-3 : tie.Need-same-length-3
+same-length-3 c = search needs
+
+returns-3 : tie.Need-returns-3
+returns-3 c =
+    let a = c .before .before .before .before .before .before .before .before .before .before .args in
+    let p = c .before .before .before .before .before .before .before .before .before .before .pre .0 in
+    let q = c .before .before .before .before .before .before .before .before .before .before .pre .1 in
+    let n = laws.no-lead (part (a .s .now) (a .a) (a .e)) (a .m) (a .out .now) (a .at) (a .from) (a .to) (q .0) (q .1) (omega (arith, q .2)) (q .5) _
+    (c .before .before .before .before .before .m2 .given .1) refl in
+    let y = c .before .before .last-char-combine in (
+      laws.as-from (part (a .s .now) (a .a) (a .e)) (a .m) (a .out .now) (a .at) (a .from) (a .to) (q .0) (q .1) (omega (arith, q .2)) (q .5) _ _
+          (y .result) _ (c .before .before .before .before .before .m2 .given .1) refl refl (y .ensures .0),
+      omega (arith, y .ensures .1, n),
+    )
+
+same-length-4 : tie.Need-same-length-4
+same-length-4 c = search needs
+
+returns-4 : tie.Need-returns-4
+returns-4 c =
+    let a = c .before .before .before .before .before .before .before .before .before .args in
+    let p = c .before .before .before .before .before .before .before .before .before .pre .0 in
+    let q = c .before .before .before .before .before .before .before .before .before .pre .1 in
+    let n = laws.no-lead (part (a .s .now) (a .a) (a .e)) (a .m) (a .out .now) (a .at) (a .from) (a .to) (q .0) (q .1) (omega (arith, q .2)) (q .5)
+    Slash (c .before .before .before .before .enum-told2 .given .1) refl in
+    let y = c .before .before .last-char-combine2 in (
+      laws.as-from (part (a .s .now) (a .a) (a .e)) (a .m) (a .out .now) (a .at) (a .from) (a .to) (q .0) (q .1) (omega (arith, q .2)) (q .5) Slash _
+          (y .result) _ (c .before .before .before .before .enum-told2 .given .1) refl refl (y .ensures .0),
+      omega (arith, y .ensures .1, n),
+    )
+
+returns-5 : tie.Need-returns-5
+returns-5 c =
+    let a = c .before .before .before .before .before .args in
+    let p = c .before .before .before .before .before .pre .0 in
+    let q = c .before .before .before .before .before .pre .1 in (
+      laws.copyright (part (a .s .now) (a .a) (a .e)) (a .m) (a .out .now) (a .at) (a .from) (a .to) (q .0) (q .1) (omega (arith, q .2)) (q .5)
+          (c .enum-told3 .given .1),
+      omega arith,
+    )
+
+returns-6 : tie.Need-returns-6
+returns-6 c =
+    let a = c .before .before .before .before .before .args in
+    let p = c .before .before .before .before .before .pre .0 in
+    let q = c .before .before .before .before .before .pre .1 in (
+      laws.runs-as (part (a .s .now) (a .a) (a .e)) (a .m) (a .out .now) (a .at) (a .from) (a .to) (q .0) (q .1) (omega (arith, q .2)) (q .5)
+          Hyphenation [] (a .at) _ (c .enum-told4 .given .1) refl (lays-none (a .at) (a .out .now)),
+      omega (arith, p .2),
+    )
+
+same-length-5 : tie.Need-same-length-5
+same-length-5 c = search needs
+
+returns-7 : tie.Need-returns-7
+returns-7 c =
+    let a = c .before .before .before .before .before .before .before .before .before .args in
+    let p = c .before .before .before .before .before .before .before .before .before .pre .0 in
+    let q = c .before .before .before .before .before .before .before .before .before .pre .1 in
+    let y = c .before .before .push in (
+      laws.unknown (part (a .s .now) (a .a) (a .e)) (a .m) (a .out .now) (a .at) (a .from) (a .to) (q .0) (q .1) (omega (arith, q .2)) (q .5)
+          (y .result) _ (c .before .before .before .before .enum-told5 .given .1) (y .ensures .0),
+      omega (arith, y .ensures .1),
+    )
+
+pub execute-command-spec : {M : Type 1} → statement M
+execute-command-spec =
+    tie.close
+    (tie.spec
+    enum-told
+    copy-requires
+    enum-known-m
+    put-code-requires
+    enum-known-m-2
+    last-char-combine-requires
+    enum-told-2
+    last-char-combine-requires-2
+    enum-told-3
+    enum-told-4
+    enum-told-5
+    push-requires
+    same-length
+    returns
+    same-length-2
+    returns-2
+    same-length-3
+    returns-3
+    same-length-4
+    returns-4
+    returns-5
+    returns-6
+    same-length-5
+    returns-7)

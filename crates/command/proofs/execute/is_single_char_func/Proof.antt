@@ -1,0 +1,14 @@
+-- `command::execute::is_single_char_func` meets its contract. Assumes nothing.
+use Rattle.command.proofs.Tests.{singles}
+use Rattle.command.specs.Commands.{isSingleCharFunc}
+use Rattle.command.proofs.execute.is_single_char_func.Statement.{statement}
+use Rattle.command.proofs.execute.is_single_char_func.Tie as tie
+use Rattle.command.proofs.execute.is_single_char_func.Reads as reads
+use Rattle.command.proofs.execute.is_single_char_func.Lts as lts
+
+returns : tie.Need-returns
+unfolding isSingleCharFunc
+returns c = rw singles
+
+pub is-single-char-func-spec : {M : Type 1} → statement M
+is-single-char-func-spec = tie.close (tie.spec returns)

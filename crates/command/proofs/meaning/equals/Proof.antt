@@ -1,0 +1,32 @@
+-- `command::meaning::equals` meets its contract. Assumes nothing.
+use Prim.Native.Nat.{ℕ, _+_, _-_, _≤_, _<_}
+use native.Mathlib.Omega.{arith}
+use borrow.Author.Needs.{needs}
+use mathlib.Core.Path.{_≡_, refl, sym, ap, _∙_}
+use lib.ListN.{length, getD}
+use Rattle.text.specs.Scan.{part}
+use Rattle.command.specs.Commands.{same, meaningOf}
+use Rattle.command.proofs.Rows as laws
+use Rattle.command.proofs.meaning.equals.Statement.{statement}
+use Rattle.command.proofs.meaning.equals.Tie as tie
+use Rattle.command.proofs.meaning.equals.Reads as reads
+use Rattle.command.proofs.meaning.equals.Lts as lts
+use Rattle.command.proofs.meaning.matches.Reads as matches-reads
+
+returns : tie.Need-returns
+returns c =
+    let a = c .before .before .before .args in
+    let p = c .before .before .before .pre in
+    laws.other-length (a .names .now) (a .i) (a .m) (a .s .now) (a .a) (a .n) (p .0) (p .1) (c .if1 .taken)
+
+matches-requires : tie.Need-matches-requires
+matches-requires c κs = search needs
+
+returns-2 : tie.Need-returns-2
+returns-2 c =
+    let a = c .before .before .before .before .args in
+    c .matches .ensures ∙ ap (λ (n : ℕ). same (part (a .names .now) (a .i) (a .i + n)) (part (a .s .now) (a .a) (a .a + a .n)))
+    (sym (c .before .if1 .left))
+
+pub equals-spec : {M : Type 1} → statement M
+equals-spec = tie.close (tie.spec returns matches-requires returns-2)

@@ -1,0 +1,79 @@
+-- `command::meaning::matches` meets its contract. Assumes nothing.
+use Prim.Native.Nat.{ℕ, _+_, _-_, _≤_}
+use native.Mathlib.Omega.{arith}
+use borrow.Author.Needs.{needs}
+use mathlib.Core.Path.{_≡_, sym, _∙_}
+use Rattle.text.specs.Scan.{part}
+use Rattle.command.specs.Commands.{same}
+use Rattle.command.proofs.Rows as laws
+use Rattle.command.proofs.meaning.matches.Statement.{statement}
+use Rattle.command.proofs.meaning.matches.Tie as tie
+use Rattle.command.proofs.meaning.matches.Reads as reads
+use Rattle.command.proofs.meaning.matches.Lts as lts
+
+abbrev Inv-loop : tie.InvT-loop
+Inv-loop names i s a n k₀ k = (k ≤ n) × (same (part names i (i + n)) (part s a (a + n)) ≡ same (part names (i + k) (i + n)) (part s (a + k) (a + n)))
+
+abbrev μ-loop : tie.MeasureT-loop
+μ-loop names i s a n k₀ k = n - k
+
+loop-holds : tie.Need-loop-holds Inv-loop μ-loop
+loop-holds c = let a = c .args in (omega arith, laws.left-start (a .names .now) (a .i) (a .s .now) (a .a) (a .n) (c .pre .0) (c .pre .1))
+
+add-if1 : tie.Need-add-if1 Inv-loop μ-loop
+add-if1 c = search needs
+
+shared-slice-read-if1 : tie.Need-shared-slice-read-if1 Inv-loop μ-loop
+shared-slice-read-if1 c = search needs
+
+add-if1-2 : tie.Need-add-if1-2 Inv-loop μ-loop
+add-if1-2 c = search needs
+
+shared-slice-read-if1-2 : tie.Need-shared-slice-read-if1-2 Inv-loop μ-loop
+shared-slice-read-if1-2 c = search needs
+
+returns : tie.Need-returns Inv-loop μ-loop
+returns c =
+    let a = c .before .before .before .before .before .args in
+    let p = c .before .before .before .before .before .pre in
+    let b = c .before .before .before .before .loop in
+    let l = c .before .before .before .loop-test .taken in
+    laws.left-off (a .names .now) (a .i) (a .s .now) (a .a) (a .n) (p .0) (p .1) (b .k) l (c .if1 .taken) ∙ sym (b .inv .1)
+
+add-k : tie.Need-add-k Inv-loop μ-loop
+add-k c = search needs
+
+loop-less : tie.Need-loop-less Inv-loop μ-loop
+loop-less c = search needs
+
+loop-again : tie.Need-loop-again Inv-loop μ-loop
+loop-again c =
+    let a = c .before .before .before .before .before .args in
+    let p = c .before .before .before .before .before .pre in
+    let b = c .before .before .before .before .loop in
+    let l = c .before .before .before .loop-test .taken in
+    (omega (arith, l), b .inv .1 ∙ laws.left-on (a .names .now) (a .i) (a .s .now) (a .a) (a .n) (p .0) (p .1) (b .k) l (c .if1 .left))
+
+returns-2 : tie.Need-returns-2 Inv-loop μ-loop
+returns-2 c =
+    let a = c .before .before .args in
+    let p = c .before .before .pre in
+    let b = c .before .loop in
+    laws.left-end (a .names .now) (a .i) (a .s .now) (a .a) (a .n) (p .0) (p .1) (b .k) (c .loop-test .left) ∙ sym (b .inv .1)
+
+pub matches-spec : {M : Type 1} → statement M
+matches-spec =
+    tie.close
+    (tie.spec
+    Inv-loop
+    μ-loop
+    loop-holds
+    add-if1
+    shared-slice-read-if1
+    add-if1-2
+    shared-slice-read-if1-2
+    returns
+    add-k
+    loop-less
+    loop-again
+    returns-2)

@@ -1,0 +1,97 @@
+-- `command::meaning::meaning_at` meets its contract. Assumes nothing.
+use mathlib.Core.Path.{sym}
+use borrow.Author.Tests.{ne-eqb}
+use Rattle.command.specs.Names.{codeOf, decoded}
+use borrow.Author.Needs.{needs}
+use Rattle.command.proofs.meaning.meaning_at.Statement.{statement}
+use Rattle.command.proofs.meaning.meaning_at.Tie as tie
+use Rattle.command.proofs.meaning.meaning_at.Reads as reads
+use Rattle.command.proofs.meaning.meaning_at.Lts as lts
+use Rattle.command.proofs.meaning.code.Reads as code-reads
+
+code-requires : tie.Need-code-requires
+code-requires c κs = search needs
+
+mul-c : tie.Need-mul-c
+mul-c c = search needs
+
+code-requires-2 : tie.Need-code-requires-2
+code-requires-2 c κs = search needs
+
+add-c : tie.Need-add-c
+add-c c = search needs
+
+mul-c-2 : tie.Need-mul-c-2
+mul-c-2 c = search needs
+
+code-requires-3 : tie.Need-code-requires-3
+code-requires-3 c κs = search needs
+
+add-c-2 : tie.Need-add-c-2
+add-c-2 c = search needs
+
+returns : tie.Need-returns
+unfolding codeOf decoded
+returns c = rw (
+  sym (c .before .before .before .code .ensures),
+  sym (c .before .before .code2 .ensures),
+  sym (c .before .code3 .ensures),
+  c .match .keys1,
+)
+
+returns-2 : tie.Need-returns-2
+unfolding codeOf decoded
+returns-2 c = rw (
+  sym (c .before .before .before .code .ensures),
+  sym (c .before .before .code2 .ensures),
+  sym (c .before .code3 .ensures),
+  c .match .keys2,
+)
+
+returns-3 : tie.Need-returns-3
+unfolding codeOf decoded
+returns-3 c = rw (
+  sym (c .before .before .before .code .ensures),
+  sym (c .before .before .code2 .ensures),
+  sym (c .before .code3 .ensures),
+  c .match .keys3,
+)
+
+returns-4 : tie.Need-returns-4
+unfolding codeOf decoded
+returns-4 c = rw (
+  sym (c .before .before .before .code .ensures),
+  sym (c .before .before .code2 .ensures),
+  sym (c .before .code3 .ensures),
+  c .match .keys4,
+)
+
+returns-5 : tie.Need-returns-5
+unfolding codeOf decoded
+returns-5 c = rw (
+  sym (c .before .before .before .code .ensures),
+  sym (c .before .before .code2 .ensures),
+  sym (c .before .code3 .ensures),
+  ne-eqb _ _
+      (c .match .rest .0 .0 .0 .1),
+  ne-eqb _ _ (c .match .rest .0 .0 .1),
+  ne-eqb _ _ (c .match .rest .0 .1),
+  ne-eqb _ _ (c .match .rest .1),
+)
+
+pub meaning-at-spec : {M : Type 1} → statement M
+meaning-at-spec =
+    tie.close
+    (tie.spec
+    code-requires
+    mul-c
+    code-requires-2
+    add-c
+    mul-c-2
+    code-requires-3
+    add-c-2
+    returns
+    returns-2
+    returns-3
+    returns-4
+    returns-5)

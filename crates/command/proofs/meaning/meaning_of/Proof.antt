@@ -1,0 +1,228 @@
+-- `command::meaning::meaning_of` meets its contract. Assumes nothing.
+use Prim.Native.Nat.{ℕ, _+_, _-_, _≤_, _<_}
+use native.Mathlib.Omega.{arith}
+use borrow.Author.Needs.{needs}
+use mathlib.Core.Path.{_≡_, refl, sym, ap, _∙_}
+use lib.ListN.{length, getD}
+use Rattle.text.specs.Scan.{part}
+use Rattle.command.specs.Commands.{same, meaningOf}
+use Rattle.command.proofs.Rows as laws
+use Rattle.command.proofs.meaning.meaning_of.Statement.{statement}
+use Rattle.command.proofs.meaning.meaning_of.Tie as tie
+use Rattle.command.proofs.meaning.meaning_of.Reads as reads
+use Rattle.command.proofs.meaning.meaning_of.Lts as lts
+use Rattle.command.proofs.meaning.equals.Reads as equals-reads
+use Rattle.command.proofs.meaning.meaning_at.Reads as meaning-at-reads
+use Rattle.command.proofs.meaning.meaning_one.Reads as meaning-one-reads
+use Rattle.command.proofs.meaning.wide.Reads as wide-reads
+
+abbrev Inv-loop : tie.InvT-loop
+Inv-loop names s a e n i₀ i = laws.Going names (part s a e) i
+
+abbrev μ-loop : tie.MeasureT-loop
+μ-loop names s a e n i₀ i = length names - i
+
+sub-n : tie.Need-sub-n Inv-loop μ-loop
+sub-n c = search needs
+
+shared-slice-read-meaning-one : tie.Need-shared-slice-read-meaning-one Inv-loop μ-loop
+shared-slice-read-meaning-one c = search needs
+
+meaning-one-requires : tie.Need-meaning-one-requires Inv-loop μ-loop
+meaning-one-requires c κs = search needs
+
+returns : tie.Need-returns Inv-loop μ-loop
+returns c =
+    let a = c .before .before .before .before .before .args in
+    let p = c .before .before .before .before .before .pre in
+    c .meaning-one .ensures ∙ ap meaningOf (laws.name-one (a .s .now) (a .a) (a .e) _ (c .before .before .if1 .taken) (p .2) refl)
+
+loop-holds : tie.Need-loop-holds Inv-loop μ-loop
+loop-holds c =
+    let a = c .before .before .before .args in
+    let p = c .before .before .before .pre in
+    laws.going (a .names .now) _ (p .0) (laws.name-long (a .s .now) (a .a) (a .e) (p .1) (p .2) (c .if1 .left))
+
+shared-slice-read-wide : tie.Need-shared-slice-read-wide Inv-loop μ-loop
+shared-slice-read-wide c = search needs
+
+wide-requires : tie.Need-wide-requires Inv-loop μ-loop
+wide-requires c κs = search needs
+
+add-equals : tie.Need-add-equals Inv-loop μ-loop
+add-equals c = search needs
+
+equals-requires : tie.Need-equals-requires Inv-loop μ-loop
+equals-requires c κs =
+    let a = c .before .before .before .before .before .before .before .args in
+    let p = c .before .before .before .before .before .before .before .pre in
+    let b = c .before .before .before .loop in
+    let l = c .before .before .loop-test .taken in
+    let m = c .wide .result in
+    let g = laws.is-here (a .names .now) (part (a .s .now) (a .a) (a .e)) (b .i) (b .inv) l in
+    let r = laws.room (a .names .now) (part (a .s .now) (a .a) (a .e)) (b .i) m (b .inv) l (c .wide .ensures) in
+    (r, omega (arith, p .1, p .2))
+
+add-meaning-at : tie.Need-add-meaning-at Inv-loop μ-loop
+add-meaning-at c =
+    let a = c .before .before .before .before .before .before .before .before .before .args in
+    let p = c .before .before .before .before .before .before .before .before .before .pre in
+    let b = c .before .before .before .before .before .loop in
+    let l = c .before .before .before .before .loop-test .taken in
+    let m = c .before .before .wide .result in
+    let g = laws.is-here (a .names .now) (part (a .s .now) (a .a) (a .e)) (b .i) (b .inv) l in
+    let r = laws.room (a .names .now) (part (a .s .now) (a .a) (a .e)) (b .i) m (b .inv) l (c .before .before .wide .ensures) in
+    omega (arith, r, c .before .before .before .before .before .before .before .before .before .fits)
+
+shared-slice-read-meaning-at : tie.Need-shared-slice-read-meaning-at Inv-loop μ-loop
+shared-slice-read-meaning-at c =
+    let a = c .before .before .before .before .before .before .before .before .before .before .args in
+    let p = c .before .before .before .before .before .before .before .before .before .before .pre in
+    let b = c .before .before .before .before .before .before .loop in
+    let l = c .before .before .before .before .before .loop-test .taken in
+    let m = c .before .before .before .wide .result in
+    let g = laws.is-here (a .names .now) (part (a .s .now) (a .a) (a .e)) (b .i) (b .inv) l in
+    let r = laws.room (a .names .now) (part (a .s .now) (a .a) (a .e)) (b .i) m (b .inv) l (c .before .before .before .wide .ensures) in
+    omega (arith, r, c .before .before .before .before .before .before .before .before .before .before .fits)
+
+add-meaning-at-2 : tie.Need-add-meaning-at-2 Inv-loop μ-loop
+add-meaning-at-2 c =
+    let a = c .before .before .before .before .before .before .before .before .before .before .args in
+    let p = c .before .before .before .before .before .before .before .before .before .before .pre in
+    let b = c .before .before .before .before .before .before .loop in
+    let l = c .before .before .before .before .before .loop-test .taken in
+    let m = c .before .before .before .wide .result in
+    let g = laws.is-here (a .names .now) (part (a .s .now) (a .a) (a .e)) (b .i) (b .inv) l in
+    let r = laws.room (a .names .now) (part (a .s .now) (a .a) (a .e)) (b .i) m (b .inv) l (c .before .before .before .wide .ensures) in
+    omega (arith, r, c .before .before .before .before .before .before .before .before .before .before .fits)
+
+shared-slice-read-meaning-at-2 : tie.Need-shared-slice-read-meaning-at-2 Inv-loop μ-loop
+shared-slice-read-meaning-at-2 c =
+    let a = c .before .before .before .before .before .before .before .before .before .before .before .args in
+    let p = c .before .before .before .before .before .before .before .before .before .before .before .pre in
+    let b = c .before .before .before .before .before .before .before .loop in
+    let l = c .before .before .before .before .before .before .loop-test .taken in
+    let m = c .before .before .before .before .wide .result in
+    let g = laws.is-here (a .names .now) (part (a .s .now) (a .a) (a .e)) (b .i) (b .inv) l in
+    let r = laws.room (a .names .now) (part (a .s .now) (a .a) (a .e)) (b .i) m (b .inv) l (c .before .before .before .before .wide .ensures) in
+    omega (arith, r, c .before .before .before .before .before .before .before .before .before .before .before .fits)
+
+add-meaning-at-3 : tie.Need-add-meaning-at-3 Inv-loop μ-loop
+add-meaning-at-3 c =
+    let a = c .before .before .before .before .before .before .before .before .before .before .before .args in
+    let p = c .before .before .before .before .before .before .before .before .before .before .before .pre in
+    let b = c .before .before .before .before .before .before .before .loop in
+    let l = c .before .before .before .before .before .before .loop-test .taken in
+    let m = c .before .before .before .before .wide .result in
+    let g = laws.is-here (a .names .now) (part (a .s .now) (a .a) (a .e)) (b .i) (b .inv) l in
+    let r = laws.room (a .names .now) (part (a .s .now) (a .a) (a .e)) (b .i) m (b .inv) l (c .before .before .before .before .wide .ensures) in
+    omega (arith, r, c .before .before .before .before .before .before .before .before .before .before .before .fits)
+
+shared-slice-read-meaning-at-3 : tie.Need-shared-slice-read-meaning-at-3 Inv-loop μ-loop
+shared-slice-read-meaning-at-3 c =
+    let a = c .before .before .before .before .before .before .before .before .before .before .before .before .args in
+    let p = c .before .before .before .before .before .before .before .before .before .before .before .before .pre in
+    let b = c .before .before .before .before .before .before .before .before .loop in
+    let l = c .before .before .before .before .before .before .before .loop-test .taken in
+    let m = c .before .before .before .before .before .wide .result in
+    let g = laws.is-here (a .names .now) (part (a .s .now) (a .a) (a .e)) (b .i) (b .inv) l in
+    let r = laws.room (a .names .now) (part (a .s .now) (a .a) (a .e)) (b .i) m (b .inv) l (c .before .before .before .before .before .wide .ensures)
+    in
+    omega (arith, r, c .before .before .before .before .before .before .before .before .before .before .before .before .fits)
+
+meaning-at-requires : tie.Need-meaning-at-requires Inv-loop μ-loop
+meaning-at-requires c κs = search needs
+
+returns-2 : tie.Need-returns-2 Inv-loop μ-loop
+returns-2 c =
+    let a = c .before .before .before .before .before .before .before .before .before .before .before .before .before .args in
+    let p = c .before .before .before .before .before .before .before .before .before .before .before .before .before .pre in
+    let b = c .before .before .before .before .before .before .before .before .before .loop in
+    let l = c .before .before .before .before .before .before .before .before .loop-test .taken in
+    let m = c .before .before .before .before .before .before .wide .result in
+    let g = laws.is-here (a .names .now) (part (a .s .now) (a .a) (a .e)) (b .i) (b .inv) l in
+    let r = laws.room (a .names .now) (part (a .s .now) (a .a) (a .e)) (b .i) m (b .inv) l
+    (c .before .before .before .before .before .before .wide .ensures) in
+    c .meaning-at .ensures ∙ laws.found (a .names .now) (part (a .s .now) (a .a) (a .e)) (b .i) l g m _ _
+    (c .before .before .before .before .before .before .wide .ensures) (c .before .before .before .before .before .equals .ensures)
+    (laws.name-part (a .s .now) (a .a) (a .e) _ refl (p .1)) (c .before .before .before .before .if2 .taken)
+
+add-i : tie.Need-add-i Inv-loop μ-loop
+add-i c =
+    let a = c .before .before .before .before .before .before .before .before .before .args in
+    let p = c .before .before .before .before .before .before .before .before .before .pre in
+    let b = c .before .before .before .before .before .loop in
+    let l = c .before .before .before .before .loop-test .taken in
+    let m = c .before .before .wide .result in
+    let g = laws.is-here (a .names .now) (part (a .s .now) (a .a) (a .e)) (b .i) (b .inv) l in
+    let r = laws.room (a .names .now) (part (a .s .now) (a .a) (a .e)) (b .i) m (b .inv) l (c .before .before .wide .ensures) in
+    omega (arith, r, l, c .before .before .before .before .before .before .before .before .before .fits)
+
+add-i-2 : tie.Need-add-i-2 Inv-loop μ-loop
+add-i-2 c =
+    let a = c .before .before .before .before .before .before .before .before .before .args in
+    let p = c .before .before .before .before .before .before .before .before .before .pre in
+    let b = c .before .before .before .before .before .loop in
+    let l = c .before .before .before .before .loop-test .taken in
+    let m = c .before .before .wide .result in
+    let g = laws.is-here (a .names .now) (part (a .s .now) (a .a) (a .e)) (b .i) (b .inv) l in
+    let r = laws.room (a .names .now) (part (a .s .now) (a .a) (a .e)) (b .i) m (b .inv) l (c .before .before .wide .ensures) in
+    omega (arith, r, l, c .before .before .before .before .before .before .before .before .before .fits)
+
+loop-less : tie.Need-loop-less Inv-loop μ-loop
+loop-less c =
+    let a = c .before .before .before .before .before .before .before .before .before .args in
+    let p = c .before .before .before .before .before .before .before .before .before .pre in
+    let b = c .before .before .before .before .before .loop in
+    let l = c .before .before .before .before .loop-test .taken in
+    let m = c .before .before .wide .result in
+    let g = laws.is-here (a .names .now) (part (a .s .now) (a .a) (a .e)) (b .i) (b .inv) l in
+    let r = laws.room (a .names .now) (part (a .s .now) (a .a) (a .e)) (b .i) m (b .inv) l (c .before .before .wide .ensures) in
+    omega (arith, r, l, c .before .before .before .before .before .before .before .before .before .fits)
+
+loop-again : tie.Need-loop-again Inv-loop μ-loop
+loop-again c =
+    let a = c .before .before .before .before .before .before .before .before .before .args in
+    let p = c .before .before .before .before .before .before .before .before .before .pre in
+    let b = c .before .before .before .before .before .loop in
+    let l = c .before .before .before .before .loop-test .taken in
+    let m = c .before .before .wide .result in
+    let g = laws.is-here (a .names .now) (part (a .s .now) (a .a) (a .e)) (b .i) (b .inv) l in
+    let r = laws.room (a .names .now) (part (a .s .now) (a .a) (a .e)) (b .i) m (b .inv) l (c .before .before .wide .ensures) in
+    laws.missed (a .names .now) (part (a .s .now) (a .a) (a .e)) (b .i) l g m _ _ (c .before .before .wide .ensures) (c .before .equals .ensures)
+    (laws.name-part (a .s .now) (a .a) (a .e) _ refl (p .1)) (c .if2 .left)
+
+returns-3 : tie.Need-returns-3 Inv-loop μ-loop
+returns-3 c =
+    let a = c .before .before .before .before .before .args in
+    let p = c .before .before .before .before .before .pre in
+    laws.ended (a .names .now) (part (a .s .now) (a .a) (a .e)) (c .before .loop .i) (c .before .loop .inv) (c .loop-test .left)
+
+pub meaning-of-spec : {M : Type 1} → statement M
+meaning-of-spec =
+    tie.close
+    (tie.spec
+    Inv-loop
+    μ-loop
+    sub-n
+    shared-slice-read-meaning-one
+    meaning-one-requires
+    returns
+    loop-holds
+    shared-slice-read-wide
+    wide-requires
+    add-equals
+    equals-requires
+    add-meaning-at
+    shared-slice-read-meaning-at
+    add-meaning-at-2
+    shared-slice-read-meaning-at-2
+    add-meaning-at-3
+    shared-slice-read-meaning-at-3
+    meaning-at-requires
+    returns-2
+    add-i
+    add-i-2
+    loop-less
+    loop-again
+    returns-3)

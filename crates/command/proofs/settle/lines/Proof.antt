@@ -1,0 +1,198 @@
+-- `command::settle::lines` meets its contract. Assumes nothing.
+use Prim.Native.Nat.{ℕ, _+_, _-_, _≤_, _<_}
+use native.Mathlib.Omega.{arith}
+use borrow.Author.Needs.{needs}
+use mathlib.Core.Path.{_≡_, refl, sym, ap, subst, _∙_}
+use mathlib.Core.Bool.{true, false}
+use mathlib.Core.List.{List}
+use lib.ListN.{length, getD, take, drop}
+use Rattle.text.specs.Scan.{part}
+use Rattle.chunk.specs.Inner.{stops}
+use Rattle.command.proofs.Settling as laws
+use Rattle.command.proofs.settle.lines.Statement.{statement}
+use Rattle.command.proofs.settle.lines.Tie as tie
+use Rattle.command.proofs.settle.lines.Reads as reads
+use Rattle.command.proofs.settle.lines.Lts as lts
+use Rattle.chunk.proofs.ending.ends_white.Reads as ends-white-reads
+use Rattle.chunk.proofs.ending.line_end.Reads as line-end-reads
+use Rattle.command.proofs.settle.shift.Reads as shift-reads
+
+abbrev Inv-loop : tie.InvT-loop
+Inv-loop t₀ from to white w₀ i₀ j₀ t w i j = laws.Lining t₀ from to white t w i j
+
+abbrev μ-loop : tie.MeasureT-loop
+μ-loop t₀ from to white w₀ i₀ j₀ t w i j = to - i
+
+loop-holds : tie.Need-loop-holds Inv-loop μ-loop
+loop-holds c =
+    let a = c .before .args in
+    let p = c .before .pre in
+    laws.lining (a .t .now) (a .from) (a .to) (a .white) (p .0)
+
+line-end-requires : tie.Need-line-end-requires Inv-loop μ-loop
+line-end-requires c κs =
+    let a = c .before .before .before .before .args in
+    let p = c .before .before .before .before .pre in
+    let b = c .before .before .loop in
+    let g = b .inv in
+    let l = c .before .loop-test .taken in
+    (g .inside, omega (arith, g .long, p .1))
+
+ends-white-requires : tie.Need-ends-white-requires Inv-loop μ-loop
+ends-white-requires c κs =
+    let a = c .before .before .before .before .before .before .before .args in
+    let p = c .before .before .before .before .before .before .before .pre in
+    let b = c .before .before .before .before .before .loop in
+    let g = b .inv in
+    let l = c .before .before .before .before .loop-test .taken in
+    let n = c .before .before .line-end in
+    (n .ensures .2, omega (arith, n .ensures .3, g .long, p .1))
+
+shift-requires : tie.Need-shift-requires Inv-loop μ-loop
+shift-requires c κs =
+    let a = c .before .before .before .before .before .before .before .before .before .args in
+    let p = c .before .before .before .before .before .before .before .before .before .pre in
+    let b = c .before .before .before .before .before .before .before .loop in
+    let g = b .inv in
+    let l = c .before .before .before .before .before .before .loop-test .taken in
+    let n = c .before .before .before .before .line-end in
+    (g .behind, n .ensures .2, omega (arith, n .ensures .3, g .long, p .1))
+
+loop-less : tie.Need-loop-less Inv-loop μ-loop
+loop-less c =
+    let a = c .before .before .before .before .before .before .before .before .before .before .before .before .args in
+    let p = c .before .before .before .before .before .before .before .before .before .before .before .before .pre in
+    let b = c .before .before .before .before .before .before .before .before .before .before .loop in
+    let g = b .inv in
+    let l = c .before .before .before .before .before .before .before .before .before .loop-test .taken in
+    let n = c .before .before .before .before .before .before .before .line-end in
+    omega (arith, c .before .before .before .before .before .before .if1 .taken, n .ensures .3)
+
+loop-again : tie.Need-loop-again Inv-loop μ-loop
+loop-again c =
+    let a = c .before .before .before .before .before .before .before .before .before .before .before .before .args in
+    let p = c .before .before .before .before .before .before .before .before .before .before .before .before .pre in
+    let b = c .before .before .before .before .before .before .before .before .before .before .loop in
+    let g = b .inv in
+    let l = c .before .before .before .before .before .before .before .before .before .loop-test .taken in
+    let n = c .before .before .before .before .before .before .before .line-end in
+    let y = c .before .before .shift in
+    let w = c .before .before .before .before .ends-white in
+    laws.runs (a .t .now) (a .from) (a .to) (a .white) (b .t) (b .w) (b .i) (b .j) g (p .1) (n .result) (y .result) _ (w .result)
+    (c .before .before .before .before .before .before .if1 .taken) (n .ensures .3) (n .ensures .0) (n .ensures .1) (w .ensures) (y .ensures .0)
+    (y .ensures .1) (y .kept .0)
+
+add-i : tie.Need-add-i Inv-loop μ-loop
+add-i c =
+    let a = c .before .before .before .before .before .before .before .args in
+    let p = c .before .before .before .before .before .before .before .pre in
+    let b = c .before .before .before .before .before .loop in
+    let g = b .inv in
+    let l = c .before .before .before .before .loop-test .taken in
+    omega (arith, l, p .1, g .behind, g .long, c .before .before .before .before .before .before .before .fits)
+
+loop-less-2 : tie.Need-loop-less-2 Inv-loop μ-loop
+loop-less-2 c =
+    let a = c .before .before .before .before .before .before .before .args in
+    let p = c .before .before .before .before .before .before .before .pre in
+    let b = c .before .before .before .before .before .loop in
+    let g = b .inv in
+    let l = c .before .before .before .before .loop-test .taken in
+    omega (arith, l, p .1, g .behind, g .long, c .before .before .before .before .before .before .before .fits)
+
+loop-again-2 : tie.Need-loop-again-2 Inv-loop μ-loop
+loop-again-2 c =
+    let a = c .before .before .before .before .before .before .before .args in
+    let p = c .before .before .before .before .before .before .before .pre in
+    let b = c .before .before .before .before .before .loop in
+    let g = b .inv in
+    let l = c .before .before .before .before .loop-test .taken in
+    let n = c .before .before .line-end in
+    let i : n .result ≡ b .i = omega (arith, n .ensures .2, c .before .if1 .left) in
+    let s = subst (λ (k : ℕ). stops (part (b .t) k (a .to)) ≡ true) i (n .ensures .1) in
+    laws.passes (a .t .now) (a .from) (a .to) (a .white) (b .t) (b .w) (b .i) (b .j) g (p .1) l s (c .if2 .taken)
+
+slice-write-t : tie.Need-slice-write-t Inv-loop μ-loop
+slice-write-t c =
+    let a = c .before .before .before .before .before .before .before .args in
+    let p = c .before .before .before .before .before .before .before .pre in
+    let b = c .before .before .before .before .before .loop in
+    let g = b .inv in
+    let l = c .before .before .before .before .loop-test .taken in
+    omega (arith, l, p .1, g .behind, g .long, c .before .before .before .before .before .before .before .fits)
+
+add-j : tie.Need-add-j Inv-loop μ-loop
+add-j c =
+    let a = c .before .before .before .before .before .before .before .args in
+    let p = c .before .before .before .before .before .before .before .pre in
+    let b = c .before .before .before .before .before .loop in
+    let g = b .inv in
+    let l = c .before .before .before .before .loop-test .taken in
+    omega (arith, l, p .1, g .behind, g .long, c .before .before .before .before .before .before .before .fits)
+
+add-i-2 : tie.Need-add-i-2 Inv-loop μ-loop
+add-i-2 c =
+    let a = c .before .before .before .before .before .before .before .args in
+    let p = c .before .before .before .before .before .before .before .pre in
+    let b = c .before .before .before .before .before .loop in
+    let g = b .inv in
+    let l = c .before .before .before .before .loop-test .taken in
+    omega (arith, l, p .1, g .behind, g .long, c .before .before .before .before .before .before .before .fits)
+
+loop-less-3 : tie.Need-loop-less-3 Inv-loop μ-loop
+loop-less-3 c =
+    let a = c .before .before .before .before .before .before .before .args in
+    let p = c .before .before .before .before .before .before .before .pre in
+    let b = c .before .before .before .before .before .loop in
+    let g = b .inv in
+    let l = c .before .before .before .before .loop-test .taken in
+    omega (arith, l, p .1, g .behind, g .long, c .before .before .before .before .before .before .before .fits)
+
+loop-again-3 : tie.Need-loop-again-3 Inv-loop μ-loop
+loop-again-3 c =
+    let a = c .before .before .before .before .before .before .before .args in
+    let p = c .before .before .before .before .before .before .before .pre in
+    let b = c .before .before .before .before .before .loop in
+    let g = b .inv in
+    let l = c .before .before .before .before .loop-test .taken in
+    let n = c .before .before .line-end in
+    let i : n .result ≡ b .i = omega (arith, n .ensures .2, c .before .if1 .left) in
+    let s = subst (λ (k : ℕ). stops (part (b .t) k (a .to)) ≡ true) i (n .ensures .1) in
+    laws.blanks (a .t .now) (a .from) (a .to) (a .white) (b .t) (b .w) (b .i) (b .j) g (p .1) l s (c .if2 .left)
+
+same-length : tie.Need-same-length Inv-loop μ-loop
+same-length c = c .before .loop .inv .long
+
+returns : tie.Need-returns Inv-loop μ-loop
+returns c =
+    let a = c .before .before .before .args in
+    let p = c .before .before .before .pre in
+    let b = c .before .loop in
+    let g = b .inv in
+    let h = c .loop-test .left in (
+      laws.finished (a .t .now) (a .from) (a .to) (a .white) (b .t) (b .w) (b .i) (b .j) g (p .1) h,
+      (laws.finished-white (a .t .now) (a .from) (a .to) (a .white) (b .t) (b .w) (b .i) (b .j) g (p .1) h, omega (arith, g .behind, g .inside)),
+    )
+
+pub lines-spec : {M : Type 1} → statement M
+lines-spec =
+    tie.close
+    (tie.spec
+    Inv-loop
+    μ-loop
+    loop-holds
+    line-end-requires
+    ends-white-requires
+    shift-requires
+    loop-less
+    loop-again
+    add-i
+    loop-less-2
+    loop-again-2
+    slice-write-t
+    add-j
+    add-i-2
+    loop-less-3
+    loop-again-3
+    same-length
+    returns)

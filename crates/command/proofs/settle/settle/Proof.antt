@@ -1,0 +1,52 @@
+-- `command::settle::settle` meets its contract. Assumes nothing.
+use Prim.Native.Nat.{ℕ, _+_, _-_, _≤_, _<_}
+use native.Mathlib.Omega.{arith}
+use borrow.Author.Needs.{needs}
+use mathlib.Core.Path.{_≡_, refl, sym, ap, subst, _∙_}
+use mathlib.Core.List.{List}
+use Rattle.text.specs.Scan.{part}
+use Rattle.chunk.specs.Format.{Written}
+use Rattle.command.proofs.Stacks.{lays-as, lays-still}
+use Rattle.command.proofs.Settling as laws
+use Rattle.command.proofs.settle.settle.Statement.{statement}
+use Rattle.command.proofs.settle.settle.Tie as tie
+use Rattle.command.proofs.settle.settle.Reads as reads
+use Rattle.command.proofs.settle.settle.Lts as lts
+use Rattle.chunk.proofs.ending.ends_white.Reads as ends-white-reads
+use Rattle.command.proofs.settle.lines.Reads as lines-reads
+
+lines-requires : tie.Need-lines-requires
+lines-requires c κs = search needs
+
+same-length : tie.Need-same-length
+same-length c = search needs
+
+returns : tie.Need-returns
+returns c =
+    let a = c .before .before .before .before .before .before .args in
+    let p = c .before .before .before .before .before .before .pre in
+    let y = c .before .before .lines in
+    let q = laws.settle-normal (a .braces) (a .white) (part (a .t .now) (a .from) (a .to)) (c .before .before .before .before .if1 .taken) in (
+      lays-as (a .from) _ _ (a .t .now) _ _ (ap (λ (x : Written). x .text) q) (y .ensures .0),
+      (y .ensures .1 .0 ∙ ap (λ (x : Written). x .white) q, y .ensures .1 .1),
+    )
+
+ends-white-requires : tie.Need-ends-white-requires
+ends-white-requires c κs = search needs
+
+same-length-2 : tie.Need-same-length-2
+same-length-2 c = search needs
+
+returns-2 : tie.Need-returns-2
+returns-2 c =
+    let a = c .before .before .before .before .args in
+    let p = c .before .before .before .before .pre in
+    let q = laws.settle-verbatim (a .braces) (a .white) (part (a .t .now) (a .from) (a .to)) (c .before .before .if1 .left) in (
+      lays-as (a .from) _ _ (a .t .now) _ _ (ap (λ (x : Written). x .text) q) (lays-still (a .t .now) (a .from) (a .to) (p .0) (p .1)),
+      (c .ends-white .ensures ∙ ap (λ (x : Written). x .white) q, omega arith),
+    )
+
+pub settle-spec : {M : Type 1} → statement M
+settle-spec =
+    tie.close
+    (tie.spec lines-requires same-length returns ends-white-requires same-length-2 returns-2)

@@ -1,0 +1,94 @@
+-- `command::stack::put_code` meets its contract. Assumes nothing.
+use Prim.Native.Nat.{ℕ, _+_, _-_, _≤_, _<_}
+use native.Mathlib.Omega.{arith}
+use mathlib.Core.Path.{_≡_, refl, sym, ap, _∙_}
+use mathlib.Core.List.{List, _++_}
+use lib.ListN.{length, take, drop}
+use Rattle.command.proofs.Stacks as laws
+use borrow.Author.Needs.{needs}
+use Rattle.command.proofs.stack.put_code.Statement.{statement}
+use Rattle.command.proofs.stack.put_code.Tie as tie
+use Rattle.command.proofs.stack.put_code.Reads as reads
+use Rattle.command.proofs.stack.put_code.Lts as lts
+use Rattle.text.proofs.utf8.encode.Reads as encode-reads
+
+sub-encode : tie.Need-sub-encode
+sub-encode c = search needs
+
+part-encode-start : tie.Need-part-encode-start
+part-encode-start c = search needs
+
+part-encode-end : tie.Need-part-encode-end
+part-encode-end c = search needs
+
+encode-requires : tie.Need-encode-requires
+encode-requires c κs = search needs
+
+enum-known-n : tie.Need-enum-known-n
+enum-known-n c = search needs
+
+add-result : tie.Need-add-result
+add-result c =
+    let a = c .before .before .before .before .before .before .before .before .args in
+    let p = c .before .before .before .before .before .before .before .before .pre in
+    let e = laws.wrote-so (a .c) _ _ _ (c .before .before .before .before .before .encode .ensures) (p .0)
+    (laws.room (a .c) (a .out .now) (a .at) (p .1)) (c .before .n .given .0 .0) (c .before .n .given .1) in
+    omega (arith, e, p .1)
+
+enum-told : tie.Need-enum-told
+enum-told c = search needs
+
+enum-told-2 : tie.Need-enum-told-2
+enum-told-2 c = search needs
+
+same-length : tie.Need-same-length
+same-length c = search needs
+
+returns : tie.Need-returns
+returns c =
+    let a = c .before .before .before .before .before .before .before .before .args in
+    let p = c .before .before .before .before .before .before .before .before .pre in
+    let call = c .before .before .before .before .before .encode in
+    let n = c .before .n .given .0 .0 in
+    let e = laws.wrote-so (a .c) _ _ _ (call .ensures) (p .0) (laws.room (a .c) (a .out .now) (a .at) (p .1)) n (c .before .n .given .1) in
+    laws.coded (a .c) _ _ _ (call .ensures) (p .0) (laws.room (a .c) (a .out .now) (a .at) (p .1)) (a .out .now) _ (a .at) n (omega (arith, p .1))
+    (c .before .n .given .1)
+
+same-length-2 : tie.Need-same-length-2
+same-length-2 c = search needs
+
+returns-2 : tie.Need-returns-2
+returns-2 c =
+    let a = c .before .before .before .before .before .before .before .args in
+    let p = c .before .before .before .before .before .before .before .pre in
+    absurd (laws.wrote-some (a .c) _ _ _ (c .before .before .before .before .encode .ensures) (p .0) (laws.room (a .c) (a .out .now) (a .at) (p .1))
+    (ap laws.wroteOf (c .enum-told .given .1)))
+
+same-length-3 : tie.Need-same-length-3
+same-length-3 c = search needs
+
+returns-3 : tie.Need-returns-3
+returns-3 c =
+    let a = c .before .before .before .before .before .before .before .args in
+    let p = c .before .before .before .before .before .before .before .pre in
+    absurd (laws.wrote-some (a .c) _ _ _ (c .before .before .before .before .encode .ensures) (p .0) (laws.room (a .c) (a .out .now) (a .at) (p .1))
+    (ap laws.wroteOf (c .enum-told2 .given .1)))
+
+pub put-code-spec : {M : Type 1} → statement M
+put-code-spec =
+    tie.close
+    (tie.spec
+    sub-encode
+    part-encode-start
+    part-encode-end
+    encode-requires
+    enum-known-n
+    add-result
+    enum-told
+    enum-told-2
+    same-length
+    returns
+    same-length-2
+    returns-2
+    same-length-3
+    returns-3)

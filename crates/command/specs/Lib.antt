@@ -1,0 +1,4 @@
+pub mod Stack
+pub mod Commands
+pub mod Execute
+pub mod Names

@@ -1,0 +1,33 @@
+-- `resolve::content::begin` meets its contract. Assumes nothing.
+use Prim.Native.Nat.{ℕ, _+_, _*_, _≤_, _<_}
+use native.Mathlib.Omega.{arith}
+use mathlib.Core.Path.{_≡_, refl, sym, ap, subst, _∙_}
+use lib.ListN.{length}
+use borrow.Author.Needs.{needs}
+use Rattle.text.specs.Scan.{part}
+use Rattle.resolve.proofs.Arguments.{begun}
+use Rattle.resolve.proofs.content.begin.Statement.{statement}
+use Rattle.resolve.proofs.content.begin.Tie as tie
+
+add-execute-before : tie.Need-add-execute-before
+add-execute-before c = search needs
+
+execute-before-requires : tie.Need-execute-before-requires
+execute-before-requires c κs = search needs
+
+same-length : tie.Need-same-length
+same-length c = search needs
+
+returns : tie.Need-returns
+returns c =
+    let begin = c .before .before .before .before .before .before in
+    let a = begin .args in
+    let p = begin .pre in
+    let lead = c .before .before .execute-before in (
+      begun (part (a .s .now) (a .st .at + 1) (a .end)) (a .m) (a .from) (a .st) (a .out .now) _ (lead .result) _ (lead .ensures .0)
+          (omega (arith, p .0, p .1, p .2, p .3)),
+      lead .ensures .1,
+    )
+
+pub begin-spec : {M : Type 1} → statement M
+begin-spec = tie.close (tie.spec add-execute-before execute-before-requires same-length returns)

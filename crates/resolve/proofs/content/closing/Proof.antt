@@ -1,0 +1,69 @@
+-- `resolve::content::closing` meets its contract. Assumes nothing.
+use Prim.Native.Nat.{ℕ, _+_, _*_, _≤_, _<_}
+use native.Mathlib.Omega.{arith}
+use mathlib.Core.Path.{_≡_, refl, sym, ap, _∙_}
+use mathlib.Core.Bool.{false}
+use lib.ListN.{length, getD}
+use borrow.Author.Needs.{needs}
+use Rattle.resolve.proofs.StepWays.{close-refused, close-again}
+use Rattle.resolve.proofs.content.closing.Statement.{statement}
+use Rattle.resolve.proofs.content.closing.Tie as tie
+
+add-t14 : tie.Need-add-t14
+add-t14 c = search needs
+
+returns : tie.Need-returns
+returns c =
+    let begin = c .before .before .before .before .before .before in
+    let a = begin .args in
+    let p = begin .pre in
+    (close-refused (a .place) (a .verb) (a .s .now) (a .st) (a .out .now) (a .numbers .now) (p .1) (p .2) (c .if1 .taken), tt)
+
+sub-turnaround : tie.Need-sub-turnaround
+sub-turnaround c = search needs
+
+add-turnaround : tie.Need-add-turnaround
+add-turnaround c = search needs
+
+turnaround-requires : tie.Need-turnaround-requires
+turnaround-requires c κs = search needs
+
+same-length : tie.Need-same-length
+same-length c = search needs
+
+same-length-2 : tie.Need-same-length-2
+same-length-2 c = search needs
+
+returns-2 : tie.Need-returns-2
+returns-2 c =
+    let begin = c .before .before .before .before .before .before .before .before .before .before .before .before .before in
+    let a = begin .args in
+    let p = begin .pre in
+    let turn = c .before .before .before .before .turnaround in (
+      close-again (a .place) (a .verb) (a .s .now) (a .st) (a .out .now) (a .numbers .now) (p .1) (p .2)
+          (c .before .before .before .before .before .before .before .if1 .left) (turn .result) _ _ (turn .ensures),
+      record {
+        grows = record {
+          at = omega (arith, turn .ensures .at);
+          inside = omega (arith, turn .ensures .at, p .1);
+          text = omega (arith, turn .ensures .at, turn .ensures .len);
+        };
+        rows = omega (arith, turn .ensures .at, turn .ensures .rows);
+        braces = omega (arith, turn .ensures .at, turn .ensures .braces);
+        from = omega (arith, turn .ensures .from);
+        start = omega (arith, turn .ensures .start, turn .ensures .at);
+      },
+    )
+
+pub closing-spec : {M : Type 1} → statement M
+closing-spec =
+    tie.close
+    (tie.spec
+    add-t14
+    returns
+    sub-turnaround
+    add-turnaround
+    turnaround-requires
+    same-length
+    same-length-2
+    returns-2)

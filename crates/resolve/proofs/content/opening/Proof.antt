@@ -1,0 +1,56 @@
+-- `resolve::content::opening` meets its contract. Assumes nothing.
+use Prim.Native.Nat.{ℕ, _+_, _*_, _≤_, _<_}
+use native.Mathlib.Omega.{arith}
+use mathlib.Core.Path.{_≡_, refl, sym, ap, _∙_}
+use mathlib.Core.Bool.{false}
+use lib.ListN.{length, getD}
+use borrow.Author.Needs.{needs}
+use Rattle.resolve.proofs.StepWays.{open-again}
+use Rattle.resolve.proofs.content.opening.Statement.{statement}
+use Rattle.resolve.proofs.content.opening.Tie as tie
+
+add-turnaround : tie.Need-add-turnaround
+add-turnaround c = search needs
+
+add-turnaround-2 : tie.Need-add-turnaround-2
+add-turnaround-2 c = search needs
+
+turnaround-requires : tie.Need-turnaround-requires
+turnaround-requires c κs = search needs
+
+same-length : tie.Need-same-length
+same-length c = search needs
+
+same-length-2 : tie.Need-same-length-2
+same-length-2 c = search needs
+
+returns : tie.Need-returns
+returns c =
+    let begin = c .before .before .before .before .before .before .before .before .before .before .before .before in
+    let a = begin .args in
+    let p = begin .pre in
+    let turn = c .before .before .before .before .turnaround in (
+      open-again (a .place) (a .verb) (a .s .now) (a .st) (a .out .now) (a .numbers .now) (p .1) (p .2) (turn .result) _ _ (turn .ensures),
+      record {
+        grows = record {
+          at = omega (arith, turn .ensures .at);
+          inside = omega (arith, turn .ensures .at, p .1);
+          text = omega (arith, turn .ensures .at, turn .ensures .len);
+        };
+        rows = omega (arith, turn .ensures .at, turn .ensures .rows);
+        braces = omega (arith, turn .ensures .at, turn .ensures .braces);
+        from = omega (arith, turn .ensures .from);
+        start = omega (arith, turn .ensures .start, turn .ensures .at);
+      },
+    )
+
+pub opening-spec : {M : Type 1} → statement M
+opening-spec =
+    tie.close
+    (tie.spec
+    add-turnaround
+    add-turnaround-2
+    turnaround-requires
+    same-length
+    same-length-2
+    returns)

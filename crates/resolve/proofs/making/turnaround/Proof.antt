@@ -1,0 +1,111 @@
+-- `resolve::making::turnaround` meets its contract. Assumes nothing.
+use Prim.Native.Nat.{ℕ, _+_, _≤_, _<_}
+use native.Mathlib.Omega.{arith}
+use mathlib.Core.Path.{_≡_, refl, sym, ap, _∙_}
+use lib.ListN.{length}
+use borrow.Author.Needs.{needs}
+use Rattle.resolve.proofs.Turnings.{argument-holds, literal-holds}
+use Rattle.resolve.proofs.making.turnaround.Statement.{statement}
+use Rattle.resolve.proofs.making.turnaround.Tie as tie
+
+settle-requires : tie.Need-settle-requires
+settle-requires c κs = search needs
+
+same-length : tie.Need-same-length
+same-length c = search needs
+
+returns : tie.Need-returns
+returns c =
+    let begin = c .before .before .before .before .before .before .before .before in
+    let a = begin .args in
+    let p = begin .pre in
+    let is = c .before .before .before .before .if1 .taken in
+    let settle = c .before .before .settle in
+    record {
+      goes = λ t₀ ps b₀ σ h.
+          argument-holds (a .place) t₀ ps b₀ σ (a .st) (a .out .now) (a .numbers .now) h (p .0 .from) (p .0 .to) (a .end) (a .braces) (a .start) is
+          (settle .result .at) (settle .result .white) _ (settle .ensures .0) (settle .ensures .1 .0);
+      at = refl;
+      braces = refl;
+      start = refl;
+      from = refl;
+      len = settle .ensures .1 .1;
+      rows = omega arith;
+    }
+
+default-chunk-requires : tie.Need-default-chunk-requires
+default-chunk-requires c κs = search needs
+
+add-narrow : tie.Need-add-narrow
+add-narrow c = search needs
+
+narrow-requires : tie.Need-narrow-requires
+narrow-requires c κs = search needs
+
+add-narrow-2 : tie.Need-add-narrow-2
+add-narrow-2 c = search needs
+
+narrow-requires-2 : tie.Need-narrow-requires-2
+narrow-requires-2 c κs = search needs
+
+add-narrow-3 : tie.Need-add-narrow-3
+add-narrow-3 c = search needs
+
+narrow-requires-3 : tie.Need-narrow-requires-3
+narrow-requires-3 c κs = search needs
+
+add-narrow-4 : tie.Need-add-narrow-4
+add-narrow-4 c = search needs
+
+narrow-requires-4 : tie.Need-narrow-requires-4
+narrow-requires-4 c κs = search needs
+
+push-requires : tie.Need-push-requires
+push-requires c κs = c .before .before .before .before .before .before .before .before .before .before .before .before .before .before .before .before .before .pre .0 .rows
+
+same-length-2 : tie.Need-same-length-2
+same-length-2 c = search needs
+
+returns-2 : tie.Need-returns-2
+returns-2 c =
+    let begin = c .before .before .before .before .before .before .before .before .before .before .before .before .before .before .before .before .before .before .before .before in
+    let a = begin .args in
+    let p = begin .pre in
+    let kind = c .before .before .before .before .before .before .before .before .before .before .before .before .before .before .before .default-chunk in
+    let from = c .before .before .before .before .before .before .before .before .before .before .before .before .narrow in
+    let to = c .before .before .before .before .before .before .before .before .before .narrow2 in
+    let first = c .before .before .before .before .before .before .narrow3 in
+    let last = c .before .before .before .before .narrow4 in
+    let push = c .before .before .push in
+    record {
+      goes = λ t₀ ps b₀ σ h.
+          literal-holds (a .place) t₀ ps b₀ σ (a .st) (a .out .now) (a .numbers .now) h (p .0 .from) (p .0 .to) (a .end) (a .braces) (a .start)
+          (c .before .before .before .before .before .before .before .before .before .before .before .before .before .before .before .before .if1 .left) (kind .result) (from .result) (to .result) (first .result) (last .result) (push .result) _ (kind .ensures)
+          (from .ensures) (to .ensures) (first .ensures) (last .ensures) (push .ensures .0);
+      at = refl;
+      braces = refl;
+      start = refl;
+      from = refl;
+      len = omega arith;
+      rows = push .ensures .1 .1;
+    }
+
+pub turnaround-spec : {M : Type 1} → statement M
+turnaround-spec =
+    tie.close
+    (tie.spec
+    settle-requires
+    same-length
+    returns
+    default-chunk-requires
+    add-narrow
+    narrow-requires
+    add-narrow-2
+    narrow-requires-2
+    add-narrow-3
+    narrow-requires-3
+    add-narrow-4
+    narrow-requires-4
+    push-requires
+    same-length-2
+    returns-2)

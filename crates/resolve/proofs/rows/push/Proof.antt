@@ -1,0 +1,67 @@
+-- `resolve::rows::push` meets its contract. Assumes nothing.
+use Prim.Native.Nat.{_+_, _≤_, _<_}
+use native.Mathlib.Omega.{arith}
+use Rattle.resolve.proofs.Pushes.{pushed-new, pushed-join, pushed-some}
+use borrow.Author.Needs.{needs}
+use Rattle.resolve.proofs.rows.push.Statement.{statement}
+use Rattle.resolve.proofs.rows.push.Tie as tie
+
+kind-number-requires : tie.Need-kind-number-requires
+kind-number-requires c κs = search needs
+
+sub-write-chunk : tie.Need-sub-write-chunk
+sub-write-chunk c =
+    let a = c .before .before .before .before .before .before .before .args in
+    let number = c .before .before .before .before .before .kind-number in
+    omega (
+      arith,
+      pushed-some (a .kind) (a .from) (a .to) (a .start) (a .end) (a .have) (a .rows .now) (a .rows .now) (number .result) (number .ensures)
+          (c .before .before .if1 .taken),
+    )
+
+write-chunk-requires : tie.Need-write-chunk-requires
+write-chunk-requires c κs = search needs
+
+same-length : tie.Need-same-length
+same-length c = search needs
+
+returns : tie.Need-returns
+returns c =
+    let a = c .before .before .before .before .before .before .before .before .before .before .args in
+    let number = c .before .before .before .before .before .before .before .before .kind-number in (
+      pushed-join (a .kind) (a .from) (a .to) (a .start) (a .end) (a .have) (a .rows .now) _ (number .result) (number .ensures)
+          (c .before .before .before .before .before .if1 .taken) (c .before .before .write-chunk .ensures),
+      (omega arith, omega arith),
+    )
+
+write-chunk-requires-2 : tie.Need-write-chunk-requires-2
+write-chunk-requires-2 c κs = search needs
+
+add-t21 : tie.Need-add-t21
+add-t21 c = search needs
+
+same-length-2 : tie.Need-same-length-2
+same-length-2 c = search needs
+
+returns-2 : tie.Need-returns-2
+returns-2 c =
+    let a = c .before .before .before .before .before .before .before .before .before .before .args in
+    let number = c .before .before .before .before .before .before .before .before .kind-number in (
+      pushed-new (a .kind) (a .from) (a .to) (a .start) (a .end) (a .have) (a .rows .now) _ (number .result) (number .ensures)
+          (c .before .before .before .before .before .if1 .left) (c .before .before .before .write-chunk2 .ensures),
+      (omega arith, omega arith),
+    )
+
+pub push-spec : {M : Type 1} → statement M
+push-spec =
+    tie.close
+    (tie.spec
+    kind-number-requires
+    sub-write-chunk
+    write-chunk-requires
+    same-length
+    returns
+    write-chunk-requires-2
+    add-t21
+    same-length-2
+    returns-2)

@@ -1,0 +1,99 @@
+-- `resolve::turn::text_at` meets its contract. Assumes nothing.
+use Prim.Native.Nat.{ℕ, _+_, _*_, _≤_, _<_}
+use native.Mathlib.Omega.{arith}
+use mathlib.Core.Path.{_≡_, refl, sym, ap, subst, _∙_}
+use mathlib.Core.Bool.{Bool, true, false, not, _&&_}
+use mathlib.Core.List.{List, _∷_, []}
+use lib.ListN.{length, getD}
+use lib.Dec.{eqb}
+use borrow.Author.Needs.{needs}
+use borrow.Author.Tests.{not-true, not-false}
+use Rattle.resolve.proofs.Turns.{ended}
+use Rattle.resolve.proofs.Texts.{wrote-run, says-as}
+use Rattle.resolve.proofs.CommandAnswers.{hyphen-tests, no-hyphen}
+use Rattle.resolve.proofs.turn.text_at.Statement.{statement}
+use Rattle.resolve.proofs.turn.text_at.Tie as tie
+
+plain-requires : tie.Need-plain-requires
+plain-requires c κs = search needs
+
+copy-requires : tie.Need-copy-requires
+copy-requires c κs = search needs
+
+same-length : tie.Need-same-length
+same-length c = search needs
+
+returns : tie.Need-returns
+returns c =
+    let a = c .before .before .before .before .before .before .before .before .before .before .args in
+    let run = c .before .before .before .before .before .plain in
+    let more = c .before .before .before .before .if1 .taken in
+    let copy = c .before .before .copy in
+    let inside : run .result ≤ length (a .s .now) = omega (arith, run .ensures .1, more) in (
+      wrote-run (a .verb) (a .s .now) (a .at) (a .len) (a .out .now) (run .result) (copy .result) _ (run .ensures) inside (copy .ensures .0),
+      record { at = omega (arith, more); inside = inside; text = omega (arith, more, copy .ensures .1) },
+    )
+
+returns-2 : tie.Need-returns-2
+returns-2 c =
+    let a = c .before .before .before .before .before .before .before .args in
+    ((λ argument d. ended argument (a .verb) d (a .s .now) (a .at) (c .if2 .taken), refl), tt)
+
+shared-slice-read-b : tie.Need-shared-slice-read-b
+shared-slice-read-b c = search needs
+
+backslash-requires : tie.Need-backslash-requires
+backslash-requires c κs = search needs
+
+same-length-2 : tie.Need-same-length-2
+same-length-2 c = search needs
+
+returns-3 : tie.Need-returns-3
+returns-3 c = search needs
+
+hyphens-requires : tie.Need-hyphens-requires
+hyphens-requires c κs =
+    let begin = c .before .before .before .before .before .before .before .before .before .before .before in
+    let is = hyphen-tests _ (begin .args .verb) (c .before .if4 .taken) in
+    (c .before .before .before .before .if2 .left, is .0, begin .pre .1 .room)
+
+same-length-3 : tie.Need-same-length-3
+same-length-3 c = search needs
+
+returns-4 : tie.Need-returns-4
+returns-4 c =
+    let a = c .before .before .before .before .before .before .before .before .before .before .before .before .before .before .args in
+    let call = c .before .before .hyphens in
+    let is = hyphen-tests (getD (a .s .now) (a .at) 0) (a .verb) (c .before .before .before .before .if4 .taken) in
+    (says-as false (a .verb) (a .s .now) (a .at) (a .len) (a .out .now) (call .result) _ (sym (is .1)) (call .ensures .0), call .ensures .1)
+
+other-requires : tie.Need-other-requires
+other-requires c κs =
+    let begin = c .before .before .before .before .before .before .before .before .before .before .before in
+    (begin .pre .1 .place, begin .pre .0, c .before .before .if3 .left, no-hyphen _ (begin .args .verb) (c .before .if4 .left), begin .pre .1 .room)
+
+same-length-4 : tie.Need-same-length-4
+same-length-4 c = search needs
+
+returns-5 : tie.Need-returns-5
+returns-5 c = search needs
+
+pub text-at-spec : {M : Type 1} → statement M
+text-at-spec =
+    tie.close
+    (tie.spec
+    plain-requires
+    copy-requires
+    same-length
+    returns
+    returns-2
+    shared-slice-read-b
+    backslash-requires
+    same-length-2
+    returns-3
+    hyphens-requires
+    same-length-3
+    returns-4
+    other-requires
+    same-length-4
+    returns-5)
