@@ -51,7 +51,8 @@ more-ok rs (bad f) q us e = bad-not-ok q us f e
 file-here : (s : List ℕ) (p q : ℕ) → white s p ≡ ok q [] → file s p ≡ file s q
 file-here s p q e =
     let w : white s q ≡ ok q [] = white-stays s q (white-scanned s p q e .halts) in
-    strict-reading .turns s p ∙ ap (λ (o : Out). after o (λ a q. file s q)) (turn-white s p q e ∙ sym (turn-white s q q w)) ∙ sym (strict-reading .turns s q)
+    strict-reading .turns s p ∙ ap (λ (o : Out). after o (λ a q. file s q)) (turn-white s p q e ∙ sym (turn-white s q q w))
+    ∙ sym (strict-reading .turns s q)
 
 file-later : (s : List ℕ) (p q a : ℕ) (rs : List Row) → fileTurn 0 s p ≡ again q rs a → file s p ≡ more rs (file s q)
 file-later s p q a rs e = strict-reading .turns s p ∙ ap (λ (o : Out). after o (λ c q. file s q)) e
