@@ -176,7 +176,8 @@ def _written(function, text: bytes, chunks: Iterable[Tuple[int, int, int, int, i
     """What a writer writes, where each byte of a chunk is written as so many at most. Two more may stand around a chunk, and
     three around all."""
     text = bytes(text)
-    # A text that is not UTF-8 comes before numbers that are none of a row.
+    # Numbers that cannot be lent are bad rows, but a text that is not UTF-8 comes first: the call refuses either, since one number is
+    # no row.
     try:
         lent = _numbers(chunks)
     except Refusal:

@@ -72,14 +72,18 @@ one-bib-pack κs a x y s t p q = same-call p q
 -- and of the writers, whose lent bytes come third, or fourth behind the flag
 pub one-bib-format-verbatim : Both 6 format-verbatim-kinds.ps format-verbatim-kinds.r format-verbatim.Post
     (λ κs r s r′ t.
-    let a = s .1 .1 .1 in
-    let b = t .1 .1 .1 in
-    SameCall r r′ (now (a .0)) (now (b .0)) (now (a .1 .0)) (now (b .1 .0)) (now (a .1 .1 .0)) (now (b .1 .1 .0)) (now (s .1 .1 .0)) (now (t .1 .1 .0)))
+    let a = s .1 .1 in
+    let b = t .1 .1 in
+    let n = a .1 in
+    let m = b .1 in
+    SameCall r r′ (now (n .0)) (now (m .0)) (now (n .1 .0)) (now (m .1 .0)) (now (n .1 .1 .0)) (now (m .1 .1 .0)) (now (a .0)) (now (b .0)))
 one-bib-format-verbatim κs a x y s t p q = same-call p q
 
 pub one-bib-to-biblatex-string : Both 6 to-biblatex-string-kinds.ps to-biblatex-string-kinds.r to-biblatex-string.Post
     (λ κs r s r′ t.
     let a = s .1 .1 .1 in
     let b = t .1 .1 .1 in
-    SameCall r r′ (now (a .1 .0)) (now (b .1 .0)) (now (a .1 .1 .0)) (now (b .1 .1 .0)) (now (a .1 .1 .1 .0)) (now (b .1 .1 .1 .0)) (now (a .0)) (now (b .0)))
+    let n = a .1 in
+    let m = b .1 in
+    SameCall r r′ (now (n .0)) (now (m .0)) (now (n .1 .0)) (now (m .1 .0)) (now (n .1 .1 .0)) (now (m .1 .1 .0)) (now (a .0)) (now (b .0)))
 one-bib-to-biblatex-string κs a x y s t p q = same-call p q

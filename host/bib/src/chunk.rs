@@ -6,8 +6,9 @@ const NUMBERS: usize = 5;
 /// The braces around a BibLaTeX string, and the extra one that may be open at its end.
 const AROUND: usize = 3;
 
-/// The most bytes that chunks are written as, where each byte of theirs is written as `each` at most
-/// and two more are put around a chunk. Rows that are refused have some number too: they need none.
+/// The most bytes that chunks are written as, where each byte of theirs is written as `each` at
+/// most and two more are put around a chunk. Rows that are refused have some number too: they need
+/// none.
 pub(crate) fn most(text: &[u8], rows: &[u32], each: usize) -> usize {
     let chunk = |row: &[u32]| {
         let length = row[2].saturating_sub(row[1]) as usize;

@@ -58,15 +58,16 @@ pub fn unpack(bytes: &[u8]) -> Result<Rows, Refusal> {
 }
 
 /// Formats chunks verbatim. Their rows are five numbers each: kind (0 Normal, 1 Verbatim, 2 Math),
-/// text start and end, which are bytes of the text, and span start and end, which are not looked at.
+/// text start and end, which are bytes of the text, and span start and end, which are not looked
+/// at.
 pub fn format_verbatim(text: &[u8], rows: &[u32]) -> Result<String, Refusal> {
     // A chunk is at most its text and two dollars.
     let most = chunk::most(text, rows, 1);
     answered(|bytes| proved::format_verbatim(text, rows, bytes), most, 1).map(chunk::text)
 }
 
-/// Writes chunks as a BibLaTeX string, for a verbatim field (as `file` or `url`) or another. The rows
-/// are as in [`format_verbatim`].
+/// Writes chunks as a BibLaTeX string, for a verbatim field (as `file` or `url`) or another. The
+/// rows are as in [`format_verbatim`].
 pub fn to_biblatex_string(text: &[u8], rows: &[u32], is_verbatim: bool) -> Result<String, Refusal> {
     let flag = is_verbatim.into();
     let call = |bytes: &mut [u8]| proved::to_biblatex_string(text, rows, flag, bytes);

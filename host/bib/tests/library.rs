@@ -83,7 +83,8 @@ fn written_chunks() {
     assert_eq!(bib::to_biblatex_string(b"", &[], false).unwrap(), "{}");
 }
 
-/// The most bytes that chunks can be written as find their room: each doubled, and marks around each.
+/// The most bytes that chunks can be written as find their room: each doubled, and marks around
+/// each.
 #[test]
 fn room_enough_to_write() {
     for kind in 0..3 {

@@ -9,8 +9,8 @@ use crate::Random;
 const NUMBERS: usize = 5;
 const KINDS: usize = 3;
 
-/// One of each class that a writer tells apart, for all short sequences: plain characters of one and
-/// two bytes, white space of one and three, both line ends, what is always escaped, and what is
+/// One of each class that a writer tells apart, for all short sequences: plain characters of one
+/// and two bytes, white space of one and three, both line ends, what is always escaped, and what is
 /// escaped unless the field is verbatim.
 pub const CLASSES: [&str; 8] = ["a", "é", " ", "\u{3000}", "\n", "\r", "{", "_"];
 
@@ -82,8 +82,8 @@ impl Chunks<'_> {
     }
 }
 
-/// Changes a text or its rows in one place, mostly so that the text is no UTF-8 any more or a row is
-/// none of its chunks.
+/// Changes a text or its rows in one place, mostly so that the text is no UTF-8 any more or a row
+/// is none of its chunks.
 pub fn break_chunks(random: &mut Random, text: &mut Vec<u8>, rows: &mut Vec<u32>) {
     if random.one_in(3) || rows.len() < NUMBERS {
         break_text(random, text);

@@ -1,5 +1,6 @@
 //! Files to try a reader on: put together from parts, drawn at random by grammar or without,
-//! damaged, and real ones. Rows to try a packer on. And texts with rows of chunks to try a writer on.
+//! damaged, and real ones. Rows to try a packer on. And texts with rows of chunks to try a writer
+//! on.
 
 mod bytes;
 pub mod chunks;

@@ -1,6 +1,6 @@
 //! Compares the proved reader with the Rust, row by row and refusal by refusal; then packing and
-//! unpacking with a Rust packer, salvage with 01's cutting around the Rust, and the writers of chunks
-//! with the Rust's.
+//! unpacking with a Rust packer, salvage with 01's cutting around the Rust, and the writers of
+//! chunks with the Rust's.
 //!
 //!     cargo run --release -p differential                    some 1,600,000 cases, in seconds
 //!     cargo run --release -p differential -- --long          more than seventy million

@@ -1,5 +1,5 @@
-//! One text with rows of its chunks: the proved writers and the Rust's, with several rooms lent, and
-//! everything compared.
+//! One text with rows of its chunks: the proved writers and the Rust's, with several rooms lent,
+//! and everything compared.
 
 use oracle::chunk::Chunk;
 use oracle::{ChunksExt, Refusal, Spanned};
@@ -66,8 +66,8 @@ impl Writes {
         }
     }
 
-    /// Both writers, one of them for both kinds of fields, with just enough room, with one byte less
-    /// and with some to spare.
+    /// Both writers, one of them for both kinds of fields, with just enough room, with one byte
+    /// less and with some to spare.
     pub fn check(&mut self, judge: &mut Judge, text: &[u8], rows: &[u32]) {
         self.all(judge, text, rows, |need| {
             let less = need.checked_sub(1);

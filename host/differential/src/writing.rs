@@ -23,8 +23,8 @@ const LENGTHS: [usize; 8] = [255, 256, 257, 4_096, 32_767, 65_534, 65_535, 65_53
 /// Chunks of a random text, at most.
 const MOST: usize = 8;
 
-/// Every text of at most five (quick: three) characters, one of each class, cut into chunks of every
-/// kind in every way; a cut counts as a character.
+/// Every text of at most five (quick: three) characters, one of each class, cut into chunks of
+/// every kind in every way; a cut counts as a character.
 pub fn sequences(judge: &mut Judge, long: bool) {
     let mut writes = Writes::new();
     writes.check(judge, b"", &[]);
@@ -53,8 +53,8 @@ fn extend(judge: &mut Judge, writes: &mut Writes, text: &str, rows: &[u32], left
     }
 }
 
-/// Characters where white space and escapes are asked for: a line end follows each, in its own chunk
-/// and after a Verbatim one.
+/// Characters where white space and escapes are asked for: a line end follows each, in its own
+/// chunk and after a Verbatim one.
 pub fn characters(judge: &mut Judge, long: bool) {
     let mut writes = Writes::new();
     for c in exhaustive::some_characters(long) {

@@ -10,17 +10,18 @@ pub const CHUNK_NUMBERS: usize = 5;
 const NOT_UTF8: u32 = 2;
 const BAD_ROWS: u32 = 17;
 
-/// The chunks of a text by their rows; or 2 at the first ill-formed sequence of the text, or else 17
-/// for the rows.
+/// The chunks of a text by their rows; or 2 at the first ill-formed sequence of the text, or else
+/// 17 for the rows.
 pub fn chunks(text: &[u8], rows: &[u32]) -> Result<Vec<Spanned<Chunk>>, Refusal> {
     let text = std::str::from_utf8(text).map_err(|error| {
         let place = error.valid_up_to();
         Refusal::new(NOT_UTF8, place..place)
     })?;
-    let whole = rows.len() % CHUNK_NUMBERS == 0;
-    let chunks = rows.chunks_exact(CHUNK_NUMBERS).map(|row| chunk(text, row));
-    let chunks = chunks.collect::<Option<Vec<_>>>().filter(|_| whole);
-    chunks.ok_or_else(|| Refusal::new(BAD_ROWS, 0..0))
+    let rows = rows.chunks_exact(CHUNK_NUMBERS);
+    let is_whole = rows.remainder().is_empty();
+    let chunks: Option<Vec<_>> = rows.map(|row| chunk(text, row)).collect();
+    let refusal = Refusal::new(BAD_ROWS, 0..0);
+    chunks.filter(|_| is_whole).ok_or(refusal)
 }
 
 /// A chunk, unless its row has another kind or a text range outside the text, reversed, or across a

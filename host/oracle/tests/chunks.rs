@@ -3,7 +3,8 @@
 use oracle::chunk::Chunk;
 use oracle::{chunks, ChunksExt, Refusal};
 
-/// Characters of one, two, three and four bytes: they begin at 0, 1, 3 and 6, and the text ends at 10.
+/// Characters of one, two, three and four bytes: they begin at 0, 1, 3 and 6, and the text ends at
+/// 10.
 const TEXT: &str = "aé漢😀";
 
 fn refused(text: &[u8], rows: &[u32], number: u32, place: u32) {
