@@ -18,5 +18,3 @@ pub mod Spells
 pub mod Entries
 -- the laws of the file, and what they say of its rows and of a refusal
 pub mod Files
--- the steps of strict reading: the length of the text, its UTF-8, and then the grammar
-pub mod StrictSteps
