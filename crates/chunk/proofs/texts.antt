@@ -1,7 +1,5 @@
 -- Texts that are read and written octet by octet.
 
--- a text from a place to another
-pub mod Parts
 -- octets put into lent bytes
 pub mod Puts
 -- bytes of a text copied over lent bytes

@@ -24,7 +24,7 @@ use Rattle.compose.proofs.Composition.{composition}
 use Rattle.text.proofs.general.Tests.{both-true}
 use Rattle.command.specs.Stack.{Lays}
 use Rattle.chunk.specs.Format.{lastAt, lastCode}
-use Rattle.chunk.proofs.texts.Parts.{length-part, drop-part}
+use Rattle.text.proofs.general.Parts.{length-part, drop-part}
 use Rattle.chunk.proofs.texts.LastCharacter.{last-less}
 use Rattle.command.specs.Execute.{front, dotted, bare, marked, withMark, lastCharCombine, given}
 use Rattle.command.proofs.Parts.{take-part}

@@ -19,7 +19,7 @@ use Rattle.command.specs.declared.meaning.Meaning.{Meaning}
 use Rattle.command.specs.declared.meaning.Meaning.the-variants.{Itself, Letter, Accent, Slash, Copyright, Hyphenation, Unknown}
 use Rattle.command.specs.Stack.{Lays}
 use Rattle.chunk.specs.Worked.{utf8}
-use Rattle.chunk.proofs.texts.Parts.{length-part}
+use Rattle.text.proofs.general.Parts.{length-part}
 use Rattle.command.specs.Commands.{Named, commands, meaningIn, meaningOf, same}
 use Rattle.command.specs.Execute.{executed, given, absent, leading, Sane}
 use Rattle.command.proofs.Stacks.{lays-as, lays-on, lays-still}

@@ -18,7 +18,7 @@ use Rattle.text.specs.Scan.{part}
 use Rattle.command.specs.declared.meaning.Meaning.{Meaning}
 use Rattle.command.specs.declared.meaning.Meaning.the-variants.{Unknown}
 use Rattle.chunk.specs.Worked.{utf8}
-use Rattle.chunk.proofs.texts.Parts.{part-head, length-part}
+use Rattle.text.proofs.general.Parts.{part-head, length-part}
 use Rattle.command.specs.Commands.{Named, same, commands, meaningIn, meaningOf}
 use Rattle.command.specs.Names.{Row, codeOf, decoded, flat, meaningBy, rowOf, rowsOf, long, names}
 use Rattle.command.proofs.Parts.{part-empty}

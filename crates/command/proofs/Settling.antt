@@ -15,7 +15,7 @@ use lib.Seq.{take-suc-set, drop-set-lt, getD-drop, drop-drop}
 use Rattle.text.specs.Scan.{part}
 use Rattle.chunk.specs.Format.{Written, written, before, endsWhite, lines, isLineEnd, formatOne}
 use Rattle.chunk.specs.Inner.{plain, stops}
-use Rattle.chunk.proofs.texts.Parts.{part-none, part-more, part-head, part-join, length-part}
+use Rattle.text.proofs.general.Parts.{part-none, part-more, part-head, part-join, length-part}
 use Rattle.chunk.proofs.texts.LineEnds.{run-turn, end-white, end-blank}
 use Rattle.command.specs.Stack.{Lays, defaultChunk}
 use Rattle.command.proofs.Stacks.{lays-as, lays-on, lays-still, pushed}

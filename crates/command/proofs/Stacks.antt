@@ -17,7 +17,7 @@ use Rattle.text.specs.Utf8.{isScalar, octets, further, fits, Encode}
 use Rattle.text.specs.declared.utf8.Encoded.{Encoded}
 use Rattle.text.specs.declared.utf8.Encoded.the-variants as encoded
 use Rattle.text.specs.Scan.{part}
-use Rattle.chunk.proofs.texts.Parts.{part-more, length-part, drop-take}
+use Rattle.text.proofs.general.Parts.{part-more, length-part, drop-take}
 use Rattle.command.specs.Stack.{Lays}
 use Rattle.command.proofs.Parts.{take-part}
 

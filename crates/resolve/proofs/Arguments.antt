@@ -14,7 +14,7 @@ use Rattle.chunk.specs.declared.form.Kind.{Kind}
 use Rattle.chunk.specs.declared.form.Kind.the-variants.{Normal, Verbatim}
 use Rattle.chunk.specs.Chunk.{Chunk, chunk}
 use Rattle.chunk.specs.Format.{Written, formatOne, formatFrom, formatVerbatim, lines, whiteFrom}
-use Rattle.chunk.proofs.texts.Parts.{drop-take, length-part}
+use Rattle.text.proofs.general.Parts.{drop-take, length-part}
 use Rattle.chunk.proofs.passes.ChunkByChunk.{format-on}
 use Rattle.command.specs.declared.meaning.Meaning.{Meaning}
 use Rattle.command.specs.Stack.{Lays, defaultChunk}

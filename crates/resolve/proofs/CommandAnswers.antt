@@ -12,8 +12,7 @@ use Rattle.text.specs.Class.{isWhitespace, isControl}
 use Rattle.text.specs.Scan.{see, nextOf, skip, part, Inside}
 use Rattle.text.specs.declared.scanner.Seen.{Seen}
 use Rattle.text.specs.declared.scanner.Seen.the-variants.{End, Char}
-use Rattle.text.proofs.scanning.Seen.{see-inside}
-use Rattle.text.proofs.scanning.LongerText.{see-ahead}
+use Rattle.text.proofs.Seeing.{seeing}
 use Rattle.row.specs.declared.fault.Fault.{Fault}
 use Rattle.row.specs.declared.fault.Reason.the-variants.{UnexpectedEof}
 use Rattle.row.specs.Fault.{faultAt}
@@ -131,7 +130,7 @@ module _ (s : List ℕ) (p c m n : ℕ) (o : List ℕ) (h : Behind s p c m) (k :
 
 module _ (verb : Bool) (s : List ℕ) (p n : ℕ) (o : List ℕ) (l : p < length s) (b : getD s p 0 ≡ 0x5C) {r : Seen} (h : r ≡ see s (p + 1)) where
   past : r ≡ End → length s ≤ p + 1
-  past e = subst (λ (v : Seen). Inside s (p + 1) v) (sym h ∙ e) (see-inside s (p + 1))
+  past e = subst (λ (v : Seen). Inside s (p + 1) v) (sym h ∙ e) (seeing .see-inside s (p + 1))
 
   pub ends-verb : r ≡ End → verb ≡ true → (k : ℕ) (o′ : List ℕ) → Lays n (0x5C ∷ []) o k o′ → SaysText verb s p n o (text.Put (p + 1) k) o′
   ends-verb e v k o′ y =
@@ -148,7 +147,7 @@ module _ (verb : Bool) (s : List ℕ) (p n : ℕ) (o : List ℕ) (l : p < length
     seen = sym h ∙ e
 
     pub char-next : (p + 1 < m) × (m ≤ length s)
-    char-next = see-ahead s (p + 1) c m seen
+    char-next = seeing .see-ahead s (p + 1) c m seen
 
     pub escapes : t ≡ true → (k : ℕ) (o′ : List ℕ) → Lays n (part s (p + 1) m) o k o′ → SaysText verb s p n o (text.Put m k) o′
     escapes g k o′ y = wrote-one verb s p n o m k o′ (part s (p + 1) m) (λ argument d. slash-escape argument d s p l b c m seen verb (sym x ∙ g)) y

@@ -17,9 +17,7 @@ use Rattle.text.specs.Scan.{see, nextOf, skip, fails, part, code, rest, Ahead}
 use Rattle.text.specs.declared.scanner.Seen.{Seen}
 use Rattle.text.specs.declared.scanner.Seen.the-variants.{End, Char}
 use Rattle.text.specs.declared.class.Test.the-variants as test
-use Rattle.text.proofs.scanning.Seen.{see-at, see-end}
-use Rattle.text.proofs.scanning.Skip.{skip-on, skip-ahead}
-use Rattle.text.proofs.scanning.LongerText.{see-ahead}
+use Rattle.text.proofs.Seeing.{seeing}
 use Rattle.row.specs.declared.fault.Reason.the-variants.{UnexpectedEof}
 use Rattle.row.specs.Fault.{faultAt}
 use Rattle.raw.specs.Reader.{OutOf, ok, again, bad, more, andThen, eaten, after, loop, many, turn, stop}
@@ -48,26 +46,26 @@ some (Char c n) = 1
 
 pub char-parts : (s : List ℕ) (p c n : ℕ) → see s p ≡ Char c n → (p < length s) × (c ≡ code (drop p s)) × (n ≡ p + 1 + rest (drop p s))
 char-parts s p c n e =
-    let h = see-ahead s p c n e in
+    let h = seeing .see-ahead s p c n e in
     let l : p < length s = omega (arith, h .0, h .1) in
-    let q = sym e ∙ see-at s p l in
+    let q = sym e ∙ seeing .see-at s p l in
     (l, ap codeIn q, ap placeOf q)
 
 -- white space goes on behind a character of it
 pub white-on : (s : List ℕ) (p c n : ℕ) → see s p ≡ Char c n → isWhitespace c ≡ true → skip isWhitespace s p ≡ skip isWhitespace s n
 white-on s p c n e w =
     let h = char-parts s p c n e in
-    skip-on isWhitespace s p (h .0) (ap isWhitespace (sym (h .1)) ∙ w) ∙ ap (skip isWhitespace s) (sym (h .2))
+    seeing .skip-on isWhitespace s p (h .0) (ap isWhitespace (sym (h .1)) ∙ w) ∙ ap (skip isWhitespace s) (sym (h .2))
 
 next-inside : (s : List ℕ) (p : ℕ) → p ≤ length s → (p ≤ nextOf p (see s p)) × (nextOf p (see s p) ≤ length s)
 next-inside s p h = by (see s p) refl
   where
     by : (v : Seen) → see s p ≡ v → (p ≤ nextOf p v) × (nextOf p v ≤ length s)
     by End e = (omega arith, h)
-    by (Char c n) e = let a = see-ahead s p c n e in (omega (arith, a .0), a .1)
+    by (Char c n) e = let a = seeing .see-ahead s p c n e in (omega (arith, a .0), a .1)
 
 skip-inside : (t : ℕ → Bool) (s : List ℕ) (p : ℕ) → p ≤ length s → (p ≤ skip t s p) × (skip t s p ≤ length s)
-skip-inside t s p h = let a = skip-ahead t s p in (a .from, omega (arith, a .to, h))
+skip-inside t s p h = let a = seeing .skip-ahead t s p in (a .from, omega (arith, a .to, h))
 
 -- ---- where an argument ends
 
@@ -96,7 +94,7 @@ module _ (s : List ℕ) (p : ℕ) (h : p ≤ length s) where
       by : (v : Seen) → see s j ≡ v → EndsTurn (length s) p (more [] (eaten (is 0x7D) v (λ n. ok j [])
           (eaten (is 0x7B) v (λ n. again n [] 1) (bad (faultAt UnexpectedEof j)))))
       by End e = tt
-      by (Char c n) e = let a = see-ahead s j c n e in two (eqb c 0x7D) (eqb c 0x7B) (omega (arith, j-from)) (omega (arith, a .0, a .1))
+      by (Char c n) e = let a = seeing .see-ahead s j c n e in two (eqb c 0x7D) (eqb c 0x7B) (omega (arith, j-from)) (omega (arith, a .0, a .1))
           (omega (arith, a .0, j-from)) (a .1)
         where
           two : (x y : Bool) → p ≤ j → j < length s → p < n → n ≤ length s → EndsTurn (length s) p
@@ -109,7 +107,7 @@ module _ (s : List ℕ) (p : ℕ) (h : p ≤ length s) where
       by : (v : Seen) → see s j ≡ v → EndsTurn (length s) p (more [] (eaten (is 0x7D) v (λ n. again n [] d)
           (eaten (is 0x7B) v (λ n. again n [] (suc (suc d))) (bad (faultAt UnexpectedEof j)))))
       by End e = tt
-      by (Char c n) e = let a = see-ahead s j c n e in two (eqb c 0x7D) (eqb c 0x7B) (omega (arith, a .0, j-from)) (a .1)
+      by (Char c n) e = let a = seeing .see-ahead s j c n e in two (eqb c 0x7D) (eqb c 0x7B) (omega (arith, a .0, j-from)) (a .1)
         where
           two : (x y : Bool) → p < n → n ≤ length s → EndsTurn (length s) p (more []
               (cond x (again n [] d) (cond y (again n [] (suc (suc d))) (bad (faultAt UnexpectedEof j)))))
@@ -176,7 +174,7 @@ opens-inside s w = by (see s w) refl
   where
     by : (v : Seen) → see s w ≡ v → opensAt v ≡ true → w + 1 ≤ length s
     by End e h = let z : _≡_ {A = ℕ} 0 1 = cc in absurd (omega (arith, z))
-    by (Char c n) e h = let a = see-ahead s w c n e in omega (arith, a .0, a .1)
+    by (Char c n) e h = let a = seeing .see-ahead s w c n e in omega (arith, a .0, a .1)
 
 module _ (argument : Reader) (c n : ℕ) (s : List ℕ) (q : ℕ) (h : q ≤ n) (k : n ≤ length s) where
   name-inside : (x : Bool) → (n ≤ cond x n (skip isIdContinue s n)) × (cond x n (skip isIdContinue s n) ≤ length s)
@@ -221,10 +219,10 @@ backslash-fine argument verb s q h = by verb (see s q) refl
     by true End e = fine-ok s q q (omega arith) h
     by false End e = tt
     by true (Char c n) e =
-        let a = see-ahead s q c n e in
+        let a = seeing .see-ahead s q c n e in
         fine-cond s q (isEscape true c) _ _ (fine-ok s q n (omega (arith, a .0)) (a .1)) (fine-ok s q q (omega arith) h)
     by false (Char c n) e =
-        let a = see-ahead s q c n e in
+        let a = seeing .see-ahead s q c n e in
         fine-cond s q (isEscape false c) _ _ (fine-ok s q n (omega (arith, a .0)) (a .1))
         (fine-cond s q (begins c) _ _ (command-fine argument c n s q (omega (arith, a .0)) (a .1)) (fine-ok s q q (omega arith) h))
 
@@ -244,7 +242,7 @@ eaten-sound t s p f o h k = by (see s p) refl
   where
     by : (v : Seen) → see s p ≡ v → Advances 1 0 p (length s) (eaten t v f o)
     by End e = k
-    by (Char c n) e = let a = see-ahead s p c n e in two (t c) (h c n e (a .0) (a .1))
+    by (Char c n) e = let a = seeing .see-ahead s p c n e in two (t c) (h c n e (a .0) (a .1))
       where
         two : (b : Bool) → (b ≡ true → Advances 1 0 p (length s) (f n)) → Advances 1 0 p (length s) (cond b (f n) o)
         two true g = g refl
@@ -268,25 +266,25 @@ maths-sound d s p h = by (skip (fails test.Dollar) s (p + 1)) (skip-inside (fail
 hyphens-sound : (d : ℕ) (s : List ℕ) (p c n : ℕ) → see s p ≡ Char c n → eqb c 0x2D ≡ true → Advances 1 0 p (length s) (andThen (hyphens s p) (turn d s))
 unfolding hyphens
 hyphens-sound d s p c n e t =
-    let a = see-ahead s p c n e in
+    let a = seeing .see-ahead s p c n e in
     rw (e, t) (by (see s n) refl (a .0) (a .1))
   where
     three : (v : Seen) (m : ℕ) → see s m ≡ v → p < m → m ≤ length s
         → Advances 1 0 p (length s) (andThen (eaten (is 0x2D) v (λ r. ok r (put (0xE2 ∷ 0x80 ∷ 0x94 ∷ []) ∷ []))
         (ok m (put (0xE2 ∷ 0x80 ∷ 0x93 ∷ []) ∷ []))) (turn d s))
     three End m e h k = (omega (arith, h), omega (arith, k))
-    three (Char c r) m e h k = let a = see-ahead s m c r e in two (eqb c 0x2D)
+    three (Char c r) m e h k = let a = seeing .see-ahead s m c r e in two (eqb c 0x2D)
       where
         two : (b : Bool) → Advances 1 0 p (length s) (andThen (cond b (ok r (put (0xE2 ∷ 0x80 ∷ 0x94 ∷ []) ∷ []))
             (ok m (put (0xE2 ∷ 0x80 ∷ 0x93 ∷ []) ∷ []))) (turn d s))
-        two true = let a = see-ahead s m c r e in (omega (arith, h, a .0), omega (arith, a .1))
+        two true = let a = seeing .see-ahead s m c r e in (omega (arith, h, a .0), omega (arith, a .1))
         two false = (omega (arith, h), omega (arith, k))
 
     by : (v : Seen) → see s n ≡ v → p < n → n ≤ length s
         → Advances 1 0 p (length s) (andThen (eaten (is 0x2D) v (λ m. eaten (is 0x2D) (see s m) (λ r. ok r (put (0xE2 ∷ 0x80 ∷ 0x94 ∷ []) ∷ []))
         (ok m (put (0xE2 ∷ 0x80 ∷ 0x93 ∷ []) ∷ []))) (ok n (put (0x2D ∷ []) ∷ []))) (turn d s))
     by End f h k = (omega (arith, h), omega (arith, k))
-    by (Char c₁ m) f h k = let a = see-ahead s n c₁ m f in two (eqb c₁ 0x2D) (three (see s m) m refl (omega (arith, h, a .0)) (a .1))
+    by (Char c₁ m) f h k = let a = seeing .see-ahead s n c₁ m f in two (eqb c₁ 0x2D) (three (see s m) m refl (omega (arith, h, a .0)) (a .1))
       where
         two : (b : Bool) → Advances 1 0 p (length s) (andThen (eaten (is 0x2D) (see s m) (λ r. ok r (put (0xE2 ∷ 0x80 ∷ 0x94 ∷ []) ∷ []))
             (ok m (put (0xE2 ∷ 0x80 ∷ 0x93 ∷ []) ∷ []))) (turn d s))

@@ -11,9 +11,7 @@ use Rattle.text.specs.Scan.{see, skip, part, Ahead}
 use Rattle.text.specs.declared.scanner.Seen.{Seen}
 use Rattle.text.specs.declared.scanner.Seen.the-variants.{End, Char}
 use Rattle.text.specs.Scan.{Inside}
-use Rattle.text.proofs.scanning.Seen.{see-inside}
-use Rattle.text.proofs.scanning.Skip.{skip-ahead}
-use Rattle.text.proofs.scanning.LongerText.{see-ahead}
+use Rattle.text.proofs.Seeing.{seeing}
 use Rattle.command.specs.Stack.{Lays}
 use Rattle.command.proofs.Stacks.{lays-as, lays-on}
 use Rattle.resolve.specs.Content.{Reader, begins}
@@ -28,13 +26,13 @@ use Rattle.resolve.proofs.TextWays.{itself-of, copy-turn, blank-turn, c
 past-white : (s : List ℕ) (p c n q : ℕ) → see s p ≡ Char c n → isWhitespace c ≡ true → q ≡ skip isWhitespace s p → Ahead s p q
     → (p < q) × (q ≤ length s) × (n ≤ q)
 past-white s p c n q e w h a =
-    let x = see-ahead s p c n e in
+    let x = seeing .see-ahead s p c n e in
     let y = skip-from s n in
     let z = white-on s p c n e w in
     (omega (arith, x .0, y, z, h), omega (arith, a .to, x .0, x .1), omega (arith, y, z, h))
   where
     skip-from : (s : List ℕ) (n : ℕ) → n ≤ skip isWhitespace s n
-    skip-from s n = skip-ahead isWhitespace s n .from
+    skip-from s n = seeing .skip-ahead isWhitespace s n .from
 
 -- ---- `other`
 
@@ -43,14 +41,14 @@ module _ (verb : Bool) (s : List ℕ) (p n : ℕ) (o : List ℕ) (room : n + 2 *
   other-end h e = ((λ argument d. ended argument verb d s p (past (sym h ∙ e))), refl)
     where
       past : see s p ≡ End → length s ≤ p
-      past q = subst (λ (v : Seen). Inside s p v) q (see-inside s p)
+      past q = subst (λ (v : Seen). Inside s p v) q (seeing .see-inside s p)
 
   module _ {r : Seen} {c m : ℕ} (h : r ≡ see s p) (e : r ≡ Char c m) where
     seen : see s p ≡ Char c m
     seen = sym h ∙ e
 
     pub char-in : (p < m) × (m ≤ length s)
-    char-in = see-ahead s p c m seen
+    char-in = seeing .see-ahead s p c m seen
 
     pub other-white : {w : Bool} (q l : ℕ) (o′ : List ℕ) → w ≡ isWhitespace c → w ≡ true → q ≡ skip isWhitespace s p → Lays n (0x20 ∷ []) o l o′
         → SaysText verb s p n o (text.Put q l) o′

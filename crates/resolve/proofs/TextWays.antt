@@ -18,9 +18,7 @@ use Rattle.text.specs.Scan.{see, skip, fails, part, pastOne, single, code, rest
 use Rattle.text.specs.declared.scanner.Seen.{Seen}
 use Rattle.text.specs.declared.scanner.Seen.the-variants.{End, Char}
 use Rattle.text.specs.declared.class.Test.the-variants as test
-use Rattle.text.proofs.scanning.Seen.{see-end, see-at}
-use Rattle.text.proofs.scanning.Skip.{skip-end, skip-on, skip-stop, skip-ahead}
-use Rattle.text.proofs.scanning.LongerText.{see-ahead}
+use Rattle.text.proofs.Seeing.{seeing}
 use Rattle.row.specs.declared.fault.Reason.the-variants.{UnexpectedEof}
 use Rattle.row.specs.Fault.{faultAt}
 use Rattle.raw.specs.declared.answer.Step.{Step}
@@ -29,7 +27,7 @@ use Rattle.raw.specs.Reader.{OutOf, ok, again, bad, more, andThen, after, turn,
 use Rattle.raw.specs.Grammar.{is}
 use Rattle.raw.proofs.readers.Kept.{Advances}
 use Rattle.raw.proofs.readers.Loop.{advancing-turn}
-use Rattle.chunk.proofs.texts.Parts.{part-head}
+use Rattle.text.proofs.general.Parts.{part-head}
 use Rattle.resolve.specs.Content.{Part, put, Reader, begins, hyphens, endTurn, argumentEnd, contentTurn}
 use Rattle.resolve.specs.Inner.{Behind, Ordinary, endOf}
 use Rattle.resolve.proofs.Sound.{end-sound}
@@ -68,7 +66,7 @@ module _ (s : List ℕ) (p : ℕ) (l : p < length s) (b : getD s p 0 ≡ 0x2D) w
       where
         by : (v : Seen) → see s (p + 1) ≡ v → pastOne (single 0x2D) (p + 1) v ≡ p + 1 → second v ≡ ok (p + 1) (put (0x2D ∷ []) ∷ [])
         by End q k = refl
-        by (Char c n) q k = let a = see-ahead s (p + 1) c n q in pick (eqb c 0x2D) (a .0) k
+        by (Char c n) q k = let a = seeing .see-ahead s (p + 1) c n q in pick (eqb c 0x2D) (a .0) k
           where
             pick : (x : Bool) → p + 1 < n → cond x n (p + 1) ≡ p + 1 → cond x (third n (see s n)) (ok (p + 1) (put (0x2D ∷ []) ∷ [])) ≡ ok (p + 1)
                 (put (0x2D ∷ []) ∷ [])
@@ -93,7 +91,7 @@ module _ (s : List ℕ) (p : ℕ) (l : p < length s) (b : getD s p 0 ≡ 0x2D) w
           where
             by : (v : Seen) → see s two ≡ v → pastOne (single 0x2D) two v ≡ two → third two v ≡ ok two (put enDash ∷ [])
             by End q k = refl
-            by (Char c n) q k = let a = see-ahead s two c n q in pick (eqb c 0x2D) (a .0) k
+            by (Char c n) q k = let a = seeing .see-ahead s two c n q in pick (eqb c 0x2D) (a .0) k
               where
                 pick : (x : Bool) → two < n → cond x n two ≡ two → cond x (ok n (put emDash ∷ [])) (ok two (put enDash ∷ [])) ≡ ok two
                     (put enDash ∷ [])
@@ -181,27 +179,27 @@ copy-turn verb s p c n e k argument d = turn-copy argument verb d s p c n e k
 
 -- where a skip stops inside the text, the test fails
 skip-at : (t : ℕ → Bool) (s : List ℕ) (n i : ℕ) → length s ≤ i + n → skip t s i < length s → t (code (drop (skip t s i) s)) ≡ false
-skip-at t s zero i h l = absurd (omega (arith, h, l, skip-ahead t s i .from))
+skip-at t s zero i h l = absurd (omega (arith, h, l, seeing .skip-ahead t s i .from))
 skip-at t s (suc n) i h l = by (t (code (drop i s))) refl (λ k. skip-at t s n (i + 1 + rest (drop i s)) (omega (arith, h)) k)
   where
     inside : i < length s
-    inside = omega (arith, l, skip-ahead t s i .from)
+    inside = omega (arith, l, seeing .skip-ahead t s i .from)
 
     by : (w : Bool) → t (code (drop i s)) ≡ w
         → (skip t s (i + 1 + rest (drop i s)) < length s → t (code (drop (skip t s (i + 1 + rest (drop i s))) s)) ≡ false)
         → t (code (drop (skip t s i) s)) ≡ false
     by true e ih =
-        let q = skip-on t s i inside e in
+        let q = seeing .skip-on t s i inside e in
         subst (λ (j : ℕ). t (code (drop j s)) ≡ false) (sym q) (ih (omega (arith, l, q)))
-    by false e ih = subst (λ (j : ℕ). t (code (drop j s)) ≡ false) (sym (skip-stop t s i inside e)) e
+    by false e ih = subst (λ (j : ℕ). t (code (drop j s)) ≡ false) (sym (seeing .skip-stop t s i inside e)) e
 
 sound-any : (d : ℕ) (s : List ℕ) (p : ℕ) → Advances 1 0 p (length s) (endTurn d s p)
 unfolding endTurn
 sound-any d s p = by (leb p (length s)) refl
   where
     past : (d : ℕ) → length s ≤ p → Advances 1 0 p (length s) (endTurn d s p)
-    past zero h = rw (skip-end (fails test.Brace) s p h, see-end s p h) tt
-    past (suc d) h = rw (skip-end (fails test.Brace) s p h, see-end s p h) tt
+    past zero h = rw (seeing .skip-end (fails test.Brace) s p h, seeing .see-end s p h) tt
+    past (suc d) h = rw (seeing .skip-end (fails test.Brace) s p h, seeing .see-end s p h) tt
 
     by : (w : Bool) → leb p (length s) ≡ w → Advances 1 0 p (length s) (endTurn d s p)
     by true e = end-sound d s p (leb-true p (length s) e)
@@ -228,8 +226,8 @@ module _ (d : ℕ) (s : List ℕ) (i j : ℕ) (h : j ≡ skip (fails test.Brace)
   end-off l = sym (by-turn (bad (faultAt UnexpectedEof j)) (none d))
     where
       none : (d : ℕ) → endTurn d s i ≡ bad (faultAt UnexpectedEof j)
-      none zero = rw (sym h, see-end s j l) refl
-      none (suc d) = rw (sym h, see-end s j l) refl
+      none zero = rw (sym h, seeing .see-end s j l) refl
+      none (suc d) = rw (sym h, seeing .see-end s j l) refl
 
   module _ (l : j < length s) where
     -- it is a brace
@@ -251,7 +249,7 @@ module _ (d : ℕ) (s : List ℕ) (i j : ℕ) (h : j ≡ skip (fails test.Brace)
         (skip-at (fails test.Brace) s (length s) i (omega arith) (omega (arith, l, h)))
       where
         seen : see s j ≡ Char (code (drop j s)) (j + 1 + rest (drop j s))
-        seen = see-at s j l
+        seen = seeing .see-at s j l
 
         by : (x y : Bool) → eqb (code (drop j s)) 0x7B ≡ x → eqb (code (drop j s)) 0x7D ≡ y
             → fails test.Brace (code (drop (skip (fails test.Brace) s i) s)) ≡ false → see s j ≡ Char 0x7D (j + 1)

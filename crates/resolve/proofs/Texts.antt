@@ -16,7 +16,7 @@ use Rattle.text.specs.declared.scanner.Seen.the-variants.{End, Char}
 use Rattle.text.proofs.general.Below.{each}
 use Rattle.raw.specs.Reader.{OutOf, ok, again, bad, more}
 use Rattle.text.proofs.general.Tests.{both-true}
-use Rattle.chunk.proofs.texts.Parts.{part-none, part-head}
+use Rattle.text.proofs.general.Parts.{part-none, part-head}
 use Rattle.command.specs.Stack.{Lays}
 use Rattle.command.proofs.Stacks.{lays-as}
 use Rattle.resolve.specs.declared.turn.Text.{Text}

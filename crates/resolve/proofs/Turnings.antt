@@ -15,7 +15,7 @@ use Rattle.chunk.specs.declared.form.Kind.{Kind}
 use Rattle.chunk.specs.declared.form.Kind.the-variants.{Verbatim, Math}
 use Rattle.chunk.specs.Chunk.{Chunk, chunk}
 use Rattle.chunk.specs.Format.{Written, formatOne, formatVerbatim, whiteFrom}
-use Rattle.chunk.proofs.texts.Parts.{drop-take}
+use Rattle.text.proofs.general.Parts.{drop-take}
 use Rattle.chunk.proofs.passes.ChunkByChunk.{format-on, white-on}
 use Rattle.command.specs.Stack.{Lays, defaultChunk}
 use Rattle.command.proofs.Stacks.{lays-on}

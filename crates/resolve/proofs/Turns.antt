@@ -19,8 +19,7 @@ use Rattle.text.specs.declared.scanner.Seen.{Seen}
 use Rattle.text.specs.declared.scanner.Seen.the-variants.{End, Char}
 use Rattle.text.specs.declared.class.Test.the-variants as test
 use Rattle.text.proofs.general.Places.{drop-next}
-use Rattle.text.proofs.scanning.Seen.{see-end, see-ascii}
-use Rattle.text.proofs.scanning.Skip.{code-wide}
+use Rattle.text.proofs.Seeing.{seeing}
 use Rattle.row.specs.declared.fault.Fault.{Fault}
 use Rattle.row.specs.declared.fault.Reason.the-variants.{UnexpectedEof, UnexpectedClosingBrace}
 use Rattle.row.specs.Fault.{faultAt}
@@ -34,7 +33,7 @@ use Rattle.resolve.proofs.Sound.{turns-on, char-parts}
 -- ---- characters of ASCII
 
 pub at-byte : (s : List ℕ) (p b : ℕ) → p < length s → getD s p 0 ≡ b → b < 0x80 → see s p ≡ Char b (p + 1)
-at-byte s p b l e h = see-ascii s p l (omega (arith, e, h)) ∙ ap (λ (x : ℕ). Char x (p + 1)) e
+at-byte s p b l e h = seeing .see-ascii s p l (omega (arith, e, h)) ∙ ap (λ (x : ℕ). Char x (p + 1)) e
 
 abbrev codeIn : Seen → ℕ
 codeIn End = 0
@@ -44,9 +43,9 @@ pub byte-of : (s : List ℕ) (p c n : ℕ) → see s p ≡ Char c n → c < 0x80
 byte-of s p c n e h = let k = char-parts s p c n e in by k (ltb (getD s p 0) 0x80) refl
   where
     by : (p < length s) × (c ≡ code (drop p s)) × (n ≡ p + 1 + rest (drop p s)) → (w : Bool) → ltb (getD s p 0) 0x80 ≡ w → getD s p 0 ≡ c
-    by k true q = ap codeIn (sym (see-ascii s p (k .0) (ltb-true _ _ q)) ∙ e)
+    by k true q = ap codeIn (sym (seeing .see-ascii s p (k .0) (ltb-true _ _ q)) ∙ e)
     by k false q =
-        let wide = code-wide (getD s p 0) (drop (p + 1) s) (ltb-false _ _ q) in
+        let wide = seeing .code-wide (getD s p 0) (drop (p + 1) s) (ltb-false _ _ q) in
         absurd (omega (arith, h, k .1, wide, ap code (drop-next s p (k .0))))
 
 -- ---- a turn by the character c at p, which ends at n
@@ -81,7 +80,7 @@ module _ (argument : Reader) (verb : Bool) (d : ℕ) (s : List ℕ) (p : ℕ) wh
 
   pub ended : length s ≤ p → turns argument verb d s p ≡ ok p []
   unfolding contentTurn
-  ended h = on (ok p []) (rw (see-end s p h) refl)
+  ended h = on (ok p []) (rw (seeing .see-end s p h) refl)
 
 -- ---- braces and math
 
@@ -137,11 +136,11 @@ turn-copy argument verb d s p c n e k =
 module _ (argument : Reader) (d : ℕ) (s : List ℕ) (p : ℕ) (l : p < length s) (b : getD s p 0 ≡ 0x5C) where
   pub slash-end-verb : length s ≤ p + 1 → contentTurn argument true d s p ≡ again (p + 1) (put (0x5C ∷ []) ∷ []) d
   unfolding backslash
-  slash-end-verb h = turn-slash argument true d s p l b ∙ rw (see-end s (p + 1) h) refl
+  slash-end-verb h = turn-slash argument true d s p l b ∙ rw (seeing .see-end s (p + 1) h) refl
 
   pub slash-end : length s ≤ p + 1 → contentTurn argument false d s p ≡ bad (faultAt UnexpectedEof (p + 1))
   unfolding backslash
-  slash-end h = turn-slash argument false d s p l b ∙ rw (see-end s (p + 1) h) refl
+  slash-end h = turn-slash argument false d s p l b ∙ rw (seeing .see-end s (p + 1) h) refl
 
   module _ (c n : ℕ) (e : see s (p + 1) ≡ Char c n) where
     pub slash-escape : (verb : Bool) → isEscape verb c ≡ true → contentTurn argument verb d s p ≡ again n (put (part s (p + 1) n) ∷ []) d

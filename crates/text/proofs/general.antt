@@ -6,5 +6,7 @@ pub mod Tests
 pub mod Below
 -- a text from a place on, octet by octet
 pub mod Places
+-- a text from a place to another
+pub mod Parts
 -- what a contract settles: any two outcomes are the same
 pub mod Outcomes

@@ -8,7 +8,7 @@ use mathlib.Core.List.{List, [], _∷_}
 use lib.ListN.{length, getD}
 use Rattle.text.specs.Scan.{part}
 use Rattle.chunk.specs.Put.{Puts}
-use Rattle.chunk.proofs.texts.Parts.{part-none, part-more, length-part}
+use Rattle.text.proofs.general.Parts.{part-none, part-more, length-part}
 use Rattle.chunk.proofs.texts.Puts.{puts-none, puts-past, puts-on, puts-as}
 
 module _ (s : List ℕ) (a : ℕ) where

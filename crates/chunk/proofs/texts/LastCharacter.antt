@@ -21,7 +21,7 @@ use Rattle.text.specs.declared.scanner.Seen.the-variants.{End, Char}
 use Rattle.text.proofs.general.Places.{boundary-in}
 use Rattle.text.proofs.Shapes.{shapes}
 use Rattle.chunk.specs.Format.{lastFrom, lastAt, lastCode, endsWhite}
-use Rattle.chunk.proofs.texts.Parts.{part-none, part-more, length-part, drop-take, drop-part}
+use Rattle.text.proofs.general.Parts.{part-none, part-more, length-part, drop-take, drop-part}
 
 -- ---- its place
 

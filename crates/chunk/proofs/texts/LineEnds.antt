@@ -13,7 +13,7 @@ use Rattle.text.specs.Scan.{part}
 use Rattle.chunk.specs.Format.{Written, written, before, endsWhite, isLineEnd, lines}
 use Rattle.chunk.specs.Inner.{plain, stops}
 use Rattle.chunk.specs.Put.{Puts}
-use Rattle.chunk.proofs.texts.Parts.{part-none, part-more, part-head, part-join, length-part}
+use Rattle.text.proofs.general.Parts.{part-none, part-more, part-head, part-join, length-part}
 use Rattle.chunk.proofs.texts.Puts.{puts-none, puts-on, puts-as}
 
 -- ---- how far a run goes
