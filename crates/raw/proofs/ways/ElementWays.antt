@@ -106,7 +106,8 @@ module _ (s : List ℕ) (i : ℕ) {base n : ℕ} {b b′ : List ℕ} where
   unfolding abbrTurn
   element-off h = then-off _ (said-off h)
 
-  module _ {p m : ℕ} (h : Says base (abbrElement s i) n b (answer.Next p m) b′) {p₂ p₃ : ℕ} (w : p₂ ≡ skip isWhitespace s p) (e : p₃ ≡ pastOne (holdsOf test.Hash) p₂ (see s p₂)) where
+  module _ {p m : ℕ} (h : Says base (abbrElement s i) n b (answer.Next p m) b′) {p₂ p₃ : ℕ} (w : p₂ ≡ skip isWhitespace s p)
+      (e : p₃ ≡ pastOne (holdsOf test.Hash) p₂ (see s p₂)) where
     pub turn-last : p₃ ≡ p₂ → SaysTurn base (abbrTurn 0 s i) n b (turned.Done p₂ m) b′
     unfolding abbrTurn
     turn-last k = turn-then _ h (turn-of (then-on _ (white-on s p w)) (turn-done (eaten-off (holdsOf test.Hash) s p₂ ((white then turn 0) s) (ok p₂ []) e k)))

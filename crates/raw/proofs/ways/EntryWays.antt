@@ -65,7 +65,8 @@ module _ (s : List ℕ) (at : ℕ) {base n : ℕ} {b : List ℕ} {r₁ : Step} (
 
 -- ---- an entry's key, to its fields
 
-module _ (s : List ℕ) (at : ℕ) {base n : ℕ} {b : List ℕ} {p₁ p₂ : ℕ} (e₁ : step.At p₁ ≡ stepOf (key s at)) (e₂ : p₂ ≡ skip isWhitespace s p₁) {r₃ : Step} (e₃ : r₃ ≡ stepOf (comma s p₂)) where
+module _ (s : List ℕ) (at : ℕ) {base n : ℕ} {b : List ℕ} {p₁ p₂ : ℕ} (e₁ : step.At p₁ ≡ stepOf (key s at)) (e₂ : p₂ ≡ skip isWhitespace s p₁)
+    {r₃ : Step} (e₃ : r₃ ≡ stepOf (comma s p₂)) where
   pub body-off : {f : Fault} {a : Answer} {b′ : List ℕ} → r₃ ≡ step.Refused f → a ≡ refusedOf r₃ →
       Says base (body s at) n b a b′ × Within (length s) 1 at n a
   unfolding body
@@ -79,7 +80,8 @@ module _ (s : List ℕ) (at : ℕ) {base n : ℕ} {b : List ℕ} {p₁ p₂ : �
     unfolding body
     body-on h k =
         says-mark kind.Key at _ (key-on s at e₁)
-        (says-of (then-on _ (white-on s p₁ e₂) ∙ then-on _ (rowless-at (comma-rowless s p₂) e₃ d₃) ∙ then-on _ (white-on s p₃ e₄) ∙ then-on _ (comment-on s p₄ e₅) ∙ then-on _ (white-on s p₅ e₆))
+        (says-of (then-on _ (white-on s p₁ e₂) ∙ then-on _ (rowless-at (comma-rowless s p₂) e₃ d₃) ∙ then-on _ (white-on s p₃ e₄) ∙ then-on _
+        (comment-on s p₄ e₅) ∙ then-on _ (white-on s p₅ e₆))
         (rw h at k))
 
 -- ---- an entry after its type
@@ -160,7 +162,8 @@ module _ (s : List ℕ) (at : ℕ) {r₁ : Step} (e₁ : r₁ ≡ stepOf (atSign
             Says base (entry s at) n b r b′ × Within (length s) 1 at n r
         entry-rest-off d h = off-answer (length s) 1 at (typed ∙ then-off _ (said-off (says-at d h))) d
 
-        module _ {r₃ : Answer} {p₃ m p₄ : ℕ} {b₁ : List ℕ} (h : Says base (rest form at p₁ p₂ s p₂) n b r₃ b₁) (d₃ : r₃ ≡ answer.Next p₃ m) (e₄ : p₄ ≡ skip isWhitespace s p₃) {r₅ : Step} (e₅ : r₅ ≡ stepOf (closing s p₄)) where
+        module _ {r₃ : Answer} {p₃ m p₄ : ℕ} {b₁ : List ℕ} (h : Says base (rest form at p₁ p₂ s p₂) n b r₃ b₁) (d₃ : r₃ ≡ answer.Next p₃ m)
+            (e₄ : p₄ ≡ skip isWhitespace s p₃) {r₅ : Step} (e₅ : r₅ ≡ stepOf (closing s p₄)) where
           pub entry-end-off : {x : Fault} {a : Answer} {b′ : List ℕ} → r₅ ≡ step.Refused x → a ≡ refusedOf r₅ →
               Says base (entry s at) n b a b′ × Within (length s) 1 at n a
           entry-end-off d k =

@@ -43,7 +43,8 @@ module _ (k : Kind) (s : List ℕ) (i : ℕ) {r₁ : Step} (e₁ : r₁ ≡ step
     unfolding field
     equals-off d = rw (rowless-at (ident-rowless s i) e₁ d₁, white-on s p₁ w₂, rowless-off (equals s p₂) e₃ d)
 
-    module _ {p₃ : ℕ} (d₃ : r₃ ≡ step.At p₃) {p₄ : ℕ} (w₄ : p₄ ≡ skip isWhitespace s p₃) {base n : ℕ} {b c b′ : List ℕ} (put : c ≡ putRow b n (row k (base + i) (base + p₁))) {r : Answer} (h : Says base (abbrField s p₄) (n + 1) c r b′) where
+    module _ {p₃ : ℕ} (d₃ : r₃ ≡ step.At p₃) {p₄ : ℕ} (w₄ : p₄ ≡ skip isWhitespace s p₃) {base n : ℕ} {b c b′ : List ℕ}
+        (put : c ≡ putRow b n (row k (base + i) (base + p₁))) {r : Answer} (h : Says base (abbrField s p₄) (n + 1) c r b′) where
       to-value : {q : Answer} {d : List ℕ} → Says base ((abbrField then white then comment) s p₄) (n + 1) c q d → Says base (field k s i) n b q d
       unfolding field
       to-value w =

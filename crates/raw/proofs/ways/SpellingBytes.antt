@@ -1,5 +1,5 @@
 -- The spelling of an entry's type, byte by byte: an ASCII word is spelled by ASCII characters only, one byte each.
---     spells-length            a text as long as no spelling of the word spells it not
+--     spells-length            a text whose length differs from the word's does not spell it
 --     spells-on, spells-off    a byte that spells the next letter, and one that does not
 --     spells-done              after the last
 --     ascii-word               a word of ASCII, by computing

@@ -72,7 +72,8 @@ loop-again c =
       omega arith,
       w .write-numbers .kept .0 ∙ m .3,
       m .4,
-      unpack-turn (a .bytes .now) (a .rows .now) (l .before .loop .p) (l .before .loop .n) r (l .before .loop .rows) _ (omega arith) (rw (x .three .ensures .0, y .three2 .ensures .0))
+      unpack-turn (a .bytes .now) (a .rows .now) (l .before .loop .p) (l .before .loop .n) r (l .before .loop .rows) _ (omega arith)
+          (rw (x .three .ensures .0, y .three2 .ensures .0))
           (w .write-numbers .ensures) (m .5),
     )
 

@@ -31,7 +31,8 @@ returns : tie.Need-returns
 returns c =
     let m = c .before .before .before in
     let a = m .before .before .before .before .before .args in
-    body-off (a .s .now) (a .at) (m .before .before .key .ensures .0) (m .before .eat-whitespace .ensures .0) (m .comma .ensures .0) (c .before .enum-told .given .1) (c .refused .ensures)
+    body-off (a .s .now) (a .at) (m .before .before .key .ensures .0) (m .before .eat-whitespace .ensures .0) (m .comma .ensures .0)
+    (c .before .enum-told .given .1) (c .refused .ensures)
 
 eat-whitespace-requires-2 : tie.Need-eat-whitespace-requires-2
 eat-whitespace-requires-2 c κs = search needs
@@ -59,7 +60,8 @@ fields-requires c κs =
     let m = c .before .before .before .before .before .before .before .before .before in
     let a = m .before .before .before .before .before .before .before .args in
     let k = step-place (length (a .s .now)) 1 (m .before .before .before .eat-whitespace .result) (m .r3 .given .1) (m .before .before .comma .ensures .1) (omega arith) in
-    ready-later (c .before .before .before .before .before .eat-whitespace3 .result) (a .n + 1) (m .before .before .before .before .before .before .before .pre) (omega arith) (omega arith) (omega arith)
+    ready-later (c .before .before .before .before .before .eat-whitespace3 .result) (a .n + 1)
+    (m .before .before .before .before .before .before .before .pre) (omega arith) (omega arith) (omega arith)
 
 same-length : tie.Need-same-length
 same-length c = search needs
@@ -70,8 +72,12 @@ returns-2 c =
     let a = m .before .before .before .before .before .before .before .args in
     let k = step-place (length (a .s .now)) 1 (m .before .before .before .eat-whitespace .result) (m .r3 .given .1) (m .before .before .comma .ensures .1) (omega arith) in
     let w = c .before .before .before .before .before .before .before .before in (
-      body-on (a .s .now) (a .at) (m .before .before .before .before .key .ensures .0) (m .before .before .before .eat-whitespace .ensures .0) (m .before .before .comma .ensures .0) (m .r3 .given .1) (w .before .before .eat-whitespace2 .ensures .0) (w .before .comment .ensures .0) (w .eat-whitespace3 .ensures .0) (c .before .before .before .before .before .before .put-row .ensures) (c .before .before .fields .ensures .0),
-      within-later (length (a .s .now)) 0 (w .eat-whitespace3 .result) (a .n + 1) 1 (a .at) (a .n) (c .before .before .fields .result) (omega arith) (omega arith) (omega arith) (c .before .before .fields .ensures .1),
+      body-on (a .s .now) (a .at) (m .before .before .before .before .key .ensures .0) (m .before .before .before .eat-whitespace .ensures .0)
+          (m .before .before .comma .ensures .0) (m .r3 .given .1) (w .before .before .eat-whitespace2 .ensures .0) (w .before .comment .ensures .0)
+          (w .eat-whitespace3 .ensures .0) (c .before .before .before .before .before .before .put-row .ensures)
+          (c .before .before .fields .ensures .0),
+      within-later (length (a .s .now)) 0 (w .eat-whitespace3 .result) (a .n + 1) 1 (a .at) (a .n) (c .before .before .fields .result) (omega arith)
+          (omega arith) (omega arith) (c .before .before .fields .ensures .1),
     )
 
 pub body-spec : {M : Type 1} → statement M

@@ -33,7 +33,8 @@ returns-2 c =
     let eat-whitespace = opening .before in
     let asked = eat-whitespace .before .before in
     let a = asked .args in
-    lead-on (a .s .now) (a .at) (eat-whitespace .eat-whitespace .ensures .0) (eat-whitespace .eat-whitespace .ensures .1) (opening .opening .ensures .0) (opening .opening .ensures .1) (r2 .r2 .given .1)
+    lead-on (a .s .now) (a .at) (eat-whitespace .eat-whitespace .ensures .0) (eat-whitespace .eat-whitespace .ensures .1)
+    (opening .opening .ensures .0) (opening .opening .ensures .1) (r2 .r2 .given .1)
     (c .eat-whitespace2 .ensures .0) (c .eat-whitespace2 .ensures .1)
 
 pub lead-spec : {M : Type 1} → statement M

@@ -131,7 +131,8 @@ returns-3 c =
     let asked = name .before .before .before in
     let a = asked .args in
     let abbr-field = c .before .before .before .before .abbr-field in (
-      value-off (a .kind) (a .s .now) (a .at) (name .name .ensures .0) (r1 .r1 .given .1) (eat-whitespace .eat-whitespace .ensures .0) (equals .equals .ensures .0) (r3 .r3 .given .1)
+      value-off (a .kind) (a .s .now) (a .at) (name .name .ensures .0) (r1 .r1 .given .1) (eat-whitespace .eat-whitespace .ensures .0)
+          (equals .equals .ensures .0) (r3 .r3 .given .1)
           (eat-whitespace2 .eat-whitespace2 .ensures .0) (put-row .put-row .ensures) (abbr-field .ensures .0) (c .enum-told3 .given .1),
       off-within (length (a .s .now)) 3 (a .at) (a .n) (c .enum-told3 .given .1),
     )
@@ -147,11 +148,16 @@ same-length-2 c = search needs
 
 returns-4 : tie.Need-returns-4
 returns-4 c =
-    let a = c .before .before .before .before .before .before .before .before .before .before .before .before .before .before .before .before .before .before .before .before .before .before .before .before .before .args in
-    let asked = c .before .before .before .before .before .before .before .before .before .before .before .before .before .before .before .before .before .before .before .before .before .before .before .before .before .pre in
-    let name = c .before .before .before .before .before .before .before .before .before .before .before .before .before .before .before .before .before .before .before .before .before .before .name in
-    let r1 = c .before .before .before .before .before .before .before .before .before .before .before .before .before .before .before .before .before .before .before .before .r1 in
-    let eat-whitespace = c .before .before .before .before .before .before .before .before .before .before .before .before .before .before .before .before .before .before .eat-whitespace in
+    let a = c .before .before .before .before .before .before .before .before .before .before .before
+    .before .before .before .before .before .before .before .before .before .before .before .before .before .before .args in
+    let asked = c .before .before .before .before .before .before .before .before .before .before .before
+    .before .before .before .before .before .before .before .before .before .before .before .before .before .before .pre in
+    let name = c .before .before .before .before .before .before .before .before .before .before .before
+    .before .before .before .before .before .before .before .before .before .before .before .name in
+    let r1 = c .before .before .before .before .before .before .before .before .before .before .before
+    .before .before .before .before .before .before .before .before .before .r1 in
+    let eat-whitespace = c .before .before .before .before .before .before .before .before .before .before
+    .before .before .before .before .before .before .before .before .eat-whitespace in
     let equals = c .before .before .before .before .before .before .before .before .before .before .before .before .before .before .before .before .before .equals in
     let r3 = c .before .before .before .before .before .before .before .before .before .before .before .before .before .before .before .r3 in
     let eat-whitespace2 = c .before .before .before .before .before .before .before .before .before .before .before .before .before .eat-whitespace2 in

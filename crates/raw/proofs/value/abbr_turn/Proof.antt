@@ -49,7 +49,8 @@ returns-2 c =
     let a = asked .args in
     let len = length (a .s .now) in
     let k = answer-place len 1 (a .at) (a .n) (r12 .r12 .given .1) (abbr-element .abbr-element .ensures .1) (asked .pre .place) in (
-      turn-last (a .s .now) (a .at) (says-at (r12 .r12 .given .1) (abbr-element .abbr-element .ensures .0)) (eat-whitespace .eat-whitespace .ensures .0) (eat-byte .eat-byte .ensures .0)
+      turn-last (a .s .now) (a .at) (says-at (r12 .r12 .given .1) (abbr-element .abbr-element .ensures .0))
+          (eat-whitespace .eat-whitespace .ensures .0) (eat-byte .eat-byte .ensures .0)
           (c .if1 .taken),
       (omega arith, omega arith, omega arith),
     )
@@ -72,7 +73,8 @@ returns-3 c =
     let a = asked .args in
     let len = length (a .s .now) in
     let k = answer-place len 1 (a .at) (a .n) (r12 .r12 .given .1) (abbr-element .abbr-element .ensures .1) (asked .pre .place) in (
-      turn-hash (a .s .now) (a .at) (says-at (r12 .r12 .given .1) (abbr-element .abbr-element .ensures .0)) (eat-whitespace .eat-whitespace .ensures .0) (eat-byte .eat-byte .ensures .0)
+      turn-hash (a .s .now) (a .at) (says-at (r12 .r12 .given .1) (abbr-element .abbr-element .ensures .0))
+          (eat-whitespace .eat-whitespace .ensures .0) (eat-byte .eat-byte .ensures .0)
           (if1 .if1 .left) (c .eat-whitespace2 .ensures .0),
       (omega arith, omega arith, omega arith),
     )

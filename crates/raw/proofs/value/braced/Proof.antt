@@ -30,7 +30,8 @@ returns c =
     let a = opened .before .before .before .args in
     let s = a .s .now in
     off-step (length s) 2 (a .at)
-    (opens-off opening inBraces closing s (a .at) (opening-rowless s (a .at)) (in-braces-rowless s) (closing-rowless s) (opened .opening .ensures .0) told) told (c .refused .ensures)
+    (opens-off opening inBraces closing s (a .at) (opening-rowless s (a .at)) (in-braces-rowless s) (closing-rowless s)
+    (opened .opening .ensures .0) told) told (c .refused .ensures)
 
 in-braces-requires : tie.Need-in-braces-requires
 in-braces-requires c κs = search needs

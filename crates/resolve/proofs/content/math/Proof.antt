@@ -43,7 +43,8 @@ same-length-2 c = search needs
 
 returns-2 : tie.Need-returns-2
 returns-2 c =
-    let begin = c .before .before .before .before .before .before .before .before .before .before .before .before .before .before .before .before .before .before .before .before .before in
+    let begin = c .before .before .before .before .before .before .before .before .before .before .before
+    .before .before .before .before .before .before .before .before .before .before in
     let a = begin .args in
     let p = begin .pre in
     let eat = c .before .before .before .before .before .before .before .before .before .before .before .before .before .before .before .eat-until in

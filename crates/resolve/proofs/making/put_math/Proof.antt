@@ -84,7 +84,8 @@ same-length-3 c = search needs
 
 returns-2 : tie.Need-returns-2
 returns-2 c =
-    let begin = c .before .before .before .before .before .before .before .before .before .before .before .before .before .before .before .before .before .before .before .before .before .before in
+    let begin = c .before .before .before .before .before .before .before .before .before .before .before
+    .before .before .before .before .before .before .before .before .before .before .before in
     let a = begin .args in
     let p = begin .pre in
     let copy = c .before .before .before .before .before .before .before .before .before .before .before .before .before .before .before .copy2 in
@@ -97,7 +98,8 @@ returns-2 c =
       goes = λ t₀ ps b₀ σ h.
           math-literal (a .place) t₀ ps b₀ σ (a .st) (a .out .now) (a .numbers .now) h (p .0 .3) (part (a .s .now) (a .from) (a .to)) (a .from)
           (a .to) _ (copy .result)
-          (c .before .before .before .before .before .before .before .before .before .before .before .before .before .before .before .before .before .if1 .left) (copy .ensures .0) (begins .result) (ends .result) (first .result) (last .result) (push .result) _ (begins .ensures)
+          (c .before .before .before .before .before .before .before .before .before .before .before .before .before .before .before .before .before .if1 .left)
+          (copy .ensures .0) (begins .result) (ends .result) (first .result) (last .result) (push .result) _ (begins .ensures)
           (ends .ensures) (first .ensures) (last .ensures) (push .ensures .0);
       at = refl;
       braces = refl;

@@ -80,7 +80,8 @@ returns-2 c =
     record {
       goes = λ t₀ ps b₀ σ h.
           literal-holds (a .place) t₀ ps b₀ σ (a .st) (a .out .now) (a .numbers .now) h (p .0 .from) (p .0 .to) (a .end) (a .braces) (a .start)
-          (c .before .before .before .before .before .before .before .before .before .before .before .before .before .before .before .before .if1 .left) (kind .result) (from .result) (to .result) (first .result) (last .result) (push .result) _ (kind .ensures)
+          (c .before .before .before .before .before .before .before .before .before .before .before .before .before .before .before .before .if1 .left)
+          (kind .result) (from .result) (to .result) (first .result) (last .result) (push .result) _ (kind .ensures)
           (from .ensures) (to .ensures) (first .ensures) (last .ensures) (push .ensures .0);
       at = refl;
       braces = refl;

@@ -75,7 +75,8 @@ returns-2 c =
     let a = asked .args in
     let m = l .before .loop .inv in
     bad-rows (a .rows .now) (m .0)
-    (named-other (a .rows .now) (l .before .loop .i) (l .before .loop .state) _ _ _ (omega arith) (step .step .ensures) (state .state .given .1) (value-row .value-row .ensures) (m .3)
+    (named-other (a .rows .now) (l .before .loop .i) (l .before .loop .state) _ _ _ (omega arith) (step .step .ensures) (state .state .given .1)
+    (value-row .value-row .ensures) (m .3)
     (c .enum-told .given .1))
 
 loop-less-2 : tie.Need-loop-less-2 Inv-loop μ-loop
@@ -88,7 +89,8 @@ loop-less-2 c =
     let asked = l .before .before .before .before in
     let a = asked .args in
     let m = l .before .loop .inv in
-    let x = named-value (a .rows .now) (l .before .loop .i) (l .before .loop .state) _ _ _ (omega arith) (step .step .ensures) (state .state .given .1) (value-row .value-row .ensures) (m .3)
+    let x = named-value (a .rows .now) (l .before .loop .i) (l .before .loop .state) _ _ _ (omega arith) (step .step .ensures)
+    (state .state .given .1) (value-row .value-row .ensures) (m .3)
     _ (next .next .given .1) in
     omega (arith, x .0 .0, x .0 .1)
 
@@ -102,7 +104,8 @@ loop-again-2 c =
     let asked = l .before .before .before .before in
     let a = asked .args in
     let m = l .before .loop .inv in
-    let x = named-value (a .rows .now) (l .before .loop .i) (l .before .loop .state) _ _ _ (omega arith) (step .step .ensures) (state .state .given .1) (value-row .value-row .ensures) (m .3)
+    let x = named-value (a .rows .now) (l .before .loop .i) (l .before .loop .state) _ _ _ (omega arith) (step .step .ensures)
+    (state .state .given .1) (value-row .value-row .ensures) (m .3)
     _ (next .next .given .1) in
     (m .0, omega (arith, x .0 .0), omega (arith, x .0 .0, x .0 .1), x .1)
 

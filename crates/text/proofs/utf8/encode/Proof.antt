@@ -79,7 +79,8 @@ returns-5 c =
     let is-scalar = if1 .before in
     let asked = is-scalar .before .before in
     let a = asked .args in
-    encode-two (a .c) (a .out .now) (sym (is-scalar .is-scalar .ensures) ∙ not-false _ (if1 .if1 .left)) (if2 .if2 .left) (if4 .if4 .taken) (if5 .if5 .left) (c .further-of .ensures)
+    encode-two (a .c) (a .out .now) (sym (is-scalar .is-scalar .ensures) ∙ not-false _ (if1 .if1 .left)) (if2 .if2 .left) (if4 .if4 .taken)
+    (if5 .if5 .left) (c .further-of .ensures)
 
 returns-6 : tie.Need-returns-6
 returns-6 c =
@@ -125,7 +126,8 @@ returns-7 c =
     let is-scalar = if1 .before in
     let asked = is-scalar .before .before in
     let a = asked .args in
-    encode-three (a .c) (a .out .now) (sym (is-scalar .is-scalar .ensures) ∙ not-false _ (if1 .if1 .left)) (if4 .if4 .left) (if6 .if6 .taken) (if7 .if7 .left) (further-of2 .further-of2 .ensures)
+    encode-three (a .c) (a .out .now) (sym (is-scalar .is-scalar .ensures) ∙ not-false _ (if1 .if1 .left)) (if4 .if4 .left) (if6 .if6 .taken)
+    (if7 .if7 .left) (further-of2 .further-of2 .ensures)
     (c .further-of3 .ensures)
 
 returns-8 : tie.Need-returns-8
