@@ -4,17 +4,8 @@ use Rattle.bib.proofs.Exports.{exported}
 use Rattle.bib.proofs.bib_pack.Statement.{statement}
 use Rattle.bib.proofs.bib_pack.Tie as tie
 
-pack-requires : tie.Need-pack-requires
-pack-requires c κs = search needs
-
-tell-requires : tie.Need-tell-requires
-tell-requires c κs = search needs
-
-same-length : tie.Need-same-length
-same-length c = search needs
-
 returns : tie.Need-returns
 returns c = let h = c .before .before .before .before .before .before .pack .ensures in exported (h .answer) (h .bytes) (c .tell .ensures)
 
 pub bib-pack-spec : {M : Type 1} → statement M
-bib-pack-spec = tie.close (tie.spec pack-requires tell-requires same-length returns)
+bib-pack-spec = tie.close (tie.spec (λ c κs. search needs) (λ c κs. search needs) (λ c. search needs) returns)

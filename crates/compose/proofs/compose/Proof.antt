@@ -9,15 +9,6 @@ use Rattle.compose.proofs.Composition.{composition}
 use Rattle.compose.proofs.compose.Statement.{statement}
 use Rattle.compose.proofs.compose.Tie as tie
 
-table-requires : tie.Need-table-requires
-table-requires c κs = search needs
-
-slice-aggregate-find : tie.Need-slice-aggregate-find
-slice-aggregate-find c = search needs
-
-find-requires : tie.Need-find-requires
-find-requires c κs = search needs
-
 returns : tie.Need-returns
 returns c =
     let a = c .before .before .before .args in
@@ -25,4 +16,4 @@ returns c =
     c .find .ensures ∙ ap (λ (t : List ℕ). halved t (a .letter) (a .mark)) (table .ensures) ∙ composition .halves (a .letter) (a .mark)
 
 pub compose-spec : {M : Type 1} → statement M
-compose-spec = tie.close (tie.spec table-requires slice-aggregate-find find-requires returns)
+compose-spec = tie.close (tie.spec (λ c κs. search needs) (λ c. search needs) (λ c κs. search needs) returns)

@@ -48,9 +48,6 @@ mul-m-2 c = omega arith
 shared-slice-read-m : tie.Need-shared-slice-read-m Inv-loop μ-loop
 shared-slice-read-m c = omega arith
 
-is-before-requires : tie.Need-is-before-requires Inv-loop μ-loop
-is-before-requires c κs = search needs
-
 add-lo : tie.Need-add-lo Inv-loop μ-loop
 add-lo c = omega arith
 
@@ -64,9 +61,6 @@ loop-again c =
     let i = r .before .loop in
     let low = sym (c .before .is-before .ensures) ∙ c .if1 .taken in
     (omega arith, omega arith, on-behind (a .t .now) (a .letter) (a .mark) (i .lo) (i .hi) (r .loop-test .taken) low ∙ i .inv .2)
-
-is-before-requires-2 : tie.Need-is-before-requires-2 Inv-loop μ-loop
-is-before-requires-2 c κs = search needs
 
 loop-less-2 : tie.Need-loop-less-2 Inv-loop μ-loop
 loop-less-2 c = omega arith
@@ -126,11 +120,11 @@ find-spec =
     add-m
     mul-m-2
     shared-slice-read-m
-    is-before-requires
+    (λ c κs. search needs)
     add-lo
     loop-less
     loop-again
-    is-before-requires-2
+    (λ c κs. search needs)
     loop-less-2
     loop-again-2
     mul-t19

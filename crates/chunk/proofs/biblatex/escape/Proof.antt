@@ -7,18 +7,6 @@ use Rattle.chunk.proofs.texts.Escapes.{escape-some, escape-none}
 use Rattle.chunk.proofs.biblatex.escape.Statement.{statement}
 use Rattle.chunk.proofs.biblatex.escape.Tie as tie
 
-is-escapable-requires : tie.Need-is-escapable-requires
-is-escapable-requires c κs = search needs
-
-put-requires : tie.Need-put-requires
-put-requires c κs = search needs
-
-put-requires-2 : tie.Need-put-requires-2
-put-requires-2 c κs = search needs
-
-same-length : tie.Need-same-length
-same-length c = search needs
-
 returns : tie.Need-returns
 returns c =
     let test = c .before .before .before .before .before .before .before .before in
@@ -28,12 +16,6 @@ returns c =
     let y = c .before .before .put2 in
     let e = escape-some (a .verb) (a .b) (sym (test .before .is-escapable .ensures) ∙ test .if1 .taken) in
     (puts-as e (puts-on (x .ensures .0) (y .ensures .0)), omega (arith, x .ensures .1, y .ensures .1))
-
-put-requires-3 : tie.Need-put-requires-3
-put-requires-3 c κs = search needs
-
-same-length-2 : tie.Need-same-length-2
-same-length-2 c = search needs
 
 returns-2 : tie.Need-returns-2
 returns-2 c =
@@ -47,11 +29,11 @@ pub escape-spec : {M : Type 1} → statement M
 escape-spec =
     tie.close
     (tie.spec
-    is-escapable-requires
-    put-requires
-    put-requires-2
-    same-length
+    (λ c κs. search needs)
+    (λ c κs. search needs)
+    (λ c κs. search needs)
+    (λ c. search needs)
     returns
-    put-requires-3
-    same-length-2
+    (λ c κs. search needs)
+    (λ c. search needs)
     returns-2)

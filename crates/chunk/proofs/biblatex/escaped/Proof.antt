@@ -24,17 +24,8 @@ loop-holds c =
     let a = entry .args in
     (laws.escaped-start (a .verb) (a .t .now) (a .from) (a .out .now) (a .at), omega arith, entry .pre .0, omega arith, refl)
 
-shared-slice-read-escape : tie.Need-shared-slice-read-escape Inv-loop μ-loop
-shared-slice-read-escape c = search needs
-
 escape-requires : tie.Need-escape-requires Inv-loop μ-loop
 escape-requires c κs = omega arith
-
-add-i : tie.Need-add-i Inv-loop μ-loop
-add-i c = search needs
-
-loop-less : tie.Need-loop-less Inv-loop μ-loop
-loop-less c = search needs
 
 loop-again : tie.Need-loop-again Inv-loop μ-loop
 loop-again c =
@@ -64,10 +55,10 @@ escaped-spec =
     Inv-loop
     μ-loop
     loop-holds
-    shared-slice-read-escape
+    (λ c. search needs)
     escape-requires
-    add-i
-    loop-less
+    (λ c. search needs)
+    (λ c. search needs)
     loop-again
     same-length
     returns)

@@ -9,30 +9,6 @@ use Rattle.chunk.proofs.texts.Puts.{puts-on, puts-as}
 use Rattle.chunk.proofs.biblatex.put_body.Statement.{statement}
 use Rattle.chunk.proofs.biblatex.put_body.Tie as tie
 
-enum-told : tie.Need-enum-told
-enum-told c = search needs
-
-escaped-requires : tie.Need-escaped-requires
-escaped-requires c κs = search needs
-
-enum-told-2 : tie.Need-enum-told-2
-enum-told-2 c = search needs
-
-escaped-requires-2 : tie.Need-escaped-requires-2
-escaped-requires-2 c κs = search needs
-
-enum-told-3 : tie.Need-enum-told-3
-enum-told-3 c = search needs
-
-copy-requires : tie.Need-copy-requires
-copy-requires c κs = search needs
-
-put-requires : tie.Need-put-requires
-put-requires c κs = search needs
-
-same-length : tie.Need-same-length
-same-length c = search needs
-
 returns : tie.Need-returns
 returns c =
     let told = c .before .before .before .before in
@@ -41,9 +17,6 @@ returns c =
     let e = sym (ap (λ (k : Kind). bodyOf (a .verb) k (part (a .t .now) (a .from) (a .to))) (told .enum-told .given .1)) in
     (puts-as e (x .ensures .0), omega (arith, x .ensures .1))
 
-same-length-2 : tie.Need-same-length-2
-same-length-2 c = search needs
-
 returns-2 : tie.Need-returns-2
 returns-2 c =
     let told = c .before .before .before .before in
@@ -51,9 +24,6 @@ returns-2 c =
     let x = c .before .before .escaped2 in
     let e = sym (ap (λ (k : Kind). bodyOf (a .verb) k (part (a .t .now) (a .from) (a .to))) (told .enum-told2 .given .1)) in
     (puts-as e (x .ensures .0), omega (arith, x .ensures .1))
-
-same-length-3 : tie.Need-same-length-3
-same-length-3 c = search needs
 
 returns-3 : tie.Need-returns-3
 returns-3 c =
@@ -69,16 +39,16 @@ pub put-body-spec : {M : Type 1} → statement M
 put-body-spec =
     tie.close
     (tie.spec
-    enum-told
-    escaped-requires
-    enum-told-2
-    escaped-requires-2
-    enum-told-3
-    copy-requires
-    put-requires
-    same-length
+    (λ c. search needs)
+    (λ c κs. search needs)
+    (λ c. search needs)
+    (λ c κs. search needs)
+    (λ c. search needs)
+    (λ c κs. search needs)
+    (λ c κs. search needs)
+    (λ c. search needs)
     returns
-    same-length-2
+    (λ c. search needs)
     returns-2
-    same-length-3
+    (λ c. search needs)
     returns-3)

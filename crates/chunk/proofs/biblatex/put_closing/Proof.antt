@@ -7,15 +7,6 @@ use Rattle.chunk.proofs.texts.Puts.{puts-on, puts-as}
 use Rattle.chunk.proofs.biblatex.put_closing.Statement.{statement}
 use Rattle.chunk.proofs.biblatex.put_closing.Tie as tie
 
-put-requires : tie.Need-put-requires
-put-requires c κs = search needs
-
-put-requires-2 : tie.Need-put-requires-2
-put-requires-2 c κs = search needs
-
-same-length : tie.Need-same-length
-same-length c = search needs
-
 returns : tie.Need-returns
 returns c =
     let test = c .before .before .before .before in
@@ -24,13 +15,10 @@ returns c =
     let e = sym (ap closing (test .if1 .taken)) in
     (puts-as e (puts-on (x .ensures .0) (y .ensures .0)), omega (arith, x .ensures .1, y .ensures .1))
 
-same-length-2 : tie.Need-same-length-2
-same-length-2 c = search needs
-
 returns-2 : tie.Need-returns-2
 returns-2 c =
     let x = c .before .before .before .put in (puts-as (sym (ap closing (c .if1 .left))) (x .ensures .0), omega (arith, x .ensures .1))
 
 pub put-closing-spec : {M : Type 1} → statement M
 put-closing-spec =
-    tie.close (tie.spec put-requires put-requires-2 same-length returns same-length-2 returns-2)
+    tie.close (tie.spec (λ c κs. search needs) (λ c κs. search needs) (λ c. search needs) returns (λ c. search needs) returns-2)

@@ -7,15 +7,6 @@ use Rattle.chunk.proofs.texts.Puts.{puts-none, puts-as}
 use Rattle.chunk.proofs.biblatex.put_opening.Statement.{statement}
 use Rattle.chunk.proofs.biblatex.put_opening.Tie as tie
 
-enum-told : tie.Need-enum-told
-enum-told c = search needs
-
-put-requires : tie.Need-put-requires
-put-requires c κs = search needs
-
-same-length : tie.Need-same-length
-same-length c = search needs
-
 returns : tie.Need-returns
 returns c =
     let x = c .before .before .put in
@@ -23,28 +14,13 @@ returns c =
     let e = sym (ap₂ opening (test .if1 .taken) (test .before .enum-told .given .1)) in
     (puts-as e (x .ensures .0), omega (arith, x .ensures .1))
 
-enum-told-2 : tie.Need-enum-told-2
-enum-told-2 c = search needs
-
 returns-2 : tie.Need-returns-2
 returns-2 c =
     let e = sym (ap₂ opening (c .if2 .taken) (c .before .enum-told2 .given .1)) in (puts-as e (puts-none _ _), omega arith)
 
-put-requires-2 : tie.Need-put-requires-2
-put-requires-2 c κs = search needs
-
-enum-told-3 : tie.Need-enum-told-3
-enum-told-3 c = search needs
-
-put-requires-3 : tie.Need-put-requires-3
-put-requires-3 c κs = search needs
-
 returns-3 : tie.Need-returns-3
 returns-3 c =
     let e = sym (ap₂ opening (c .if1 .left) (c .before .enum-told .given .1)) in (puts-as e (puts-none _ _), omega arith)
-
-same-length-2 : tie.Need-same-length-2
-same-length-2 c = search needs
 
 returns-4 : tie.Need-returns-4
 returns-4 c =
@@ -52,9 +28,6 @@ returns-4 c =
     let test = c .before .before .before .before in
     let e = sym (ap₂ opening (test .if2 .left) (test .before .enum-told2 .given .1)) in
     (puts-as e (x .ensures .0), omega (arith, x .ensures .1))
-
-same-length-3 : tie.Need-same-length-3
-same-length-3 c = search needs
 
 returns-5 : tie.Need-returns-5
 returns-5 c =
@@ -67,17 +40,17 @@ pub put-opening-spec : {M : Type 1} → statement M
 put-opening-spec =
     tie.close
     (tie.spec
-    enum-told
-    put-requires
-    same-length
+    (λ c. search needs)
+    (λ c κs. search needs)
+    (λ c. search needs)
     returns
-    enum-told-2
+    (λ c. search needs)
     returns-2
-    put-requires-2
-    enum-told-3
-    put-requires-3
+    (λ c κs. search needs)
+    (λ c. search needs)
+    (λ c κs. search needs)
     returns-3
-    same-length-2
+    (λ c. search needs)
     returns-4
-    same-length-3
+    (λ c. search needs)
     returns-5)

@@ -6,20 +6,8 @@ use Rattle.chunk.proofs.rows.Answers as laws
 use Rattle.chunk.proofs.biblatex.to_biblatex_string.Statement.{statement}
 use Rattle.chunk.proofs.biblatex.to_biblatex_string.Tie as tie
 
-check-requires : tie.Need-check-requires
-check-requires c κs = search needs
-
-enum-known-f : tie.Need-enum-known-f
-enum-known-f c = search needs
-
 returns : tie.Need-returns
 returns c = laws.refused (sym (c .before .before .before .check .ensures) ∙ c .before .f .given .1)
-
-enum-told : tie.Need-enum-told
-enum-told c = search needs
-
-slice-aggregate-write-all : tie.Need-slice-aggregate-write-all
-slice-aggregate-write-all c = search needs
 
 write-all-requires : tie.Need-write-all-requires
 write-all-requires c κs =
@@ -28,17 +16,11 @@ write-all-requires c κs =
     let sound = laws.are-chunks (a .t .now) (a .rows .now) (sym (c .before .before .before .check .ensures) ∙ c .before .enum-told .given .1) in
     (sound .1, omega (arith, entry .good .1 .1 .1 .0 .1))
 
-enum-told-2 : tie.Need-enum-told-2
-enum-told-2 c = search needs
-
 returns-2 : tie.Need-returns-2
 returns-2 c =
     let told = c .before .before .before .before .before in
     let sound = sym (told .before .before .check .ensures) ∙ told .enum-told .given .1 in
     laws.no-room sound (sym (c .before .before .before .write-all .ensures .answer) ∙ c .enum-told2 .given .1)
-
-enum-known-n : tie.Need-enum-known-n
-enum-known-n c = search needs
 
 write-all-requires-2 : tie.Need-write-all-requires-2
 write-all-requires-2 c κs =
@@ -47,9 +29,6 @@ write-all-requires-2 c κs =
     let a = entry .args in
     let sound = laws.are-chunks (a .t .now) (a .rows .now) (sym (told .before .before .check .ensures) ∙ told .enum-told .given .1) in
     (sound .1, omega (arith, entry .good .1 .1 .1 .0 .1))
-
-same-length : tie.Need-same-length
-same-length c = search needs
 
 returns-3 : tie.Need-returns-3
 returns-3 c =
@@ -63,15 +42,15 @@ pub to-biblatex-string-spec : {M : Type 1} → statement M
 to-biblatex-string-spec =
     tie.close
     (tie.spec
-    check-requires
-    enum-known-f
+    (λ c κs. search needs)
+    (λ c. search needs)
     returns
-    enum-told
-    slice-aggregate-write-all
+    (λ c. search needs)
+    (λ c. search needs)
     write-all-requires
-    enum-told-2
+    (λ c. search needs)
     returns-2
-    enum-known-n
+    (λ c. search needs)
     write-all-requires-2
-    same-length
+    (λ c. search needs)
     returns-3)

@@ -16,9 +16,6 @@ Inv-loop t rows verb room out₀ extra₀ at₀ i₀ out extra at i = laws.Write
 abbrev μ-loop : tie.MeasureT-loop
 μ-loop t rows verb room out₀ extra₀ at₀ i₀ out extra at i = length rows - i
 
-put-requires : tie.Need-put-requires Inv-loop μ-loop
-put-requires c κs = search needs
-
 loop-holds : tie.Need-loop-holds Inv-loop μ-loop
 loop-holds c =
     let entry = c .before .before .before .before .before .before .before in
@@ -28,9 +25,6 @@ loop-holds c =
 
 row-at-requires : tie.Need-row-at-requires Inv-loop μ-loop
 row-at-requires c κs = five (c .before .loop .inv .0 .checks) (c .loop-test .taken)
-
-kind-from-requires : tie.Need-kind-from-requires Inv-loop μ-loop
-kind-from-requires c κs = search needs
 
 put-opening-requires : tie.Need-put-opening-requires Inv-loop μ-loop
 put-opening-requires c κs =
@@ -70,9 +64,6 @@ returns c =
     let read = laws.write-turn verb (turn .loop .inv .0) (entry .pre .0) (known .before .before .loop-test .taken) row in
     let now = read (x .ensures .0) (y .ensures .0) refl (y .kept .1 .1 .1 .1 .1 .0 ∙ x .kept .1 .1 .0) in
     laws.write-more verb now (turn .before .before .before .put .ensures .0) (c .if1 .taken)
-
-extra-after-requires : tie.Need-extra-after-requires Inv-loop μ-loop
-extra-after-requires c κs = search needs
 
 add-i : tie.Need-add-i Inv-loop μ-loop
 add-i c = omega arith
@@ -133,15 +124,15 @@ write-all-spec =
     (tie.spec
     Inv-loop
     μ-loop
-    put-requires
+    (λ c κs. search needs)
     loop-holds
     row-at-requires
-    kind-from-requires
+    (λ c κs. search needs)
     put-opening-requires
     put-body-requires
     same-length
     returns
-    extra-after-requires
+    (λ c κs. search needs)
     add-i
     loop-less
     loop-again

@@ -22,15 +22,6 @@ loop-holds c = let a = c .before .before .before .args in laws.checking (a .t .n
 row-at-requires : tie.Need-row-at-requires Inv-loop μ-loop
 row-at-requires c κs = laws.five (c .before .loop .inv) (c .loop-test .taken)
 
-is-chunk-requires : tie.Need-is-chunk-requires Inv-loop μ-loop
-is-chunk-requires c κs = search needs
-
-add-i : tie.Need-add-i Inv-loop μ-loop
-add-i c = search needs
-
-loop-less : tie.Need-loop-less Inv-loop μ-loop
-loop-less c = search needs
-
 loop-again : tie.Need-loop-again Inv-loop μ-loop
 loop-again c =
     let a = c .before .before .before .before .before .before .before .before .args in
@@ -55,9 +46,9 @@ are-chunks-spec =
     returns
     loop-holds
     row-at-requires
-    is-chunk-requires
-    add-i
-    loop-less
+    (λ c κs. search needs)
+    (λ c. search needs)
+    (λ c. search needs)
     loop-again
     returns-2
     returns-3)

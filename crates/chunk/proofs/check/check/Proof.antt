@@ -5,22 +5,10 @@ use Rattle.chunk.proofs.rows.Answers as laws
 use Rattle.chunk.proofs.check.check.Statement.{statement}
 use Rattle.chunk.proofs.check.check.Tie as tie
 
-validate-requires : tie.Need-validate-requires
-validate-requires c κs = search needs
-
-enum-known-i : tie.Need-enum-known-i
-enum-known-i c = search needs
-
 returns : tie.Need-returns
 returns c =
     let a = c .before .before .before .before .before .before .args in
     laws.ill-formed (a .t .now) (a .rows .now) _ (sym (c .before .before .before .validate .ensures) ∙ c .before .i .given .1)
-
-enum-told : tie.Need-enum-told
-enum-told c = search needs
-
-are-chunks-requires : tie.Need-are-chunks-requires
-are-chunks-requires c κs = search needs
 
 returns-2 : tie.Need-returns-2
 returns-2 c =
@@ -40,10 +28,10 @@ pub check-spec : {M : Type 1} → statement M
 check-spec =
     tie.close
     (tie.spec
-    validate-requires
-    enum-known-i
+    (λ c κs. search needs)
+    (λ c. search needs)
     returns
-    enum-told
-    are-chunks-requires
+    (λ c. search needs)
+    (λ c κs. search needs)
     returns-2
     returns-3)

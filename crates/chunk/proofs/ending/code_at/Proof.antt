@@ -9,15 +9,6 @@ use Rattle.chunk.proofs.ending.code_at.Tie as tie
 slice-aggregate-peek : tie.Need-slice-aggregate-peek
 slice-aggregate-peek c = sym (length-take-le (c .before .before .args .to) (c .before .before .args .t .now) (c .before .before .pre .1))
 
-peek-requires : tie.Need-peek-requires
-peek-requires c κs = search needs
-
-enum-told : tie.Need-enum-told
-enum-told c = search needs
-
-enum-known-code : tie.Need-enum-known-code
-enum-known-code c = search needs
-
 returns : tie.Need-returns
 returns c =
     let a = c .before .before .before .before .before .args in
@@ -33,4 +24,4 @@ returns-2 c =
 pub code-at-spec : {M : Type 1} → statement M
 code-at-spec =
     tie.close
-    (tie.spec slice-aggregate-peek peek-requires enum-told enum-known-code returns returns-2)
+    (tie.spec slice-aggregate-peek (λ c κs. search needs) (λ c. search needs) (λ c. search needs) returns returns-2)

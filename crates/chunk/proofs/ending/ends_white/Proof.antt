@@ -8,17 +8,11 @@ use Rattle.chunk.proofs.ending.ends_white.Tie as tie
 returns : tie.Need-returns
 returns c = let a = c .before .before .args in white-none (a .t .now) (a .from) (a .to) (c .if1 .taken) (c .before .before .pre .0)
 
-last-at-requires : tie.Need-last-at-requires
-last-at-requires c κs = search needs
-
 code-at-requires : tie.Need-code-at-requires
 code-at-requires c κs =
     let entry = c .before .before .before in
     let a = entry .args in
     (last-less (a .t .now) (a .from) (a .to) _ (c .before .if1 .left) (entry .pre .1) (c .last-at .ensures), entry .pre .1)
-
-is-whitespace-requires : tie.Need-is-whitespace-requires
-is-whitespace-requires c κs = search needs
 
 returns-2 : tie.Need-returns-2
 returns-2 c =
@@ -32,4 +26,4 @@ returns-2 c =
 
 pub ends-white-spec : {M : Type 1} → statement M
 ends-white-spec =
-    tie.close (tie.spec returns last-at-requires code-at-requires is-whitespace-requires returns-2)
+    tie.close (tie.spec returns (λ c κs. search needs) code-at-requires (λ c κs. search needs) returns-2)

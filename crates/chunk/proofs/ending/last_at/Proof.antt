@@ -16,15 +16,6 @@ Inv-loop t from to i₀ i = (from ≤ i) × (i ≤ to) × (lastAt (part t from i
 abbrev μ-loop : tie.MeasureT-loop
 μ-loop t from to i₀ i = i
 
-loop-holds : tie.Need-loop-holds Inv-loop μ-loop
-loop-holds c = search needs
-
-sub-i : tie.Need-sub-i Inv-loop μ-loop
-sub-i c = search needs
-
-is-boundary-requires : tie.Need-is-boundary-requires Inv-loop μ-loop
-is-boundary-requires c κs = search needs
-
 returns : tie.Need-returns Inv-loop μ-loop
 returns c =
     let turn = c .before .before .before in
@@ -37,9 +28,6 @@ returns c =
     let n : b .i ≤ length (a .t .now) = omega (arith, b .inv .1, entry .pre .1) in
     laws.last-found (a .t .now) (a .from) (b .i) (b .i - 1) h e n (sym (c .before .is-boundary .ensures) ∙ c .if1 .taken)
     ∙ ap (λ (k : ℕ). a .from + k) (b .inv .2)
-
-loop-less : tie.Need-loop-less Inv-loop μ-loop
-loop-less c = search needs
 
 loop-again : tie.Need-loop-again Inv-loop μ-loop
 loop-again c =
@@ -66,10 +54,10 @@ last-at-spec =
     (tie.spec
     Inv-loop
     μ-loop
-    loop-holds
-    sub-i
-    is-boundary-requires
+    (λ c. search needs)
+    (λ c. search needs)
+    (λ c κs. search needs)
     returns
-    loop-less
+    (λ c. search needs)
     loop-again
     returns-2)

@@ -20,12 +20,6 @@ abbrev μ-loop : tie.MeasureT-loop
 loop-holds : tie.Need-loop-holds Inv-loop μ-loop
 loop-holds c = let a = c .before .args in (omega arith, c .before .pre .0, laws.plain-start (a .t .now) (a .from))
 
-shared-slice-read-is-line-end : tie.Need-shared-slice-read-is-line-end Inv-loop μ-loop
-shared-slice-read-is-line-end c = search needs
-
-is-line-end-requires : tie.Need-is-line-end-requires Inv-loop μ-loop
-is-line-end-requires c κs = search needs
-
 returns : tie.Need-returns Inv-loop μ-loop
 returns c =
     let turn = c .before .before .before .before in
@@ -34,12 +28,6 @@ returns c =
     let b = turn .loop in
     let end = sym (c .before .is-line-end .ensures) ∙ c .if1 .taken in
     (b .inv .2, laws.stops-at (a .t .now) (b .i) (a .to) (c .before .before .before .loop-test .taken) (entry .pre .1) end, b .inv .0, b .inv .1)
-
-add-i : tie.Need-add-i Inv-loop μ-loop
-add-i c = search needs
-
-loop-less : tie.Need-loop-less Inv-loop μ-loop
-loop-less c = search needs
 
 loop-again : tie.Need-loop-again Inv-loop μ-loop
 loop-again c =
@@ -65,10 +53,10 @@ line-end-spec =
     Inv-loop
     μ-loop
     loop-holds
-    shared-slice-read-is-line-end
-    is-line-end-requires
+    (λ c. search needs)
+    (λ c κs. search needs)
     returns
-    add-i
-    loop-less
+    (λ c. search needs)
+    (λ c. search needs)
     loop-again
     returns-2)

@@ -24,9 +24,6 @@ loop-holds c =
 row-at-requires : tie.Need-row-at-requires Inv-loop μ-loop
 row-at-requires c κs = five (c .before .loop .inv .0 .checks) (c .loop-test .taken)
 
-kind-from-requires : tie.Need-kind-from-requires Inv-loop μ-loop
-kind-from-requires c κs = search needs
-
 format-one-requires : tie.Need-format-one-requires Inv-loop μ-loop
 format-one-requires c κs =
     let turn = c .before .before .before .before in
@@ -82,7 +79,7 @@ format-all-spec =
     μ-loop
     loop-holds
     row-at-requires
-    kind-from-requires
+    (λ c κs. search needs)
     format-one-requires
     same-length
     returns

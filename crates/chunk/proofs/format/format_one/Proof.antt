@@ -9,27 +9,6 @@ use Rattle.chunk.proofs.texts.Puts.{puts-on, puts-as}
 use Rattle.chunk.proofs.format.format_one.Statement.{statement}
 use Rattle.chunk.proofs.format.format_one.Tie as tie
 
-enum-told : tie.Need-enum-told
-enum-told c = search needs
-
-lines-requires : tie.Need-lines-requires
-lines-requires c κs = search needs
-
-enum-told-2 : tie.Need-enum-told-2
-enum-told-2 c = search needs
-
-ends-white-requires : tie.Need-ends-white-requires
-ends-white-requires c κs = search needs
-
-copy-requires : tie.Need-copy-requires
-copy-requires c κs = search needs
-
-enum-told-3 : tie.Need-enum-told-3
-enum-told-3 c = search needs
-
-put-requires : tie.Need-put-requires
-put-requires c κs = search needs
-
 copy-requires-2 : tie.Need-copy-requires-2
 copy-requires-2 c κs =
     let first = c .before .before .before in
@@ -42,9 +21,6 @@ put-requires-2 c κs =
     let p = first .before .before .before .before .before .before .pre in
     omega (arith, c .before .before .before .copy2 .ensures .1, first .put .ensures .1, p .0, p .2)
 
-same-length : tie.Need-same-length
-same-length c = search needs
-
 returns : tie.Need-returns
 returns c =
     let told = c .before .before .before .before in
@@ -53,9 +29,6 @@ returns c =
     let e = sym (ap (λ (k : Kind). formatOne (a .white) k (part (a .t .now) (a .from) (a .to))) (told .enum-told .given .1)) in
     let put = puts-as (ap (λ (w : Written). w .text) e) (x .ensures .0) in
     (put, (x .ensures .1 .0 ∙ ap (λ (w : Written). w .white) e, omega (arith, x .ensures .1 .1)))
-
-same-length-2 : tie.Need-same-length-2
-same-length-2 c = search needs
 
 returns-2 : tie.Need-returns-2
 returns-2 c =
@@ -66,9 +39,6 @@ returns-2 c =
     let e = sym (ap (λ (k : Kind). formatOne (a .white) k (part (a .t .now) (a .from) (a .to))) (told .enum-told2 .given .1)) in
     let put = puts-as (ap (λ (w : Written). w .text) e) (x .ensures .0) in
     (put, (c .before .before .before .before .ends-white .ensures ∙ ap (λ (w : Written). w .white) e, omega (arith, x .ensures .1, entry .pre .0)))
-
-same-length-3 : tie.Need-same-length-3
-same-length-3 c = search needs
 
 returns-3 : tie.Need-returns-3
 returns-3 c =
@@ -86,18 +56,18 @@ pub format-one-spec : {M : Type 1} → statement M
 format-one-spec =
     tie.close
     (tie.spec
-    enum-told
-    lines-requires
-    enum-told-2
-    ends-white-requires
-    copy-requires
-    enum-told-3
-    put-requires
+    (λ c. search needs)
+    (λ c κs. search needs)
+    (λ c. search needs)
+    (λ c κs. search needs)
+    (λ c κs. search needs)
+    (λ c. search needs)
+    (λ c κs. search needs)
     copy-requires-2
     put-requires-2
-    same-length
+    (λ c. search needs)
     returns
-    same-length-2
+    (λ c. search needs)
     returns-2
-    same-length-3
+    (λ c. search needs)
     returns-3)

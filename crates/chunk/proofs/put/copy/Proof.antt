@@ -17,9 +17,6 @@ Inv-loop s from to out₀ at i₀ j₀ out i j =
 abbrev μ-loop : tie.MeasureT-loop
 μ-loop s from to out₀ at i₀ j₀ out i j = to - i
 
-sub-result : tie.Need-sub-result Inv-loop μ-loop
-sub-result c = search needs
-
 add-result : tie.Need-add-result Inv-loop μ-loop
 add-result c = omega arith
 
@@ -34,9 +31,6 @@ loop-holds c =
     let entry = c .before .before .before in
     let a = entry .args in
     (laws.copy-start (a .s .now) (a .from) (a .out .now) (a .at), omega arith, entry .pre .0, refl, refl)
-
-shared-slice-read-put : tie.Need-shared-slice-read-put Inv-loop μ-loop
-shared-slice-read-put c = search needs
 
 put-requires : tie.Need-put-requires Inv-loop μ-loop
 put-requires c κs = omega arith
@@ -73,11 +67,11 @@ copy-spec =
     (tie.spec
     Inv-loop
     μ-loop
-    sub-result
+    (λ c. search needs)
     add-result
     returns
     loop-holds
-    shared-slice-read-put
+    (λ c. search needs)
     put-requires
     add-i
     loop-less

@@ -20,24 +20,12 @@ use Rattle.command.proofs.stack.put_code.Reads as put-code-reads
 use Rattle.command.proofs.stack.copy.Reads as copy-reads
 use Rattle.command.proofs.stack.push.Reads as push-reads
 
-enum-told : tie.Need-enum-told
-enum-told c = search needs
-
-copy-requires : tie.Need-copy-requires
-copy-requires c κs = search needs
-
-enum-known-m : tie.Need-enum-known-m
-enum-known-m c = search needs
-
 put-code-requires : tie.Need-put-code-requires
 put-code-requires c κs =
     let a = c .before .before .before .before .before .before .args in
     let p = c .before .before .before .before .before .before .pre in
     let s = subst Sane (c .before .before .m .given .1) (p .0) in
     (s .0, omega (arith, octets-three _ (s .1), p .1, p .3))
-
-enum-known-m-2 : tie.Need-enum-known-m-2
-enum-known-m-2 c = search needs
 
 put-code-requires-2 : tie.Need-put-code-requires-2
 put-code-requires-2 c κs =
@@ -46,9 +34,6 @@ put-code-requires-2 c κs =
     let s = subst Sane (c .before .before .m2 .given .1) (p .0) in
     (s .0, omega (arith, octets-two _ (s .1), p .1, p .3))
 
-enum-told-2 : tie.Need-enum-told-2
-enum-told-2 c = search needs
-
 put-code-requires-3 : tie.Need-put-code-requires-3
 unfolding isScalar
 put-code-requires-3 c κs =
@@ -56,33 +41,12 @@ put-code-requires-3 c κs =
     let p = c .before .before .before .before .before .pre in
     (refl, omega (arith, octets-two 0xF8 (omega arith), p .1, p .3))
 
-enum-told-3 : tie.Need-enum-told-3
-enum-told-3 c = search needs
-
 put-code-requires-4 : tie.Need-put-code-requires-4
 unfolding isScalar
 put-code-requires-4 c κs =
     let a = c .before .before .before .before .before .args in
     let p = c .before .before .before .before .before .pre in
     (refl, omega (arith, octets-two 0xA9 (omega arith), p .1, p .3))
-
-enum-told-4 : tie.Need-enum-told-4
-enum-told-4 c = search needs
-
-enum-told-5 : tie.Need-enum-told-5
-enum-told-5 c = search needs
-
-push-requires : tie.Need-push-requires
-push-requires c κs = search needs
-
-copy-requires-2 : tie.Need-copy-requires-2
-copy-requires-2 c κs = search needs
-
-push-requires-2 : tie.Need-push-requires-2
-push-requires-2 c κs = search needs
-
-same-length : tie.Need-same-length
-same-length c = search needs
 
 returns : tie.Need-returns
 returns c =
@@ -93,9 +57,6 @@ returns c =
           (c .before .before .before .before .enum-told .given .1) refl (y .ensures .0),
       omega (arith, y .ensures .1),
     )
-
-same-length-2 : tie.Need-same-length-2
-same-length-2 c = search needs
 
 returns-2 : tie.Need-returns-2
 returns-2 c =
@@ -108,9 +69,6 @@ returns-2 c =
       omega (arith, y .ensures .end, octets-three _ (s .1), p .1),
     )
 
-same-length-3 : tie.Need-same-length-3
-same-length-3 c = search needs
-
 returns-3 : tie.Need-returns-3
 returns-3 c =
     let a = c .before .before .before .before .before .before .before .before .before .args in
@@ -122,9 +80,6 @@ returns-3 c =
       omega (arith, y .ensures .end, octets-two _ (s .1), p .1),
     )
 
-same-length-4 : tie.Need-same-length-4
-same-length-4 c = search needs
-
 returns-4 : tie.Need-returns-4
 returns-4 c =
     let a = c .before .before .before .before .before .before .before .before .args in
@@ -135,9 +90,6 @@ returns-4 c =
       omega
           (arith, y .ensures .end, octets-two 0xF8 (omega arith), p .1),
     )
-
-same-length-5 : tie.Need-same-length-5
-same-length-5 c = search needs
 
 returns-5 : tie.Need-returns-5
 returns-5 c =
@@ -159,9 +111,6 @@ returns-6 c =
       omega (arith, p .1),
     )
 
-same-length-6 : tie.Need-same-length-6
-same-length-6 c = search needs
-
 returns-7 : tie.Need-returns-7
 returns-7 c =
     let a = c .before .before .before .before .before .before .before .before .before .before .before .before .before .before .before .before .args in
@@ -179,31 +128,31 @@ pub execute-bare-spec : {M : Type 1} → statement M
 execute-bare-spec =
     tie.close
     (tie.spec
-    enum-told
-    copy-requires
-    enum-known-m
+    (λ c. search needs)
+    (λ c κs. search needs)
+    (λ c. search needs)
     put-code-requires
-    enum-known-m-2
+    (λ c. search needs)
     put-code-requires-2
-    enum-told-2
+    (λ c. search needs)
     put-code-requires-3
-    enum-told-3
+    (λ c. search needs)
     put-code-requires-4
-    enum-told-4
-    enum-told-5
-    push-requires
-    copy-requires-2
-    push-requires-2
-    same-length
+    (λ c. search needs)
+    (λ c. search needs)
+    (λ c κs. search needs)
+    (λ c κs. search needs)
+    (λ c κs. search needs)
+    (λ c. search needs)
     returns
-    same-length-2
+    (λ c. search needs)
     returns-2
-    same-length-3
+    (λ c. search needs)
     returns-3
-    same-length-4
+    (λ c. search needs)
     returns-4
-    same-length-5
+    (λ c. search needs)
     returns-5
     returns-6
-    same-length-6
+    (λ c. search needs)
     returns-7)

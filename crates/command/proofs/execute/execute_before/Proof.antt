@@ -12,42 +12,9 @@ use Rattle.command.proofs.Executing.{leads, leads-unknown}
 use Rattle.command.proofs.execute.execute_before.Statement.{statement}
 use Rattle.command.proofs.execute.execute_before.Tie as tie
 
-enum-told : tie.Need-enum-told
-enum-told c = search needs
-
 put-code-requires : tie.Need-put-code-requires
 unfolding isScalar
 put-code-requires c κs = (refl, omega (arith, c .before .before .before .before .before .pre, octets-two 0xA9 (omega arith)))
-
-enum-told-2 : tie.Need-enum-told-2
-enum-told-2 c = search needs
-
-push-requires : tie.Need-push-requires
-push-requires c κs = search needs
-
-copy-requires : tie.Need-copy-requires
-copy-requires c κs = search needs
-
-push-requires-2 : tie.Need-push-requires-2
-push-requires-2 c κs = search needs
-
-enum-told-3 : tie.Need-enum-told-3
-enum-told-3 c = search needs
-
-enum-told-4 : tie.Need-enum-told-4
-enum-told-4 c = search needs
-
-enum-told-5 : tie.Need-enum-told-5
-enum-told-5 c = search needs
-
-enum-told-6 : tie.Need-enum-told-6
-enum-told-6 c = search needs
-
-enum-told-7 : tie.Need-enum-told-7
-enum-told-7 c = search needs
-
-same-length : tie.Need-same-length
-same-length c = search needs
 
 returns : tie.Need-returns
 returns c =
@@ -58,9 +25,6 @@ returns c =
       leads (a .at) (part (a .s .now) (a .a) (a .e)) (a .out .now) (a .m) meaning.Copyright (put .result) _ known (put .ensures),
       omega (arith, put .ensures .end, begin .pre .0, octets-two 0xA9 (omega arith)),
     )
-
-same-length-2 : tie.Need-same-length-2
-same-length-2 c = search needs
 
 returns-2 : tie.Need-returns-2
 returns-2 c =
@@ -125,20 +89,20 @@ pub execute-before-spec : {M : Type 1} → statement M
 execute-before-spec =
     tie.close
     (tie.spec
-    enum-told
+    (λ c. search needs)
     put-code-requires
-    enum-told-2
-    push-requires
-    copy-requires
-    push-requires-2
-    enum-told-3
-    enum-told-4
-    enum-told-5
-    enum-told-6
-    enum-told-7
-    same-length
+    (λ c. search needs)
+    (λ c κs. search needs)
+    (λ c κs. search needs)
+    (λ c κs. search needs)
+    (λ c. search needs)
+    (λ c. search needs)
+    (λ c. search needs)
+    (λ c. search needs)
+    (λ c. search needs)
+    (λ c. search needs)
     returns
-    same-length-2
+    (λ c. search needs)
     returns-2
     returns-3
     returns-4

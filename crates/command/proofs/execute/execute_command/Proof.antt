@@ -21,15 +21,6 @@ use Rattle.command.proofs.stack.put_code.Reads as put-code-reads
 use Rattle.command.proofs.stack.copy.Reads as copy-reads
 use Rattle.command.proofs.stack.push.Reads as push-reads
 
-enum-told : tie.Need-enum-told
-enum-told c = search needs
-
-copy-requires : tie.Need-copy-requires
-copy-requires c κs = search needs
-
-enum-known-m : tie.Need-enum-known-m
-enum-known-m c = search needs
-
 put-code-requires : tie.Need-put-code-requires
 put-code-requires c κs =
     let a = c .before .before .before .before .before .before .before .args in
@@ -37,9 +28,6 @@ put-code-requires c κs =
     let q = c .before .before .before .before .before .before .before .pre .1 in
     let s = subst Sane (c .before .before .m .given .1) (p .1) in
     (s .0, omega (arith, octets-three _ (s .1), q .4))
-
-enum-known-m-2 : tie.Need-enum-known-m-2
-enum-known-m-2 c = search needs
 
 last-char-combine-requires : tie.Need-last-char-combine-requires
 last-char-combine-requires c κs =
@@ -51,9 +39,6 @@ last-char-combine-requires c κs =
     (c .before .before .m2 .given .1) refl in
     (p .0, q .1, omega (arith, n, q .3), s .0, s .1)
 
-enum-told-2 : tie.Need-enum-told-2
-enum-told-2 c = search needs
-
 last-char-combine-requires-2 : tie.Need-last-char-combine-requires-2
 unfolding isScalar
 last-char-combine-requires-2 c κs =
@@ -63,21 +48,6 @@ last-char-combine-requires-2 c κs =
     let n = laws.no-lead (part (a .s .now) (a .a) (a .e)) (a .m) (a .out .now) (a .at) (a .from) (a .to) (q .0) (q .1) (omega (arith, q .2)) (q .5)
     Slash (c .before .enum-told2 .given .1) refl in
     (p .0, q .1, omega (arith, n, q .3), refl, omega arith)
-
-enum-told-3 : tie.Need-enum-told-3
-enum-told-3 c = search needs
-
-enum-told-4 : tie.Need-enum-told-4
-enum-told-4 c = search needs
-
-enum-told-5 : tie.Need-enum-told-5
-enum-told-5 c = search needs
-
-push-requires : tie.Need-push-requires
-push-requires c κs = search needs
-
-same-length : tie.Need-same-length
-same-length c = search needs
 
 returns : tie.Need-returns
 returns c =
@@ -89,9 +59,6 @@ returns c =
           (y .result) _ (c .before .before .before .before .enum-told .given .1) refl (y .ensures .0),
       omega (arith, y .ensures .1),
     )
-
-same-length-2 : tie.Need-same-length-2
-same-length-2 c = search needs
 
 returns-2 : tie.Need-returns-2
 returns-2 c =
@@ -106,9 +73,6 @@ returns-2 c =
           (arith, y .ensures .end, octets-three _ (s .1), p .2),
     )
 
-same-length-3 : tie.Need-same-length-3
-same-length-3 c = search needs
-
 returns-3 : tie.Need-returns-3
 returns-3 c =
     let a = c .before .before .before .before .before .before .before .before .before .before .args in
@@ -121,9 +85,6 @@ returns-3 c =
           (y .result) _ (c .before .before .before .before .before .m2 .given .1) refl refl (y .ensures .0),
       omega (arith, y .ensures .1, n),
     )
-
-same-length-4 : tie.Need-same-length-4
-same-length-4 c = search needs
 
 returns-4 : tie.Need-returns-4
 returns-4 c =
@@ -158,9 +119,6 @@ returns-6 c =
       omega (arith, p .2),
     )
 
-same-length-5 : tie.Need-same-length-5
-same-length-5 c = search needs
-
 returns-7 : tie.Need-returns-7
 returns-7 c =
     let a = c .before .before .before .before .before .before .before .before .before .args in
@@ -176,27 +134,27 @@ pub execute-command-spec : {M : Type 1} → statement M
 execute-command-spec =
     tie.close
     (tie.spec
-    enum-told
-    copy-requires
-    enum-known-m
+    (λ c. search needs)
+    (λ c κs. search needs)
+    (λ c. search needs)
     put-code-requires
-    enum-known-m-2
+    (λ c. search needs)
     last-char-combine-requires
-    enum-told-2
+    (λ c. search needs)
     last-char-combine-requires-2
-    enum-told-3
-    enum-told-4
-    enum-told-5
-    push-requires
-    same-length
+    (λ c. search needs)
+    (λ c. search needs)
+    (λ c. search needs)
+    (λ c κs. search needs)
+    (λ c. search needs)
     returns
-    same-length-2
+    (λ c. search needs)
     returns-2
-    same-length-3
+    (λ c. search needs)
     returns-3
-    same-length-4
+    (λ c. search needs)
     returns-4
     returns-5
     returns-6
-    same-length-5
+    (λ c. search needs)
     returns-7)

@@ -24,9 +24,6 @@ use Rattle.command.proofs.execute.dotted.Reads as dotted-reads
 use Rattle.command.proofs.stack.put_code.Reads as put-code-reads
 use Rattle.chunk.proofs.ending.last_at.Reads as last-at-reads
 
-bare-requires : tie.Need-bare-requires
-bare-requires c κs = search needs
-
 put-code-requires : tie.Need-put-code-requires
 put-code-requires c κs =
     let a = c .before .before .before .before .before .args in
@@ -34,9 +31,6 @@ put-code-requires c κs =
     let o = a .out .now in
     let h = laws.bare-room (a .from) (a .to) (a .mark) (c .before .bare .result) (p .1) (c .before .bare .ensures) (p .3) (p .4) in
     (h .0, omega (arith, h .1, p .2))
-
-same-length : tie.Need-same-length
-same-length c = search needs
 
 returns : tie.Need-returns
 returns c =
@@ -51,9 +45,6 @@ returns c =
       omega (arith, y .ensures .end, h .1),
     )
 
-last-at-requires : tie.Need-last-at-requires
-last-at-requires c κs = search needs
-
 code-at-requires : tie.Need-code-at-requires
 code-at-requires c κs =
     let a = c .before .before .before .before .before .before .args in
@@ -61,15 +52,6 @@ code-at-requires c κs =
     let o = a .out .now in
     let eo : a .to ≤ length o = omega (arith, p .2) in
     (last-less o (a .from) (a .to) _ (c .before .before .before .if1 .left) eo (c .before .last-at .ensures), eo)
-
-dotted-requires : tie.Need-dotted-requires
-dotted-requires c κs = search needs
-
-find-requires : tie.Need-find-requires
-find-requires c κs = search needs
-
-enum-known-x : tie.Need-enum-known-x
-enum-known-x c = search needs
 
 put-code-requires-2 : tie.Need-put-code-requires-2
 put-code-requires-2 c κs =
@@ -88,9 +70,6 @@ put-code-requires-2 c κs =
     let y = laws.char-room o (last .result) (a .to) (char .result) (a .mark) _ h eo (char .ensures) f in
     (y .0, omega (arith, y .1, p .2))
 
-enum-told : tie.Need-enum-told
-enum-told c = search needs
-
 put-code-requires-3 : tie.Need-put-code-requires-3
 put-code-requires-3 c κs =
     let dot = c .before .before .before .before .before in
@@ -102,9 +81,6 @@ put-code-requires-3 c κs =
     let char = dot .before .code-at in
     let eo : a .to ≤ length o = omega (arith, p .2) in
     (p .3, omega (arith, octets-two (a .mark) (p .4), p .2))
-
-same-length-2 : tie.Need-same-length-2
-same-length-2 c = search needs
 
 returns-2 : tie.Need-returns-2
 returns-2 c =
@@ -156,9 +132,6 @@ put-code-requires-5 c κs =
     let z = c .before .before .before .put-code4 in
     (p .3, omega (arith, y .1, h, p .2, z .ensures .end, z .kept .0, octets-two (a .mark) (p .4)))
 
-same-length-3 : tie.Need-same-length-3
-same-length-3 c = search needs
-
 returns-3 : tie.Need-returns-3
 returns-3 c =
     let dot = c .before .before .before .before .before .before .before .before in
@@ -179,9 +152,6 @@ returns-3 c =
           (z .ensures),
       omega (arith, z .ensures .end, y .1),
     )
-
-same-length-4 : tie.Need-same-length-4
-same-length-4 c = search needs
 
 returns-4 : tie.Need-returns-4
 returns-4 c =
@@ -212,23 +182,23 @@ pub last-char-combine-spec : {M : Type 1} → statement M
 last-char-combine-spec =
     tie.close
     (tie.spec
-    bare-requires
+    (λ c κs. search needs)
     put-code-requires
-    same-length
+    (λ c. search needs)
     returns
-    last-at-requires
+    (λ c κs. search needs)
     code-at-requires
-    dotted-requires
-    find-requires
-    enum-known-x
+    (λ c κs. search needs)
+    (λ c κs. search needs)
+    (λ c. search needs)
     put-code-requires-2
-    enum-told
+    (λ c. search needs)
     put-code-requires-3
-    same-length-2
+    (λ c. search needs)
     returns-2
     put-code-requires-4
     put-code-requires-5
-    same-length-3
+    (λ c. search needs)
     returns-3
-    same-length-4
+    (λ c. search needs)
     returns-4)

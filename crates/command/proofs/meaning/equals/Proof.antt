@@ -19,9 +19,6 @@ returns c =
     let p = c .before .before .before .pre in
     laws.other-length (a .names .now) (a .i) (a .m) (a .s .now) (a .a) (a .n) (p .0) (p .1) (c .if1 .taken)
 
-matches-requires : tie.Need-matches-requires
-matches-requires c κs = search needs
-
 returns-2 : tie.Need-returns-2
 returns-2 c =
     let a = c .before .before .before .before .args in
@@ -29,4 +26,4 @@ returns-2 c =
     (sym (c .before .if1 .left))
 
 pub equals-spec : {M : Type 1} → statement M
-equals-spec = tie.close (tie.spec returns matches-requires returns-2)
+equals-spec = tie.close (tie.spec returns (λ c κs. search needs) returns-2)

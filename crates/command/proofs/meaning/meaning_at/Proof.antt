@@ -9,27 +9,6 @@ use Rattle.command.proofs.meaning.meaning_at.Reads as reads
 use Rattle.command.proofs.meaning.meaning_at.Lts as lts
 use Rattle.command.proofs.meaning.code.Reads as code-reads
 
-code-requires : tie.Need-code-requires
-code-requires c κs = search needs
-
-mul-c : tie.Need-mul-c
-mul-c c = search needs
-
-code-requires-2 : tie.Need-code-requires-2
-code-requires-2 c κs = search needs
-
-add-c : tie.Need-add-c
-add-c c = search needs
-
-mul-c-2 : tie.Need-mul-c-2
-mul-c-2 c = search needs
-
-code-requires-3 : tie.Need-code-requires-3
-code-requires-3 c κs = search needs
-
-add-c-2 : tie.Need-add-c-2
-add-c-2 c = search needs
-
 returns : tie.Need-returns
 unfolding codeOf decoded
 returns c = rw (
@@ -83,13 +62,13 @@ pub meaning-at-spec : {M : Type 1} → statement M
 meaning-at-spec =
     tie.close
     (tie.spec
-    code-requires
-    mul-c
-    code-requires-2
-    add-c
-    mul-c-2
-    code-requires-3
-    add-c-2
+    (λ c κs. search needs)
+    (λ c. search needs)
+    (λ c κs. search needs)
+    (λ c. search needs)
+    (λ c. search needs)
+    (λ c κs. search needs)
+    (λ c. search needs)
     returns
     returns-2
     returns-3

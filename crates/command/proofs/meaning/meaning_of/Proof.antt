@@ -22,15 +22,6 @@ Inv-loop names s a e n i₀ i = laws.Going names (part s a e) i
 abbrev μ-loop : tie.MeasureT-loop
 μ-loop names s a e n i₀ i = length names - i
 
-sub-n : tie.Need-sub-n Inv-loop μ-loop
-sub-n c = search needs
-
-shared-slice-read-meaning-one : tie.Need-shared-slice-read-meaning-one Inv-loop μ-loop
-shared-slice-read-meaning-one c = search needs
-
-meaning-one-requires : tie.Need-meaning-one-requires Inv-loop μ-loop
-meaning-one-requires c κs = search needs
-
 returns : tie.Need-returns Inv-loop μ-loop
 returns c =
     let a = c .before .before .before .before .before .args in
@@ -42,15 +33,6 @@ loop-holds c =
     let a = c .before .before .before .args in
     let p = c .before .before .before .pre in
     laws.going (a .names .now) _ (p .0) (laws.name-long (a .s .now) (a .a) (a .e) (p .1) (p .2) (c .if1 .left))
-
-shared-slice-read-wide : tie.Need-shared-slice-read-wide Inv-loop μ-loop
-shared-slice-read-wide c = search needs
-
-wide-requires : tie.Need-wide-requires Inv-loop μ-loop
-wide-requires c κs = search needs
-
-add-equals : tie.Need-add-equals Inv-loop μ-loop
-add-equals c = search needs
 
 equals-requires : tie.Need-equals-requires Inv-loop μ-loop
 equals-requires c κs =
@@ -130,9 +112,6 @@ shared-slice-read-meaning-at-3 c =
     in
     omega (arith, r, c .before .before .before .before .before .before .before .before .before .before .before .before .fits)
 
-meaning-at-requires : tie.Need-meaning-at-requires Inv-loop μ-loop
-meaning-at-requires c κs = search needs
-
 returns-2 : tie.Need-returns-2 Inv-loop μ-loop
 returns-2 c =
     let a = c .before .before .before .before .before .before .before .before .before .before .before .before .before .args in
@@ -204,14 +183,14 @@ meaning-of-spec =
     (tie.spec
     Inv-loop
     μ-loop
-    sub-n
-    shared-slice-read-meaning-one
-    meaning-one-requires
+    (λ c. search needs)
+    (λ c. search needs)
+    (λ c κs. search needs)
     returns
     loop-holds
-    shared-slice-read-wide
-    wide-requires
-    add-equals
+    (λ c. search needs)
+    (λ c κs. search needs)
+    (λ c. search needs)
     equals-requires
     add-meaning-at
     shared-slice-read-meaning-at
@@ -219,7 +198,7 @@ meaning-of-spec =
     shared-slice-read-meaning-at-2
     add-meaning-at-3
     shared-slice-read-meaning-at-3
-    meaning-at-requires
+    (λ c κs. search needs)
     returns-2
     add-i
     add-i-2

@@ -15,12 +15,6 @@ use Rattle.command.proofs.settle.settle.Lts as lts
 use Rattle.chunk.proofs.ending.ends_white.Reads as ends-white-reads
 use Rattle.command.proofs.settle.lines.Reads as lines-reads
 
-lines-requires : tie.Need-lines-requires
-lines-requires c κs = search needs
-
-same-length : tie.Need-same-length
-same-length c = search needs
-
 returns : tie.Need-returns
 returns c =
     let a = c .before .before .before .before .before .before .args in
@@ -30,12 +24,6 @@ returns c =
       lays-as (a .from) _ _ (a .t .now) _ _ (ap (λ (x : Written). x .text) q) (y .ensures .0),
       (y .ensures .1 .0 ∙ ap (λ (x : Written). x .white) q, y .ensures .1 .1),
     )
-
-ends-white-requires : tie.Need-ends-white-requires
-ends-white-requires c κs = search needs
-
-same-length-2 : tie.Need-same-length-2
-same-length-2 c = search needs
 
 returns-2 : tie.Need-returns-2
 returns-2 c =
@@ -49,4 +37,4 @@ returns-2 c =
 pub settle-spec : {M : Type 1} → statement M
 settle-spec =
     tie.close
-    (tie.spec lines-requires same-length returns ends-white-requires same-length-2 returns-2)
+    (tie.spec (λ c κs. search needs) (λ c. search needs) returns (λ c κs. search needs) (λ c. search needs) returns-2)

@@ -12,21 +12,6 @@ use Rattle.command.proofs.stack.put_code.Reads as reads
 use Rattle.command.proofs.stack.put_code.Lts as lts
 use Rattle.text.proofs.utf8.encode.Reads as encode-reads
 
-sub-encode : tie.Need-sub-encode
-sub-encode c = search needs
-
-part-encode-start : tie.Need-part-encode-start
-part-encode-start c = search needs
-
-part-encode-end : tie.Need-part-encode-end
-part-encode-end c = search needs
-
-encode-requires : tie.Need-encode-requires
-encode-requires c κs = search needs
-
-enum-known-n : tie.Need-enum-known-n
-enum-known-n c = search needs
-
 add-result : tie.Need-add-result
 add-result c =
     let a = c .before .before .before .before .before .before .before .before .args in
@@ -34,15 +19,6 @@ add-result c =
     let e = laws.wrote-so (a .c) _ _ _ (c .before .before .before .before .before .encode .ensures) (p .0)
     (laws.room (a .c) (a .out .now) (a .at) (p .1)) (c .before .n .given .0 .0) (c .before .n .given .1) in
     omega (arith, e, p .1)
-
-enum-told : tie.Need-enum-told
-enum-told c = search needs
-
-enum-told-2 : tie.Need-enum-told-2
-enum-told-2 c = search needs
-
-same-length : tie.Need-same-length
-same-length c = search needs
 
 returns : tie.Need-returns
 returns c =
@@ -54,18 +30,12 @@ returns c =
     laws.coded (a .c) _ _ _ (call .ensures) (p .0) (laws.room (a .c) (a .out .now) (a .at) (p .1)) (a .out .now) _ (a .at) n (omega (arith, p .1))
     (c .before .n .given .1)
 
-same-length-2 : tie.Need-same-length-2
-same-length-2 c = search needs
-
 returns-2 : tie.Need-returns-2
 returns-2 c =
     let a = c .before .before .before .before .before .before .before .args in
     let p = c .before .before .before .before .before .before .before .pre in
     absurd (laws.wrote-some (a .c) _ _ _ (c .before .before .before .before .encode .ensures) (p .0) (laws.room (a .c) (a .out .now) (a .at) (p .1))
     (ap laws.wroteOf (c .enum-told .given .1)))
-
-same-length-3 : tie.Need-same-length-3
-same-length-3 c = search needs
 
 returns-3 : tie.Need-returns-3
 returns-3 c =
@@ -78,17 +48,17 @@ pub put-code-spec : {M : Type 1} → statement M
 put-code-spec =
     tie.close
     (tie.spec
-    sub-encode
-    part-encode-start
-    part-encode-end
-    encode-requires
-    enum-known-n
+    (λ c. search needs)
+    (λ c. search needs)
+    (λ c. search needs)
+    (λ c κs. search needs)
+    (λ c. search needs)
     add-result
-    enum-told
-    enum-told-2
-    same-length
+    (λ c. search needs)
+    (λ c. search needs)
+    (λ c. search needs)
     returns
-    same-length-2
+    (λ c. search needs)
     returns-2
-    same-length-3
+    (λ c. search needs)
     returns-3)

@@ -18,15 +18,6 @@ Inv-loop out₀ i₀ out i = (i ≤ length out) × (length out ≡ length out₀
 abbrev μ-loop : tie.MeasureT-loop
 μ-loop out₀ i₀ out i = length out₀ - i
 
-loop-holds : tie.Need-loop-holds Inv-loop μ-loop
-loop-holds c = search needs
-
-slice-write-out : tie.Need-slice-write-out Inv-loop μ-loop
-slice-write-out c = search needs
-
-add-i : tie.Need-add-i Inv-loop μ-loop
-add-i c = search needs
-
 loop-less : tie.Need-loop-less Inv-loop μ-loop
 loop-less c = omega (arith, c .before .loop .inv .1)
 
@@ -35,9 +26,6 @@ loop-again c =
     let b = c .before .loop in
     let n = length-set (b .out) (b .i) 0 in
     (omega (arith, n), n ∙ b .inv .1, laws.wipe-on (b .out) (b .i) (c .loop-test .taken) (b .inv .2))
-
-same-length : tie.Need-same-length Inv-loop μ-loop
-same-length c = search needs
 
 returns : tie.Need-returns Inv-loop μ-loop
 returns c =
@@ -50,10 +38,10 @@ wipe-spec =
     (tie.spec
     Inv-loop
     μ-loop
-    loop-holds
-    slice-write-out
-    add-i
+    (λ c. search needs)
+    (λ c. search needs)
+    (λ c. search needs)
     loop-less
     loop-again
-    same-length
+    (λ c. search needs)
     returns)

@@ -22,56 +22,11 @@ abbrev μ-loop : tie.MeasureT-loop
 returns : tie.Need-returns Inv-loop μ-loop
 returns c = four-count (c .before .before .args .rows .now) (c .if1 .taken)
 
-first-requires : tie.Need-first-requires Inv-loop μ-loop
-first-requires c κs = search needs
-
 loop-holds : tie.Need-loop-holds Inv-loop μ-loop
 loop-holds c =
     let a = c .before .before .before .args in
     let if1 = c .before .if1 in
     (if1 .left, omega arith, omega arith, four-start (a .rows .now) (if1 .left) (c .first .ensures))
-
-mul-kind : tie.Need-mul-kind Inv-loop μ-loop
-mul-kind c = search needs
-
-shared-slice-read-kind : tie.Need-shared-slice-read-kind Inv-loop μ-loop
-shared-slice-read-kind c = search needs
-
-add-detail : tie.Need-add-detail Inv-loop μ-loop
-add-detail c = search needs
-
-mul-detail : tie.Need-mul-detail Inv-loop μ-loop
-mul-detail c = search needs
-
-shared-slice-read-detail : tie.Need-shared-slice-read-detail Inv-loop μ-loop
-shared-slice-read-detail c = search needs
-
-add-start : tie.Need-add-start Inv-loop μ-loop
-add-start c = search needs
-
-mul-start : tie.Need-mul-start Inv-loop μ-loop
-mul-start c = search needs
-
-shared-slice-read-start : tie.Need-shared-slice-read-start Inv-loop μ-loop
-shared-slice-read-start c = search needs
-
-add-end : tie.Need-add-end Inv-loop μ-loop
-add-end c = search needs
-
-mul-end : tie.Need-mul-end Inv-loop μ-loop
-mul-end c = search needs
-
-shared-slice-read-end : tie.Need-shared-slice-read-end Inv-loop μ-loop
-shared-slice-read-end c = search needs
-
-step-requires : tie.Need-step-requires Inv-loop μ-loop
-step-requires c κs = search needs
-
-add-i : tie.Need-add-i Inv-loop μ-loop
-add-i c = search needs
-
-loop-less : tie.Need-loop-less Inv-loop μ-loop
-loop-less c = search needs
 
 loop-again : tie.Need-loop-again Inv-loop μ-loop
 loop-again c =
@@ -90,9 +45,6 @@ returns-2 c =
     let m = l .before .loop .inv in
     judge-off (m .3) (laid .rows-next (a .rows .now) (l .before .loop .i) (omega arith)) (c .if2 .left)
 
-is-whole-requires : tie.Need-is-whole-requires Inv-loop μ-loop
-is-whole-requires c κs = search needs
-
 returns-3 : tie.Need-returns-3 Inv-loop μ-loop
 returns-3 c =
     let l = c .before in
@@ -107,23 +59,23 @@ is-packable-spec =
     Inv-loop
     μ-loop
     returns
-    first-requires
+    (λ c κs. search needs)
     loop-holds
-    mul-kind
-    shared-slice-read-kind
-    add-detail
-    mul-detail
-    shared-slice-read-detail
-    add-start
-    mul-start
-    shared-slice-read-start
-    add-end
-    mul-end
-    shared-slice-read-end
-    step-requires
-    add-i
-    loop-less
+    (λ c. search needs)
+    (λ c. search needs)
+    (λ c. search needs)
+    (λ c. search needs)
+    (λ c. search needs)
+    (λ c. search needs)
+    (λ c. search needs)
+    (λ c. search needs)
+    (λ c. search needs)
+    (λ c. search needs)
+    (λ c. search needs)
+    (λ c κs. search needs)
+    (λ c. search needs)
+    (λ c. search needs)
     loop-again
     returns-2
-    is-whole-requires
+    (λ c κs. search needs)
     returns-3)

@@ -6,9 +6,6 @@ use Rattle.pack.proofs.contracts.Answers.{pack-done, pack-full, pack-ba
 use Rattle.pack.proofs.packing.pack.Statement.{statement}
 use Rattle.pack.proofs.packing.pack.Tie as tie
 
-is-packable-requires : tie.Need-is-packable-requires
-is-packable-requires c κs = search needs
-
 returns : tie.Need-returns
 returns c =
     let a = c .before .before .before .before .before .args in
@@ -16,12 +13,6 @@ returns c =
 
 put-all-requires : tie.Need-put-all-requires
 put-all-requires c κs = (sym (c .before .before .before .is-packable .ensures) ∙ c .before .before .if1 .taken, omega arith)
-
-mul-t5 : tie.Need-mul-t5
-mul-t5 c = search needs
-
-same-length : tie.Need-same-length
-same-length c = search needs
 
 returns-2 : tie.Need-returns-2
 returns-2 c =
@@ -40,4 +31,4 @@ returns-3 c =
 pub pack-spec : {M : Type 1} → statement M
 pack-spec =
     tie.close
-    (tie.spec is-packable-requires returns put-all-requires mul-t5 same-length returns-2 returns-3)
+    (tie.spec (λ c κs. search needs) returns put-all-requires (λ c. search needs) (λ c. search needs) returns-2 returns-3)

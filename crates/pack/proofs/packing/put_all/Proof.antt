@@ -26,39 +26,6 @@ loop-holds c =
     let k = packable (a .rows .now) (s .pre .0) in
     (k .count, 0, refl, refl, omega arith, refl, s .pre .1, packable-seven (a .rows .now) k, at-first _ _)
 
-mul-put-packed : tie.Need-mul-put-packed Inv-loop μ-loop
-mul-put-packed c = search needs
-
-shared-slice-read-put-packed : tie.Need-shared-slice-read-put-packed Inv-loop μ-loop
-shared-slice-read-put-packed c = search needs
-
-add-put-packed : tie.Need-add-put-packed Inv-loop μ-loop
-add-put-packed c = search needs
-
-mul-put-packed-2 : tie.Need-mul-put-packed-2 Inv-loop μ-loop
-mul-put-packed-2 c = search needs
-
-shared-slice-read-put-packed-2 : tie.Need-shared-slice-read-put-packed-2 Inv-loop μ-loop
-shared-slice-read-put-packed-2 c = search needs
-
-add-put-packed-2 : tie.Need-add-put-packed-2 Inv-loop μ-loop
-add-put-packed-2 c = search needs
-
-mul-put-packed-3 : tie.Need-mul-put-packed-3 Inv-loop μ-loop
-mul-put-packed-3 c = search needs
-
-shared-slice-read-put-packed-3 : tie.Need-shared-slice-read-put-packed-3 Inv-loop μ-loop
-shared-slice-read-put-packed-3 c = search needs
-
-add-put-packed-3 : tie.Need-add-put-packed-3 Inv-loop μ-loop
-add-put-packed-3 c = search needs
-
-mul-put-packed-4 : tie.Need-mul-put-packed-4 Inv-loop μ-loop
-mul-put-packed-4 c = search needs
-
-shared-slice-read-put-packed-4 : tie.Need-shared-slice-read-put-packed-4 Inv-loop μ-loop
-shared-slice-read-put-packed-4 c = search needs
-
 put-packed-requires : tie.Need-put-packed-requires Inv-loop μ-loop
 put-packed-requires c κs =
     let l = c .before .before .before .before .before in
@@ -66,15 +33,6 @@ put-packed-requires c κs =
     let a = asked .args in
     let m = l .before .loop .inv in
     (omega arith, seven-next (a .rows .now) (l .before .loop .i) (omega arith) (m .7) .0)
-
-add-i : tie.Need-add-i Inv-loop μ-loop
-add-i c = search needs
-
-add-p : tie.Need-add-p Inv-loop μ-loop
-add-p c = search needs
-
-loop-less : tie.Need-loop-less Inv-loop μ-loop
-loop-less c = search needs
 
 loop-again : tie.Need-loop-again Inv-loop μ-loop
 loop-again c =
@@ -111,21 +69,21 @@ put-all-spec =
     Inv-loop
     μ-loop
     loop-holds
-    mul-put-packed
-    shared-slice-read-put-packed
-    add-put-packed
-    mul-put-packed-2
-    shared-slice-read-put-packed-2
-    add-put-packed-2
-    mul-put-packed-3
-    shared-slice-read-put-packed-3
-    add-put-packed-3
-    mul-put-packed-4
-    shared-slice-read-put-packed-4
+    (λ c. search needs)
+    (λ c. search needs)
+    (λ c. search needs)
+    (λ c. search needs)
+    (λ c. search needs)
+    (λ c. search needs)
+    (λ c. search needs)
+    (λ c. search needs)
+    (λ c. search needs)
+    (λ c. search needs)
+    (λ c. search needs)
     put-packed-requires
-    add-i
-    add-p
-    loop-less
+    (λ c. search needs)
+    (λ c. search needs)
+    (λ c. search needs)
     loop-again
     same-length
     returns)

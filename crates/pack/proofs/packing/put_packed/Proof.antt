@@ -11,77 +11,23 @@ use Rattle.pack.proofs.bytes.SevenBytes.{seven-is}
 use Rattle.pack.proofs.packing.put_packed.Statement.{statement}
 use Rattle.pack.proofs.packing.put_packed.Tie as tie
 
-sub-size : tie.Need-sub-size
-sub-size c = search needs
-
-mul-bytes : tie.Need-mul-bytes
-mul-bytes c = search needs
-
-add-bytes : tie.Need-add-bytes
-add-bytes c = search needs
-
-cast-bytes : tie.Need-cast-bytes
-cast-bytes c = search needs
-
-slice-write-bytes : tie.Need-slice-write-bytes
-slice-write-bytes c = search needs
-
-cast-bytes-2 : tie.Need-cast-bytes-2
-cast-bytes-2 c = search needs
-
-add-bytes-2 : tie.Need-add-bytes-2
-add-bytes-2 c = search needs
-
 slice-write-bytes-2 : tie.Need-slice-write-bytes-2
 slice-write-bytes-2 c = simp length-set (omega arith)
-
-cast-bytes-3 : tie.Need-cast-bytes-3
-cast-bytes-3 c = search needs
-
-add-bytes-3 : tie.Need-add-bytes-3
-add-bytes-3 c = search needs
 
 slice-write-bytes-3 : tie.Need-slice-write-bytes-3
 slice-write-bytes-3 c = simp length-set (omega arith)
 
-cast-bytes-4 : tie.Need-cast-bytes-4
-cast-bytes-4 c = search needs
-
-add-bytes-4 : tie.Need-add-bytes-4
-add-bytes-4 c = search needs
-
 slice-write-bytes-4 : tie.Need-slice-write-bytes-4
 slice-write-bytes-4 c = simp length-set (omega arith)
-
-cast-bytes-5 : tie.Need-cast-bytes-5
-cast-bytes-5 c = search needs
-
-add-bytes-5 : tie.Need-add-bytes-5
-add-bytes-5 c = search needs
 
 slice-write-bytes-5 : tie.Need-slice-write-bytes-5
 slice-write-bytes-5 c = simp length-set (omega arith)
 
-cast-bytes-6 : tie.Need-cast-bytes-6
-cast-bytes-6 c = search needs
-
-add-bytes-6 : tie.Need-add-bytes-6
-add-bytes-6 c = search needs
-
 slice-write-bytes-6 : tie.Need-slice-write-bytes-6
 slice-write-bytes-6 c = simp length-set (omega arith)
 
-cast-bytes-7 : tie.Need-cast-bytes-7
-cast-bytes-7 c = search needs
-
-add-bytes-7 : tie.Need-add-bytes-7
-add-bytes-7 c = search needs
-
 slice-write-bytes-7 : tie.Need-slice-write-bytes-7
 slice-write-bytes-7 c = simp length-set (omega arith)
-
-same-length : tie.Need-same-length
-same-length c = search needs
 
 returns : tie.Need-returns
 returns c =
@@ -96,28 +42,28 @@ pub put-packed-spec : {M : Type 1} → statement M
 put-packed-spec =
     tie.close
     (tie.spec
-    sub-size
-    mul-bytes
-    add-bytes
-    cast-bytes
-    slice-write-bytes
-    cast-bytes-2
-    add-bytes-2
+    (λ c. search needs)
+    (λ c. search needs)
+    (λ c. search needs)
+    (λ c. search needs)
+    (λ c. search needs)
+    (λ c. search needs)
+    (λ c. search needs)
     slice-write-bytes-2
-    cast-bytes-3
-    add-bytes-3
+    (λ c. search needs)
+    (λ c. search needs)
     slice-write-bytes-3
-    cast-bytes-4
-    add-bytes-4
+    (λ c. search needs)
+    (λ c. search needs)
     slice-write-bytes-4
-    cast-bytes-5
-    add-bytes-5
+    (λ c. search needs)
+    (λ c. search needs)
     slice-write-bytes-5
-    cast-bytes-6
-    add-bytes-6
+    (λ c. search needs)
+    (λ c. search needs)
     slice-write-bytes-6
-    cast-bytes-7
-    add-bytes-7
+    (λ c. search needs)
+    (λ c. search needs)
     slice-write-bytes-7
-    same-length
+    (λ c. search needs)
     returns)

@@ -23,44 +23,14 @@ abbrev μ-loop : tie.MeasureT-loop
 returns : tie.Need-returns Inv-loop μ-loop
 returns c = seven-count (c .before .before .args .bytes .now) (c .if1 .taken)
 
-first-requires : tie.Need-first-requires Inv-loop μ-loop
-first-requires c κs = search needs
-
 loop-holds : tie.Need-loop-holds Inv-loop μ-loop
 loop-holds c =
     let a = c .before .before .before .args in
     let if1 = c .before .if1 in
     (if1 .left, omega arith, omega arith, seven-start (a .bytes .now) (if1 .left) (c .first .ensures))
 
-shared-slice-read-head : tie.Need-shared-slice-read-head Inv-loop μ-loop
-shared-slice-read-head c = search needs
-
 cast-head : tie.Need-cast-head Inv-loop μ-loop
 cast-head c = omega (arith, c .shared-slice-known2 .given (c .before .before .loop .p))
-
-step-requires : tie.Need-step-requires Inv-loop μ-loop
-step-requires c κs = search needs
-
-add-three : tie.Need-add-three Inv-loop μ-loop
-add-three c = search needs
-
-three-requires : tie.Need-three-requires Inv-loop μ-loop
-three-requires c κs = search needs
-
-add-three-2 : tie.Need-add-three-2 Inv-loop μ-loop
-add-three-2 c = search needs
-
-three-requires-2 : tie.Need-three-requires-2 Inv-loop μ-loop
-three-requires-2 c κs = search needs
-
-add-if2 : tie.Need-add-if2 Inv-loop μ-loop
-add-if2 c = search needs
-
-add-p : tie.Need-add-p Inv-loop μ-loop
-add-p c = search needs
-
-loop-less : tie.Need-loop-less Inv-loop μ-loop
-loop-less c = search needs
 
 loop-again : tie.Need-loop-again Inv-loop μ-loop
 loop-again c =
@@ -85,9 +55,6 @@ returns-2 c =
     let e = lt-leb (r .end) mostBytes (omega (arith, c .before .before .three .ensures .0, c .before .three2 .ensures .0)) in
     judge-off (m .3) (sevens-next (a .bytes .now) (l .before .loop .p) (omega arith)) e
 
-is-whole-requires : tie.Need-is-whole-requires Inv-loop μ-loop
-is-whole-requires c κs = search needs
-
 returns-3 : tie.Need-returns-3 Inv-loop μ-loop
 returns-3 c =
     let l = c .before in
@@ -102,19 +69,19 @@ is-unpackable-spec =
     Inv-loop
     μ-loop
     returns
-    first-requires
+    (λ c κs. search needs)
     loop-holds
-    shared-slice-read-head
+    (λ c. search needs)
     cast-head
-    step-requires
-    add-three
-    three-requires
-    add-three-2
-    three-requires-2
-    add-if2
-    add-p
-    loop-less
+    (λ c κs. search needs)
+    (λ c. search needs)
+    (λ c κs. search needs)
+    (λ c. search needs)
+    (λ c κs. search needs)
+    (λ c. search needs)
+    (λ c. search needs)
+    (λ c. search needs)
     loop-again
     returns-2
-    is-whole-requires
+    (λ c κs. search needs)
     returns-3)

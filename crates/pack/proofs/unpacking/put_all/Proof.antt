@@ -17,44 +17,11 @@ Inv-loop bytes rows₀ end p₀ n₀ rows p n =
 abbrev μ-loop : tie.MeasureT-loop
 μ-loop bytes rows₀ end p₀ n₀ rows p n = end - p
 
-mul-end : tie.Need-mul-end Inv-loop μ-loop
-mul-end c = search needs
-
 loop-holds : tie.Need-loop-holds Inv-loop μ-loop
 loop-holds c = (refl, refl, omega arith, refl, c .before .before .pre, refl)
 
-shared-slice-read-head : tie.Need-shared-slice-read-head Inv-loop μ-loop
-shared-slice-read-head c = search needs
-
 cast-head : tie.Need-cast-head Inv-loop μ-loop
 cast-head c = omega (arith, c .shared-slice-known2 .given (c .before .before .loop .p))
-
-add-three : tie.Need-add-three Inv-loop μ-loop
-add-three c = search needs
-
-three-requires : tie.Need-three-requires Inv-loop μ-loop
-three-requires c κs = search needs
-
-add-three-2 : tie.Need-add-three-2 Inv-loop μ-loop
-add-three-2 c = search needs
-
-three-requires-2 : tie.Need-three-requires-2 Inv-loop μ-loop
-three-requires-2 c κs = search needs
-
-add-write-numbers : tie.Need-add-write-numbers Inv-loop μ-loop
-add-write-numbers c = search needs
-
-write-numbers-requires : tie.Need-write-numbers-requires Inv-loop μ-loop
-write-numbers-requires c κs = search needs
-
-add-p : tie.Need-add-p Inv-loop μ-loop
-add-p c = search needs
-
-add-n : tie.Need-add-n Inv-loop μ-loop
-add-n c = search needs
-
-loop-less : tie.Need-loop-less Inv-loop μ-loop
-loop-less c = search needs
 
 loop-again : tie.Need-loop-again Inv-loop μ-loop
 loop-again c =
@@ -93,19 +60,19 @@ put-all-spec =
     (tie.spec
     Inv-loop
     μ-loop
-    mul-end
+    (λ c. search needs)
     loop-holds
-    shared-slice-read-head
+    (λ c. search needs)
     cast-head
-    add-three
-    three-requires
-    add-three-2
-    three-requires-2
-    add-write-numbers
-    write-numbers-requires
-    add-p
-    add-n
-    loop-less
+    (λ c. search needs)
+    (λ c κs. search needs)
+    (λ c. search needs)
+    (λ c κs. search needs)
+    (λ c. search needs)
+    (λ c κs. search needs)
+    (λ c. search needs)
+    (λ c. search needs)
+    (λ c. search needs)
     loop-again
     same-length
     returns)

@@ -6,26 +6,11 @@ use Rattle.pack.specs.Digits.{ofDigits}
 use Rattle.pack.proofs.unpacking.three.Statement.{statement}
 use Rattle.pack.proofs.unpacking.three.Tie as tie
 
-shared-slice-read-a : tie.Need-shared-slice-read-a
-shared-slice-read-a c = search needs
-
 cast-a : tie.Need-cast-a
 cast-a c = omega (arith, c .shared-slice-known .given (c .before .args .p))
 
-add-b : tie.Need-add-b
-add-b c = search needs
-
-shared-slice-read-b : tie.Need-shared-slice-read-b
-shared-slice-read-b c = search needs
-
 cast-b : tie.Need-cast-b
 cast-b c = omega (arith, c .shared-slice-known2 .given (c .before .before .args .p + 1))
-
-add-c : tie.Need-add-c
-add-c c = search needs
-
-shared-slice-read-c : tie.Need-shared-slice-read-c
-shared-slice-read-c c = search needs
 
 cast-c : tie.Need-cast-c
 cast-c c = omega (arith, c .shared-slice-known3 .given (c .before .before .before .args .p + 2))
@@ -65,13 +50,13 @@ pub three-spec : {M : Type 1} → statement M
 three-spec =
     tie.close
     (tie.spec
-    shared-slice-read-a
+    (λ c. search needs)
     cast-a
-    add-b
-    shared-slice-read-b
+    (λ c. search needs)
+    (λ c. search needs)
     cast-b
-    add-c
-    shared-slice-read-c
+    (λ c. search needs)
+    (λ c. search needs)
     cast-c
     mul-result
     mul-result-2

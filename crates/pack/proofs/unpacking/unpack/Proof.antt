@@ -6,19 +6,10 @@ use Rattle.pack.proofs.contracts.Answers.{unpack-done, unpack-full, unp
 use Rattle.pack.proofs.unpacking.unpack.Statement.{statement}
 use Rattle.pack.proofs.unpacking.unpack.Tie as tie
 
-is-unpackable-requires : tie.Need-is-unpackable-requires
-is-unpackable-requires c κs = search needs
-
 returns : tie.Need-returns
 returns c =
     let a = c .before .before .before .before .before .args in
     unpack-full (a .bytes .now) (a .rows .now) (sym (c .before .before .is-unpackable .ensures) ∙ c .before .if1 .taken) (omega arith)
-
-put-all-requires : tie.Need-put-all-requires
-put-all-requires c κs = search needs
-
-same-length : tie.Need-same-length
-same-length c = search needs
 
 returns-2 : tie.Need-returns-2
 returns-2 c =
@@ -37,4 +28,4 @@ returns-3 c =
 pub unpack-spec : {M : Type 1} → statement M
 unpack-spec =
     tie.close
-    (tie.spec is-unpackable-requires returns put-all-requires same-length returns-2 returns-3)
+    (tie.spec (λ c κs. search needs) returns (λ c κs. search needs) (λ c. search needs) returns-2 returns-3)

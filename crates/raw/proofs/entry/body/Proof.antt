@@ -9,51 +9,12 @@ use Rattle.raw.proofs.ways.EntryWays.{body-off, body-on}
 use Rattle.raw.proofs.entry.body.Statement.{statement}
 use Rattle.raw.proofs.entry.body.Tie as tie
 
-key-requires : tie.Need-key-requires
-key-requires c κs = search needs
-
-eat-whitespace-requires : tie.Need-eat-whitespace-requires
-eat-whitespace-requires c κs = search needs
-
-comma-requires : tie.Need-comma-requires
-comma-requires c κs = search needs
-
-enum-known-r3 : tie.Need-enum-known-r3
-enum-known-r3 c = search needs
-
-enum-told : tie.Need-enum-told
-enum-told c = search needs
-
-refused-requires : tie.Need-refused-requires
-refused-requires c κs = search needs
-
 returns : tie.Need-returns
 returns c =
     let m = c .before .before .before in
     let a = m .before .before .before .before .before .args in
     body-off (a .s .now) (a .at) (m .before .before .key .ensures .0) (m .before .eat-whitespace .ensures .0) (m .comma .ensures .0)
     (c .before .enum-told .given .1) (c .refused .ensures)
-
-eat-whitespace-requires-2 : tie.Need-eat-whitespace-requires-2
-eat-whitespace-requires-2 c κs = search needs
-
-comment-requires : tie.Need-comment-requires
-comment-requires c κs = search needs
-
-eat-whitespace-requires-3 : tie.Need-eat-whitespace-requires-3
-eat-whitespace-requires-3 c κs = search needs
-
-add-put-row : tie.Need-add-put-row
-add-put-row c = search needs
-
-add-put-row-2 : tie.Need-add-put-row-2
-add-put-row-2 c = search needs
-
-put-row-requires : tie.Need-put-row-requires
-put-row-requires c κs = search needs
-
-add-fields : tie.Need-add-fields
-add-fields c = search needs
 
 fields-requires : tie.Need-fields-requires
 fields-requires c κs =
@@ -62,9 +23,6 @@ fields-requires c κs =
     let k = step-place (length (a .s .now)) 1 (m .before .before .before .eat-whitespace .result) (m .r3 .given .1) (m .before .before .comma .ensures .1) (omega arith) in
     ready-later (c .before .before .before .before .before .eat-whitespace3 .result) (a .n + 1)
     (m .before .before .before .before .before .before .before .pre) (omega arith) (omega arith) (omega arith)
-
-same-length : tie.Need-same-length
-same-length c = search needs
 
 returns-2 : tie.Need-returns-2
 returns-2 c =
@@ -84,20 +42,20 @@ pub body-spec : {M : Type 1} → statement M
 body-spec =
     tie.close
     (tie.spec
-    key-requires
-    eat-whitespace-requires
-    comma-requires
-    enum-known-r3
-    enum-told
-    refused-requires
+    (λ c κs. search needs)
+    (λ c κs. search needs)
+    (λ c κs. search needs)
+    (λ c. search needs)
+    (λ c. search needs)
+    (λ c κs. search needs)
     returns
-    eat-whitespace-requires-2
-    comment-requires
-    eat-whitespace-requires-3
-    add-put-row
-    add-put-row-2
-    put-row-requires
-    add-fields
+    (λ c κs. search needs)
+    (λ c κs. search needs)
+    (λ c κs. search needs)
+    (λ c. search needs)
+    (λ c. search needs)
+    (λ c κs. search needs)
+    (λ c. search needs)
     fields-requires
-    same-length
+    (λ c. search needs)
     returns-2)

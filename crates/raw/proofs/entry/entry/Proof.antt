@@ -9,35 +9,11 @@ use Rattle.raw.proofs.ways.EntryWays.{entry-at-off, entry-type-off, ent
 use Rattle.raw.proofs.entry.entry.Statement.{statement}
 use Rattle.raw.proofs.entry.entry.Tie as tie
 
-at-sign-requires : tie.Need-at-sign-requires
-at-sign-requires c κs = search needs
-
-enum-known-r1 : tie.Need-enum-known-r1
-enum-known-r1 c = search needs
-
-enum-told : tie.Need-enum-told
-enum-told c = search needs
-
-refused-requires : tie.Need-refused-requires
-refused-requires c κs = search needs
-
 returns : tie.Need-returns
 returns c =
     let p = c .before .before .before in
     let a = p .before .before .before .args in
     entry-at-off (a .s .now) (a .at) (p .at-sign .ensures .0) (c .before .enum-told .given .1) (c .refused .ensures)
-
-ident-requires : tie.Need-ident-requires
-ident-requires c κs = search needs
-
-enum-known-r2 : tie.Need-enum-known-r2
-enum-known-r2 c = search needs
-
-enum-told-2 : tie.Need-enum-told-2
-enum-told-2 c = search needs
-
-refused-requires-2 : tie.Need-refused-requires-2
-refused-requires-2 c κs = search needs
 
 returns-2 : tie.Need-returns-2
 returns-2 c =
@@ -67,15 +43,6 @@ rest-requires c κs =
     let k₂ = step-place (length (a .s .now)) 1 _ (t .r2 .given .1) (t .before .before .ident .ensures .1) (k₁ .1) in
     (ready-later _ (a .n + 1) (p .before .before .before .before .before .pre) (omega arith) (k₂ .1) (omega arith), omega arith, omega arith)
 
-enum-known-r3 : tie.Need-enum-known-r3
-enum-known-r3 c = search needs
-
-enum-told-3 : tie.Need-enum-told-3
-enum-told-3 c = search needs
-
-same-length : tie.Need-same-length
-same-length c = search needs
-
 returns-3 : tie.Need-returns-3
 returns-3 c =
     let rest = c .before .before .before .before in
@@ -85,24 +52,6 @@ returns-3 c =
     let a = p .before .before .before .before .before .args in
     entry-rest-off (a .s .now) (a .at) (p .before .before .at-sign .ensures .0) (p .r1 .given .1) (t .before .before .before .ident .ensures .0)
     (t .before .r2 .given .1) (form-of .form-of .ensures) (c .enum-told3 .given .1) (rest .rest .ensures .0)
-
-eat-whitespace-requires : tie.Need-eat-whitespace-requires
-eat-whitespace-requires c κs = search needs
-
-closing-requires : tie.Need-closing-requires
-closing-requires c κs = search needs
-
-enum-known-r5 : tie.Need-enum-known-r5
-enum-known-r5 c = search needs
-
-enum-told-4 : tie.Need-enum-told-4
-enum-told-4 c = search needs
-
-refused-requires-3 : tie.Need-refused-requires-3
-refused-requires-3 c κs = search needs
-
-same-length-2 : tie.Need-same-length-2
-same-length-2 c = search needs
 
 returns-4 : tie.Need-returns-4
 returns-4 c =
@@ -118,9 +67,6 @@ returns-4 c =
     entry-end-off (a .s .now) (a .at) (p .before .before .at-sign .ensures .0) (p .r1 .given .1) (t .before .before .before .ident .ensures .0)
     (t .before .r2 .given .1) (form-of .form-of .ensures) (rest .rest .ensures .0) (r3 .r3 .given .1) (eat-whitespace .eat-whitespace .ensures .0) (closing .closing .ensures .0)
     (enum-told4 .enum-told4 .given .1) (c .refused3 .ensures)
-
-same-length-3 : tie.Need-same-length-3
-same-length-3 c = search needs
 
 returns-5 : tie.Need-returns-5
 returns-5 c =
@@ -147,28 +93,28 @@ pub entry-spec : {M : Type 1} → statement M
 entry-spec =
     tie.close
     (tie.spec
-    at-sign-requires
-    enum-known-r1
-    enum-told
-    refused-requires
+    (λ c κs. search needs)
+    (λ c. search needs)
+    (λ c. search needs)
+    (λ c κs. search needs)
     returns
-    ident-requires
-    enum-known-r2
-    enum-told-2
-    refused-requires-2
+    (λ c κs. search needs)
+    (λ c. search needs)
+    (λ c. search needs)
+    (λ c κs. search needs)
     returns-2
     form-of-requires
     rest-requires
-    enum-known-r3
-    enum-told-3
-    same-length
+    (λ c. search needs)
+    (λ c. search needs)
+    (λ c. search needs)
     returns-3
-    eat-whitespace-requires
-    closing-requires
-    enum-known-r5
-    enum-told-4
-    refused-requires-3
-    same-length-2
+    (λ c κs. search needs)
+    (λ c κs. search needs)
+    (λ c. search needs)
+    (λ c. search needs)
+    (λ c κs. search needs)
+    (λ c. search needs)
     returns-4
-    same-length-3
+    (λ c. search needs)
     returns-5)

@@ -7,18 +7,12 @@ use Rattle.raw.proofs.ways.SpellingBytes.{ascii-word}
 use Rattle.raw.proofs.entry.form_of.Statement.{statement}
 use Rattle.raw.proofs.entry.form_of.Tie as tie
 
-slice-aggregate-spells : tie.Need-slice-aggregate-spells
-slice-aggregate-spells c = search needs
-
 spells-requires : tie.Need-spells-requires
 spells-requires c κs = let p = c .before .before .pre in (p .0, p .1, ascii-word (0x73 ∷ 0x74 ∷ 0x72 ∷ 0x69 ∷ 0x6E ∷ 0x67 ∷ []) tt)
 
 returns : tie.Need-returns
 unfolding formOf
 returns c = rw (sym (c .before .spells .ensures) ∙ c .if1 .taken)
-
-slice-aggregate-spells-2 : tie.Need-slice-aggregate-spells-2
-slice-aggregate-spells-2 c = search needs
 
 spells-requires-2 : tie.Need-spells-requires-2
 spells-requires-2 c κs =
@@ -32,9 +26,6 @@ returns-2 c =
     let if1 = c .before .before .before .if1 in
     let spells2 = c .before .spells2 in
     rw (sym (spells .ensures) ∙ if1 .left, sym (spells2 .ensures) ∙ c .if2 .taken)
-
-slice-aggregate-spells-3 : tie.Need-slice-aggregate-spells-3
-slice-aggregate-spells-3 c = search needs
 
 spells-requires-3 : tie.Need-spells-requires-3
 spells-requires-3 c κs =
@@ -65,13 +56,13 @@ pub form-of-spec : {M : Type 1} → statement M
 form-of-spec =
     tie.close
     (tie.spec
-    slice-aggregate-spells
+    (λ c. search needs)
     spells-requires
     returns
-    slice-aggregate-spells-2
+    (λ c. search needs)
     spells-requires-2
     returns-2
-    slice-aggregate-spells-3
+    (λ c. search needs)
     spells-requires-3
     returns-3
     returns-4)

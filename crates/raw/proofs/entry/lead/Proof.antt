@@ -4,27 +4,12 @@ use Rattle.raw.proofs.ways.EntryWays.{lead-off, lead-on}
 use Rattle.raw.proofs.entry.lead.Statement.{statement}
 use Rattle.raw.proofs.entry.lead.Tie as tie
 
-eat-whitespace-requires : tie.Need-eat-whitespace-requires
-eat-whitespace-requires c κs = search needs
-
-opening-requires : tie.Need-opening-requires
-opening-requires c κs = search needs
-
-enum-known-r2 : tie.Need-enum-known-r2
-enum-known-r2 c = search needs
-
-enum-told : tie.Need-enum-told
-enum-told c = search needs
-
 returns : tie.Need-returns
 returns c =
     let a = c .before .before .before .before .before .args in
     let eat-whitespace = c .before .before .before .eat-whitespace in
     let opening = c .before .before .opening in
     lead-off (a .s .now) (a .at) (eat-whitespace .ensures .0) (eat-whitespace .ensures .1) (opening .ensures .0) (c .enum-told .given .1)
-
-eat-whitespace-requires-2 : tie.Need-eat-whitespace-requires-2
-eat-whitespace-requires-2 c κs = search needs
 
 returns-2 : tie.Need-returns-2
 returns-2 c =
@@ -41,10 +26,10 @@ pub lead-spec : {M : Type 1} → statement M
 lead-spec =
     tie.close
     (tie.spec
-    eat-whitespace-requires
-    opening-requires
-    enum-known-r2
-    enum-told
+    (λ c κs. search needs)
+    (λ c κs. search needs)
+    (λ c. search needs)
+    (λ c. search needs)
     returns
-    eat-whitespace-requires-2
+    (λ c κs. search needs)
     returns-2)

@@ -10,26 +10,11 @@ use Rattle.raw.proofs.ways.EntryWays.{rest-off, rest-strings, rest-prea
 use Rattle.raw.proofs.entry.rest.Statement.{statement}
 use Rattle.raw.proofs.entry.rest.Tie as tie
 
-lead-requires : tie.Need-lead-requires
-lead-requires c κs = search needs
-
-enum-known-r1 : tie.Need-enum-known-r1
-enum-known-r1 c = search needs
-
-enum-told : tie.Need-enum-told
-enum-told c = search needs
-
-refused-requires : tie.Need-refused-requires
-refused-requires c κs = search needs
-
 returns : tie.Need-returns
 returns c =
     let l = c .before .before .before in
     let a = l .before .before .before .args in
     rest-off (a .s .now) (a .start) (a .at) (a .end) (l .lead .ensures .0) (a .form) (c .before .enum-told .given .1) (c .refused .ensures)
-
-enum-told-2 : tie.Need-enum-told-2
-enum-told-2 c = search needs
 
 fields-requires : tie.Need-fields-requires
 fields-requires c κs =
@@ -39,9 +24,6 @@ fields-requires c κs =
     (l .before .before .before .before .before .pre .0 .place) in
     ready-later _ (a .n) (l .before .before .before .before .before .pre .0) (omega arith) (k .1) (omega arith)
 
-enum-told-3 : tie.Need-enum-told-3
-enum-told-3 c = search needs
-
 preamble-requires : tie.Need-preamble-requires
 preamble-requires c κs =
     let l = c .before .before .before .before in
@@ -49,30 +31,6 @@ preamble-requires c κs =
     let k = step-place (length (a .s .now)) 1 (a .end) (l .r1 .given .1) (l .before .before .lead .ensures .1)
     (l .before .before .before .before .before .pre .0 .place) in
     ready-later _ (a .n) (l .before .before .before .before .before .pre .0) (omega arith) (k .1) (omega arith)
-
-enum-told-4 : tie.Need-enum-told-4
-enum-told-4 c = search needs
-
-eat-until-requires : tie.Need-eat-until-requires
-eat-until-requires c κs = search needs
-
-enum-told-5 : tie.Need-enum-told-5
-enum-told-5 c = search needs
-
-add-put-row : tie.Need-add-put-row
-add-put-row c = search needs
-
-add-put-row-2 : tie.Need-add-put-row-2
-add-put-row-2 c = search needs
-
-add-put-row-3 : tie.Need-add-put-row-3
-add-put-row-3 c = search needs
-
-put-row-requires : tie.Need-put-row-requires
-put-row-requires c κs = search needs
-
-add-body : tie.Need-add-body
-add-body c = search needs
 
 body-requires : tie.Need-body-requires
 body-requires c κs =
@@ -82,15 +40,6 @@ body-requires c κs =
     (l .before .before .before .before .before .pre .0 .place) in
     ready-later _ (a .n + 2) (l .before .before .before .before .before .pre .0) (omega arith) (k .1) (omega arith)
 
-enum-known-r2 : tie.Need-enum-known-r2
-enum-known-r2 c = search needs
-
-enum-told-6 : tie.Need-enum-told-6
-enum-told-6 c = search needs
-
-same-length : tie.Need-same-length
-same-length c = search needs
-
 returns-2 : tie.Need-returns-2
 returns-2 c =
     let body = c .before .before .before .before in
@@ -99,9 +48,6 @@ returns-2 c =
     let a = l .before .before .before .before .before .before .args in
     rest-other-off (a .s .now) (a .start) (a .at) (a .end) (l .before .before .before .lead .ensures .0) (a .form) (l .before .r1 .given .1) (enum-told5 .enum-told5 .given .1)
     (c .enum-told6 .given .1) (body .body .ensures .0)
-
-add-put-row-4 : tie.Need-add-put-row-4
-add-put-row-4 c = search needs
 
 add-put-row-5 : tie.Need-add-put-row-5
 add-put-row-5 c =
@@ -125,9 +71,6 @@ put-row-requires-2 c κs =
     let q = answer-place (length (a .s .now)) 1 _ (a .n + 2) (r2 .given .1) (body .ensures .1) (k .1) in
     (omega arith, omega arith)
 
-same-length-2 : tie.Need-same-length-2
-same-length-2 c = search needs
-
 returns-3 : tie.Need-returns-3
 returns-3 c =
     let fields = c .before .before in
@@ -141,9 +84,6 @@ returns-3 c =
       within-later (length (a .s .now)) 0 _ (a .n) 1 (a .end) (a .n + 1) (fields .fields .result) (omega arith) (omega arith) (omega arith)
           (fields .fields .ensures .1),
     )
-
-same-length-3 : tie.Need-same-length-3
-same-length-3 c = search needs
 
 returns-4 : tie.Need-returns-4
 returns-4 c =
@@ -171,9 +111,6 @@ returns-5 c =
       (omega arith, omega arith, omega arith),
     )
 
-same-length-4 : tie.Need-same-length-4
-same-length-4 c = search needs
-
 returns-6 : tie.Need-returns-6
 returns-6 c =
     let put-row2 = c .before .before in
@@ -195,35 +132,35 @@ pub rest-spec : {M : Type 1} → statement M
 rest-spec =
     tie.close
     (tie.spec
-    lead-requires
-    enum-known-r1
-    enum-told
-    refused-requires
+    (λ c κs. search needs)
+    (λ c. search needs)
+    (λ c. search needs)
+    (λ c κs. search needs)
     returns
-    enum-told-2
+    (λ c. search needs)
     fields-requires
-    enum-told-3
+    (λ c. search needs)
     preamble-requires
-    enum-told-4
-    eat-until-requires
-    enum-told-5
-    add-put-row
-    add-put-row-2
-    add-put-row-3
-    put-row-requires
-    add-body
+    (λ c. search needs)
+    (λ c κs. search needs)
+    (λ c. search needs)
+    (λ c. search needs)
+    (λ c. search needs)
+    (λ c. search needs)
+    (λ c κs. search needs)
+    (λ c. search needs)
     body-requires
-    enum-known-r2
-    enum-told-6
-    same-length
+    (λ c. search needs)
+    (λ c. search needs)
+    (λ c. search needs)
     returns-2
-    add-put-row-4
+    (λ c. search needs)
     add-put-row-5
     put-row-requires-2
-    same-length-2
+    (λ c. search needs)
     returns-3
-    same-length-3
+    (λ c. search needs)
     returns-4
     returns-5
-    same-length-4
+    (λ c. search needs)
     returns-6)

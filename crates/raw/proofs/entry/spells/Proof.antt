@@ -33,9 +33,6 @@ add-lower c = omega arith
 shared-slice-read-lower : tie.Need-shared-slice-read-lower Inv-loop μ-loop
 shared-slice-read-lower c = omega arith
 
-lower-requires : tie.Need-lower-requires Inv-loop μ-loop
-lower-requires c κs = search needs
-
 shared-slice-read-if2 : tie.Need-shared-slice-read-if2 Inv-loop μ-loop
 shared-slice-read-if2 c = omega arith
 
@@ -89,7 +86,7 @@ spells-spec =
     loop-holds
     add-lower
     shared-slice-read-lower
-    lower-requires
+    (λ c κs. search needs)
     shared-slice-read-if2
     returns-2
     add-k

@@ -6,21 +6,6 @@ use Rattle.raw.proofs.ways.FieldWays.{end-end, end-comma, end-brace, en
 use Rattle.raw.proofs.field.field_end.Statement.{statement}
 use Rattle.raw.proofs.field.field_end.Tie as tie
 
-eat-whitespace-requires : tie.Need-eat-whitespace-requires
-eat-whitespace-requires c κs = search needs
-
-shared-slice-read-b : tie.Need-shared-slice-read-b
-shared-slice-read-b c = search needs
-
-add-eat-whitespace : tie.Need-add-eat-whitespace
-add-eat-whitespace c = search needs
-
-eat-whitespace-requires-2 : tie.Need-eat-whitespace-requires-2
-eat-whitespace-requires-2 c κs = search needs
-
-comment-requires : tie.Need-comment-requires
-comment-requires c κs = search needs
-
 returns : tie.Need-returns
 returns c =
     let if2 = c .before .before in
@@ -63,11 +48,11 @@ pub field-end-spec : {M : Type 1} → statement M
 field-end-spec =
     tie.close
     (tie.spec
-    eat-whitespace-requires
-    shared-slice-read-b
-    add-eat-whitespace
-    eat-whitespace-requires-2
-    comment-requires
+    (λ c κs. search needs)
+    (λ c. search needs)
+    (λ c. search needs)
+    (λ c κs. search needs)
+    (λ c κs. search needs)
     returns
     returns-2
     returns-3

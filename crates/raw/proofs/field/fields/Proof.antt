@@ -34,9 +34,6 @@ fields-turn-requires : tie.Need-fields-turn-requires Inv-loop μ-loop
 fields-turn-requires c κs =
     let l = c .before .loop in ready-later (l .p) (l .m) (c .before .before .before .before .pre) (l .inv .0) (l .inv .1) (l .inv .2)
 
-enum-known-q : tie.Need-enum-known-q Inv-loop μ-loop
-enum-known-q c = search needs
-
 loop-less : tie.Need-loop-less Inv-loop μ-loop
 loop-less c =
     let q = c .before in
@@ -64,9 +61,6 @@ loop-again c =
       loop-on (fieldsTurn (a .kind)) (a .s .now) (l .loop .p) (λ a s p. refl) (l .loop .inv .4) (omega arith) (k .1) t,
     )
 
-enum-known-q-2 : tie.Need-enum-known-q-2 Inv-loop μ-loop
-enum-known-q-2 c = search needs
-
 same-length : tie.Need-same-length Inv-loop μ-loop
 same-length c =
     let fields-turn = c .before .before .before .before .before in
@@ -85,9 +79,6 @@ returns c =
       loop-done (fieldsTurn (a .kind)) (a .s .now) (l .loop .p) (l .loop .inv .4) (turn-at (q2 .q2 .given .1) (fields-turn .fields-turn .ensures .0)),
       (omega arith, omega arith, omega arith),
     )
-
-enum-known-f : tie.Need-enum-known-f Inv-loop μ-loop
-enum-known-f c = search needs
 
 same-length-2 : tie.Need-same-length-2 Inv-loop μ-loop
 same-length-2 c =
@@ -113,12 +104,12 @@ fields-spec =
     μ-loop
     loop-holds
     fields-turn-requires
-    enum-known-q
+    (λ c. search needs)
     loop-less
     loop-again
-    enum-known-q-2
+    (λ c. search needs)
     same-length
     returns
-    enum-known-f
+    (λ c. search needs)
     same-length-2
     returns-2)

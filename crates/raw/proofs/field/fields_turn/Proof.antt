@@ -12,12 +12,6 @@ use Rattle.raw.proofs.field.fields_turn.Tie as tie
 returns : tie.Need-returns
 returns c = let a = c .before .before .before .args in (turn-off (fields-eof (a .kind) (a .s .now) (a .at) (c .if1 .taken)), tt)
 
-eat-whitespace-requires : tie.Need-eat-whitespace-requires
-eat-whitespace-requires c κs = search needs
-
-shared-slice-read-if3 : tie.Need-shared-slice-read-if3
-shared-slice-read-if3 c = search needs
-
 returns-2 : tie.Need-returns-2
 returns-2 c =
     let eat-whitespace = c .before .before .before in
@@ -28,15 +22,6 @@ returns-2 c =
       turn-done (fields-brace (a .kind) (a .s .now) (a .at) (if1 .if1 .left) (eat-whitespace .eat-whitespace .ensures .0) (if2 .taken) (c .if3 .taken)),
       (omega arith, omega arith, omega arith),
     )
-
-field-requires : tie.Need-field-requires
-field-requires c κs = search needs
-
-enum-known-f : tie.Need-enum-known-f
-enum-known-f c = search needs
-
-same-length : tie.Need-same-length
-same-length c = search needs
 
 returns-3 : tie.Need-returns-3
 returns-3 c =
@@ -53,15 +38,6 @@ returns-3 c =
           (says-at (f .given .1) (field .field .ensures .0)),
       tt,
     )
-
-enum-known-p2 : tie.Need-enum-known-p2
-enum-known-p2 c = search needs
-
-field-end-requires : tie.Need-field-end-requires
-field-end-requires c κs = search needs
-
-same-length-2 : tie.Need-same-length-2
-same-length-2 c = search needs
 
 returns-4 : tie.Need-returns-4
 returns-4 c =
@@ -87,14 +63,14 @@ fields-turn-spec =
     tie.close
     (tie.spec
     returns
-    eat-whitespace-requires
-    shared-slice-read-if3
+    (λ c κs. search needs)
+    (λ c. search needs)
     returns-2
-    field-requires
-    enum-known-f
-    same-length
+    (λ c κs. search needs)
+    (λ c. search needs)
+    (λ c. search needs)
     returns-3
-    enum-known-p2
-    field-end-requires
-    same-length-2
+    (λ c. search needs)
+    (λ c κs. search needs)
+    (λ c. search needs)
     returns-4)

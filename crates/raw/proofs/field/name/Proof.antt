@@ -4,12 +4,6 @@ use Rattle.raw.proofs.ways.TokenWays.{ident-letters}
 use Rattle.raw.proofs.field.name.Statement.{statement}
 use Rattle.raw.proofs.field.name.Tie as tie
 
-eat-letters-requires : tie.Need-eat-letters-requires
-eat-letters-requires c κs = search needs
-
-shared-slice-read-b : tie.Need-shared-slice-read-b
-shared-slice-read-b c = search needs
-
 returns : tie.Need-returns
 returns c =
     let if2 = c .before .before in
@@ -19,12 +13,9 @@ returns c =
     let a = asked .args in
     ident-letters (a .s .now) (a .at) (eat-letters .eat-letters .ensures) (if1 .if1 .taken) (if2 .if2 .taken) (c .if3 .taken)
 
-ident-requires : tie.Need-ident-requires
-ident-requires c κs = search needs
-
 returns-2 : tie.Need-returns-2
 returns-2 c = c .ident .ensures
 
 pub name-spec : {M : Type 1} → statement M
 name-spec =
-    tie.close (tie.spec eat-letters-requires shared-slice-read-b returns ident-requires returns-2)
+    tie.close (tie.spec (λ c κs. search needs) (λ c. search needs) returns (λ c κs. search needs) returns-2)

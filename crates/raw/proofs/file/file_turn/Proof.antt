@@ -10,25 +10,10 @@ use Rattle.raw.proofs.ways.FileWays.{file-end, file-entry, file-comment
 use Rattle.raw.proofs.file.file_turn.Statement.{statement}
 use Rattle.raw.proofs.file.file_turn.Tie as tie
 
-eat-gap-requires : tie.Need-eat-gap-requires
-eat-gap-requires c κs = search needs
-
 returns : tie.Need-returns
 returns c =
     let a = c .before .before .before .before .args in
     (turn-done (file-end (a .s .now) (a .at) (c .before .eat-gap .ensures .0) (c .if1 .taken)), (omega arith, omega arith, omega arith))
-
-shared-slice-read-b : tie.Need-shared-slice-read-b
-shared-slice-read-b c = search needs
-
-entry-requires : tie.Need-entry-requires
-entry-requires c κs = search needs
-
-enum-known-p2 : tie.Need-enum-known-p2
-enum-known-p2 c = search needs
-
-same-length : tie.Need-same-length
-same-length c = search needs
 
 returns-2 : tie.Need-returns-2
 returns-2 c =
@@ -43,12 +28,6 @@ returns-2 c =
     let e = file-entry (a .s .now) (a .at) (eat-gap .eat-gap .ensures .0) (if1 .if1 .left) (if2 .if2 .taken) in
     (turn-of e (turn-then _ (says-at (p2 .p2 .given .1) (entry .entry .ensures .0)) (turn-again refl)), (omega arith, omega arith, omega arith))
 
-enum-known-f : tie.Need-enum-known-f
-enum-known-f c = search needs
-
-same-length-2 : tie.Need-same-length-2
-same-length-2 c = search needs
-
 returns-3 : tie.Need-returns-3
 returns-3 c =
     let f = c .before in
@@ -61,9 +40,6 @@ returns-3 c =
     let e = file-entry (a .s .now) (a .at) (eat-gap .eat-gap .ensures .0) (if1 .if1 .left) (if2 .if2 .taken) in
     (turn-off (e ∙ then-off _ (said-off (says-at (f .f .given .1) (entry .entry .ensures .0)))), tt)
 
-comment-requires : tie.Need-comment-requires
-comment-requires c κs = search needs
-
 returns-4 : tie.Need-returns-4
 returns-4 c =
     let if3 = c .before in
@@ -75,9 +51,6 @@ returns-4 c =
       turn-again (file-comment (a .s .now) (a .at) (eat-gap .eat-gap .ensures .0) (if1 .if1 .left) (if3 .if3 .taken) (c .comment .ensures .0)),
       (omega arith, omega arith, omega arith),
     )
-
-eat-requires : tie.Need-eat-requires
-eat-requires c κs = search needs
 
 returns-5 : tie.Need-returns-5
 returns-5 c =
@@ -94,17 +67,17 @@ pub file-turn-spec : {M : Type 1} → statement M
 file-turn-spec =
     tie.close
     (tie.spec
-    eat-gap-requires
+    (λ c κs. search needs)
     returns
-    shared-slice-read-b
-    entry-requires
-    enum-known-p2
-    same-length
+    (λ c. search needs)
+    (λ c κs. search needs)
+    (λ c. search needs)
+    (λ c. search needs)
     returns-2
-    enum-known-f
-    same-length-2
+    (λ c. search needs)
+    (λ c. search needs)
     returns-3
-    comment-requires
+    (λ c κs. search needs)
     returns-4
-    eat-requires
+    (λ c κs. search needs)
     returns-5)

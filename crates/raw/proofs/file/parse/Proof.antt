@@ -27,9 +27,6 @@ file-turn-requires : tie.Need-file-turn-requires Inv-loop μ-loop
 file-turn-requires c κs =
     let l = c .before .loop in ready-later (l .p) (l .m) (c .before .before .before .before .pre) (omega arith) (l .inv .0) (omega arith)
 
-enum-known-q : tie.Need-enum-known-q Inv-loop μ-loop
-enum-known-q c = search needs
-
 loop-less : tie.Need-loop-less Inv-loop μ-loop
 loop-less c =
     let q = c .before in
@@ -55,9 +52,6 @@ loop-again c =
       loop-on fileTurn (a .s .now) (l .loop .p) (λ a s p. refl) (l .loop .inv .3) (omega arith) (k .1) (turn-at (q .q .given .1) (file-turn .file-turn .ensures .0)),
     )
 
-enum-known-q-2 : tie.Need-enum-known-q-2 Inv-loop μ-loop
-enum-known-q-2 c = search needs
-
 same-length : tie.Need-same-length Inv-loop μ-loop
 same-length c =
     let file-turn = c .before .before .before .before .before in
@@ -74,9 +68,6 @@ returns c =
     let a = asked .args in
     let k = done-place (length (a .s .now)) 0 (l .loop .p) (l .loop .m) 1 (q2 .q2 .given .1) (file-turn .file-turn .ensures .1) (l .loop .inv .0) in
     (loop-done fileTurn (a .s .now) (l .loop .p) (l .loop .inv .3) (turn-at (q2 .q2 .given .1) (file-turn .file-turn .ensures .0)), (omega arith, omega arith, omega arith))
-
-enum-known-f : tie.Need-enum-known-f Inv-loop μ-loop
-enum-known-f c = search needs
 
 same-length-2 : tie.Need-same-length-2 Inv-loop μ-loop
 same-length-2 c =
@@ -102,12 +93,12 @@ parse-spec =
     μ-loop
     loop-holds
     file-turn-requires
-    enum-known-q
+    (λ c. search needs)
     loop-less
     loop-again
-    enum-known-q-2
+    (λ c. search needs)
     same-length
     returns
-    enum-known-f
+    (λ c. search needs)
     same-length-2
     returns-2)

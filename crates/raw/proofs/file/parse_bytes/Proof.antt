@@ -4,26 +4,11 @@ use Rattle.raw.proofs.ways.FileWays.{bytes-ill, bytes-valid}
 use Rattle.raw.proofs.file.parse_bytes.Statement.{statement}
 use Rattle.raw.proofs.file.parse_bytes.Tie as tie
 
-validate-requires : tie.Need-validate-requires
-validate-requires c κs = search needs
-
-enum-known-i : tie.Need-enum-known-i
-enum-known-i c = search needs
-
-enum-told : tie.Need-enum-told
-enum-told c = search needs
-
-parse-requires : tie.Need-parse-requires
-parse-requires c κs = search needs
-
 returns : tie.Need-returns
 returns c =
     let checked = c .before .before .before in
     let b = checked .before .before .before in
     (bytes-ill (b .args .s .now) (b .args .base) (b .args .rows .now) (b .pre) (checked .validate .ensures) (c .before .i .given .1), tt)
-
-same-length : tie.Need-same-length
-same-length c = search needs
 
 returns-2 : tie.Need-returns-2
 returns-2 c =
@@ -37,4 +22,4 @@ returns-2 c =
     )
 
 pub parse-bytes-spec : {M : Type 1} → statement M
-parse-bytes-spec = tie.close (tie.spec validate-requires enum-known-i enum-told parse-requires returns same-length returns-2)
+parse-bytes-spec = tie.close (tie.spec (λ c κs. search needs) (λ c. search needs) (λ c. search needs) (λ c κs. search needs) returns (λ c. search needs) returns-2)

@@ -7,23 +7,11 @@ use Rattle.raw.proofs.file.read.Tie as tie
 returns : tie.Need-returns
 returns c = let a = c .before .before .before .args in read-long (a .s .now) (a .rows .now) (c .if1 .taken)
 
-slice-aggregate-parse-bytes : tie.Need-slice-aggregate-parse-bytes
-slice-aggregate-parse-bytes c = search needs
-
-parse-bytes-requires : tie.Need-parse-bytes-requires
-parse-bytes-requires c κs = search needs
-
-enum-known-f : tie.Need-enum-known-f
-enum-known-f c = search needs
-
 returns-2 : tie.Need-returns-2
 returns-2 c =
     let counted = c .before .before .before .before in
     let a = counted .before .before .before .before .before .args in
     read-off (a .s .now) (a .rows .now) (counted .parse-bytes .ensures .0) (c .before .f .given .1)
-
-enum-known-n : tie.Need-enum-known-n
-enum-known-n c = search needs
 
 returns-3 : tie.Need-returns-3
 returns-3 c =
@@ -31,12 +19,6 @@ returns-3 c =
     let counted = answered .before .before .before in
     let a = counted .before .before .before .before .before .args in
     read-full (a .s .now) (a .rows .now) (counted .parse-bytes .ensures .0) (answered .n .given .1) (c .if2 .taken)
-
-parse-requires : tie.Need-parse-requires
-parse-requires c κs = search needs
-
-same-length : tie.Need-same-length
-same-length c = search needs
 
 returns-4 : tie.Need-returns-4
 returns-4 c =
@@ -52,12 +34,12 @@ read-spec =
     tie.close
     (tie.spec
     returns
-    slice-aggregate-parse-bytes
-    parse-bytes-requires
-    enum-known-f
+    (λ c. search needs)
+    (λ c κs. search needs)
+    (λ c. search needs)
     returns-2
-    enum-known-n
+    (λ c. search needs)
     returns-3
-    parse-requires
-    same-length
+    (λ c κs. search needs)
+    (λ c. search needs)
     returns-4)

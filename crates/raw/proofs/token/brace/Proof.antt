@@ -8,12 +8,6 @@ use Rattle.text.proofs.general.Tests.{narrow-is, narrow-or}
 use Rattle.raw.proofs.token.brace.Statement.{statement}
 use Rattle.raw.proofs.token.brace.Tie as tie
 
-shared-slice-read-b : tie.Need-shared-slice-read-b
-shared-slice-read-b c = search needs
-
-add-t13 : tie.Need-add-t13
-add-t13 c = search needs
-
 returns : tie.Need-returns
 returns c =
     let a = c .before .before .before .args in
@@ -34,4 +28,4 @@ returns-3 : tie.Need-returns-3
 returns-3 c = let a = c .before .args in need-end (λ x. is (a .byte) x || is 0x22 x) (a .reason) (a .s .now) (a .at) (c .if1 .left)
 
 pub brace-spec : {M : Type 1} → statement M
-brace-spec = tie.close (tie.spec shared-slice-read-b add-t13 returns returns-2 returns-3)
+brace-spec = tie.close (tie.spec (λ c. search needs) (λ c. search needs) returns returns-2 returns-3)

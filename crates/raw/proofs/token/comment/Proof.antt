@@ -5,16 +5,10 @@ use Rattle.raw.proofs.ways.TokenWays.{comment-off, comment-line}
 use Rattle.raw.proofs.token.comment.Statement.{statement}
 use Rattle.raw.proofs.token.comment.Tie as tie
 
-eat-byte-requires : tie.Need-eat-byte-requires
-eat-byte-requires c κs = search needs
-
 returns : tie.Need-returns
 unfolding holdsOf
 returns c =
     let a = c .before .before .before .args in comment-off (a .s .now) (a .at) (c .before .eat-byte .ensures .0) (c .if1 .taken)
-
-eat-line-requires : tie.Need-eat-line-requires
-eat-line-requires c κs = search needs
 
 returns-2 : tie.Need-returns-2
 unfolding holdsOf
@@ -25,4 +19,4 @@ returns-2 c =
     comment-line (a .s .now) (a .at) (eat-byte .ensures .0) (if1 .left) (eat-byte .ensures .1) (c .eat-line .ensures .0) (c .eat-line .ensures .1)
 
 pub comment-spec : {M : Type 1} → statement M
-comment-spec = tie.close (tie.spec eat-byte-requires returns eat-line-requires returns-2)
+comment-spec = tie.close (tie.spec (λ c κs. search needs) returns (λ c κs. search needs) returns-2)

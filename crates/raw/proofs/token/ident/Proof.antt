@@ -4,15 +4,9 @@ use Rattle.raw.proofs.ways.TokenWays.{ident-off, ident-line}
 use Rattle.raw.proofs.token.ident.Statement.{statement}
 use Rattle.raw.proofs.token.ident.Tie as tie
 
-eat-start-requires : tie.Need-eat-start-requires
-eat-start-requires c κs = search needs
-
 returns : tie.Need-returns
 returns c =
     let a = c .before .before .before .args in ident-off (a .s .now) (a .at) (c .before .eat-start .ensures .0) (c .if1 .taken)
-
-eat-id-requires : tie.Need-eat-id-requires
-eat-id-requires c κs = search needs
 
 returns-2 : tie.Need-returns-2
 returns-2 c =
@@ -22,4 +16,4 @@ returns-2 c =
     ident-line (a .s .now) (a .at) (eat-start .ensures .0) (if1 .left) (eat-start .ensures .1) (c .eat-id .ensures .0) (c .eat-id .ensures .1)
 
 pub ident-spec : {M : Type 1} → statement M
-ident-spec = tie.close (tie.spec eat-start-requires returns eat-id-requires returns-2)
+ident-spec = tie.close (tie.spec (λ c κs. search needs) returns (λ c κs. search needs) returns-2)

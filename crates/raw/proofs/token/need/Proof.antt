@@ -7,12 +7,6 @@ use Rattle.text.proofs.general.Tests.{narrow-is}
 use Rattle.raw.proofs.token.need.Statement.{statement}
 use Rattle.raw.proofs.token.need.Tie as tie
 
-shared-slice-read-if2 : tie.Need-shared-slice-read-if2
-shared-slice-read-if2 c = search needs
-
-add-t10 : tie.Need-add-t10
-add-t10 c = search needs
-
 returns : tie.Need-returns
 returns c =
     let a = c .before .before .before .args in
@@ -31,4 +25,4 @@ returns-3 : tie.Need-returns-3
 returns-3 c = let a = c .before .args in need-end (is (a .byte)) (a .reason) (a .s .now) (a .at) (c .if1 .left)
 
 pub need-spec : {M : Type 1} → statement M
-need-spec = tie.close (tie.spec shared-slice-read-if2 add-t10 returns returns-2 returns-3)
+need-spec = tie.close (tie.spec (λ c. search needs) (λ c. search needs) returns returns-2 returns-3)

@@ -9,15 +9,6 @@ use Rattle.raw.proofs.contracts.SaysLaws.{says-of}
 use Rattle.raw.proofs.value.abbr_element.Statement.{statement}
 use Rattle.raw.proofs.value.abbr_element.Tie as tie
 
-shared-slice-read-b : tie.Need-shared-slice-read-b
-shared-slice-read-b c = search needs
-
-braced-requires : tie.Need-braced-requires
-braced-requires c κs = search needs
-
-same-length : tie.Need-same-length
-same-length c = search needs
-
 returns : tie.Need-returns
 returns c =
     let braced = c .before .before in
@@ -30,12 +21,6 @@ returns c =
       within-later (length (a .s .now)) 2 (a .at) (a .n) 1 (a .at) (a .n) (braced .braced .result) (omega arith) (omega arith) (omega arith)
           (braced .braced .ensures .1),
     )
-
-string-literal-requires : tie.Need-string-literal-requires
-string-literal-requires c κs = search needs
-
-same-length-2 : tie.Need-same-length-2
-same-length-2 c = search needs
 
 returns-2 : tie.Need-returns-2
 returns-2 c =
@@ -59,23 +44,17 @@ bare-element-requires c κs = (
       (c .before .if1 .came),
 )
 
-same-length-3 : tie.Need-same-length-3
-same-length-3 c = search needs
-
-returns-3 : tie.Need-returns-3
-returns-3 c = search needs
-
 pub abbr-element-spec : {M : Type 1} → statement M
 abbr-element-spec =
     tie.close
     (tie.spec
-    shared-slice-read-b
-    braced-requires
-    same-length
+    (λ c. search needs)
+    (λ c κs. search needs)
+    (λ c. search needs)
     returns
-    string-literal-requires
-    same-length-2
+    (λ c κs. search needs)
+    (λ c. search needs)
     returns-2
     bare-element-requires
-    same-length-3
-    returns-3)
+    (λ c. search needs)
+    (λ c. search needs))

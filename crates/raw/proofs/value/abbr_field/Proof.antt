@@ -25,9 +25,6 @@ Inv-loop s base at rows₀ n p₀ m₀ rows p m =
 abbrev μ-loop : tie.MeasureT-loop
 μ-loop s base at rows₀ n p₀ m₀ rows p m = length s - p
 
-add-m : tie.Need-add-m Inv-loop μ-loop
-add-m c = search needs
-
 loop-holds : tie.Need-loop-holds Inv-loop μ-loop
 loop-holds c =
     let a = c .before .before .args in
@@ -39,9 +36,6 @@ abbr-turn-requires c κs =
     let asked = c .before .before .before .before .pre in
     let turn = c .before .loop in
     record { file = asked .file; place = turn .inv .1; rows = omega (arith, asked .rows) }
-
-enum-known-q : tie.Need-enum-known-q Inv-loop μ-loop
-enum-known-q c = search needs
 
 loop-less : tie.Need-loop-less Inv-loop μ-loop
 loop-less c =
@@ -71,9 +65,6 @@ loop-again c =
       abbr-turn .abbr-turn .kept .1 .1 .1 .0 ∙ l .loop .inv .3,
       loop-on abbrTurn (a .s .now) (l .loop .p) (λ a s p. refl) (l .loop .inv .4) (omega arith) (k .1) t,
     )
-
-enum-known-q-2 : tie.Need-enum-known-q-2 Inv-loop μ-loop
-enum-known-q-2 c = search needs
 
 add-put-row : tie.Need-add-put-row Inv-loop μ-loop
 add-put-row c =
@@ -125,9 +116,6 @@ returns c =
     let t = loop-done abbrTurn (a .s .now) (l .loop .p) (l .loop .inv .4) (turn-at (q2 .q2 .given .1) (abbr-turn .abbr-turn .ensures .0)) in
     (rw (put-row .put-row .ensures) (says-under kind.Value (a .at) t), (omega arith, omega arith, omega arith))
 
-enum-known-f : tie.Need-enum-known-f Inv-loop μ-loop
-enum-known-f c = search needs
-
 same-length-2 : tie.Need-same-length-2 Inv-loop μ-loop
 same-length-2 c =
     let abbr-turn = c .before .before .before .before .before in
@@ -151,18 +139,18 @@ abbr-field-spec =
     (tie.spec
     Inv-loop
     μ-loop
-    add-m
+    (λ c. search needs)
     loop-holds
     abbr-turn-requires
-    enum-known-q
+    (λ c. search needs)
     loop-less
     loop-again
-    enum-known-q-2
+    (λ c. search needs)
     add-put-row
     add-put-row-2
     put-row-requires
     same-length
     returns
-    enum-known-f
+    (λ c. search needs)
     same-length-2
     returns-2)

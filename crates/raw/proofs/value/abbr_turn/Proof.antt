@@ -9,15 +9,6 @@ use Rattle.raw.proofs.ways.ElementWays.{element-off, turn-last, turn-ha
 use Rattle.raw.proofs.value.abbr_turn.Statement.{statement}
 use Rattle.raw.proofs.value.abbr_turn.Tie as tie
 
-abbr-element-requires : tie.Need-abbr-element-requires
-abbr-element-requires c κs = search needs
-
-enum-known-r1 : tie.Need-enum-known-r1
-enum-known-r1 c = search needs
-
-same-length : tie.Need-same-length
-same-length c = search needs
-
 returns : tie.Need-returns
 returns c =
     let r1 = c .before in
@@ -25,18 +16,6 @@ returns c =
     let asked = abbr-element .before .before .before .before in
     let a = asked .args in
     (turn-off (element-off (a .s .now) (a .at) (says-at (r1 .r1 .given .1) (abbr-element .abbr-element .ensures .0))), tt)
-
-enum-known-r1-2 : tie.Need-enum-known-r1-2
-enum-known-r1-2 c = search needs
-
-eat-whitespace-requires : tie.Need-eat-whitespace-requires
-eat-whitespace-requires c κs = search needs
-
-eat-byte-requires : tie.Need-eat-byte-requires
-eat-byte-requires c κs = search needs
-
-same-length-2 : tie.Need-same-length-2
-same-length-2 c = search needs
 
 returns-2 : tie.Need-returns-2
 unfolding holdsOf
@@ -54,12 +33,6 @@ returns-2 c =
           (c .if1 .taken),
       (omega arith, omega arith, omega arith),
     )
-
-eat-whitespace-requires-2 : tie.Need-eat-whitespace-requires-2
-eat-whitespace-requires-2 c κs = search needs
-
-same-length-3 : tie.Need-same-length-3
-same-length-3 c = search needs
 
 returns-3 : tie.Need-returns-3
 unfolding holdsOf
@@ -83,15 +56,15 @@ pub abbr-turn-spec : {M : Type 1} → statement M
 abbr-turn-spec =
     tie.close
     (tie.spec
-    abbr-element-requires
-    enum-known-r1
-    same-length
+    (λ c κs. search needs)
+    (λ c. search needs)
+    (λ c. search needs)
     returns
-    enum-known-r1-2
-    eat-whitespace-requires
-    eat-byte-requires
-    same-length-2
+    (λ c. search needs)
+    (λ c κs. search needs)
+    (λ c κs. search needs)
+    (λ c. search needs)
     returns-2
-    eat-whitespace-requires-2
-    same-length-3
+    (λ c κs. search needs)
+    (λ c. search needs)
     returns-3)

@@ -10,18 +10,6 @@ use Rattle.raw.proofs.ways.DelimitedLiteral.{opens-off, inside-off, clo
 use Rattle.raw.proofs.value.braced.Statement.{statement}
 use Rattle.raw.proofs.value.braced.Tie as tie
 
-opening-requires : tie.Need-opening-requires
-opening-requires c κs = search needs
-
-enum-known-r1 : tie.Need-enum-known-r1
-enum-known-r1 c = search needs
-
-enum-told : tie.Need-enum-told
-enum-told c = search needs
-
-refused-requires : tie.Need-refused-requires
-refused-requires c κs = search needs
-
 returns : tie.Need-returns
 unfolding braced
 returns c =
@@ -32,18 +20,6 @@ returns c =
     off-step (length s) 2 (a .at)
     (opens-off opening inBraces closing s (a .at) (opening-rowless s (a .at)) (in-braces-rowless s) (closing-rowless s)
     (opened .opening .ensures .0) told) told (c .refused .ensures)
-
-in-braces-requires : tie.Need-in-braces-requires
-in-braces-requires c κs = search needs
-
-enum-known-r2 : tie.Need-enum-known-r2
-enum-known-r2 c = search needs
-
-enum-told-2 : tie.Need-enum-told-2
-enum-told-2 c = search needs
-
-refused-requires-2 : tie.Need-refused-requires-2
-refused-requires-2 c κs = search needs
 
 returns-2 : tie.Need-returns-2
 unfolding braced
@@ -58,9 +34,6 @@ returns-2 c =
     (inside-off opening inBraces closing s (a .at) (opening-rowless s (a .at)) (in-braces-rowless s) (closing-rowless s) (opened .opening .ensures .0) (first .r1 .given .1)
     (read .in-braces .ensures .0) told) told (c .refused2 .ensures)
 
-closing-requires : tie.Need-closing-requires
-closing-requires c κs = search needs
-
 literal-requires : tie.Need-literal-requires
 literal-requires c κs =
     let second = c .before .before .before in
@@ -74,9 +47,6 @@ literal-requires c κs =
     let file = asked .pre .file in
     let rows = asked .pre .rows in
     (omega arith, record { file = omega arith; place = omega arith; rows = omega arith })
-
-same-length : tie.Need-same-length
-same-length c = search needs
 
 returns-3 : tie.Need-returns-3
 unfolding braced
@@ -104,17 +74,17 @@ pub braced-spec : {M : Type 1} → statement M
 braced-spec =
     tie.close
     (tie.spec
-    opening-requires
-    enum-known-r1
-    enum-told
-    refused-requires
+    (λ c κs. search needs)
+    (λ c. search needs)
+    (λ c. search needs)
+    (λ c κs. search needs)
     returns
-    in-braces-requires
-    enum-known-r2
-    enum-told-2
-    refused-requires-2
+    (λ c κs. search needs)
+    (λ c. search needs)
+    (λ c. search needs)
+    (λ c κs. search needs)
     returns-2
-    closing-requires
+    (λ c κs. search needs)
     literal-requires
-    same-length
+    (λ c. search needs)
     returns-3)

@@ -86,9 +86,6 @@ loop-again-3 c =
 add-past-braces : tie.Need-add-past-braces Inv-loop μ-loop
 add-past-braces c = omega arith
 
-past-braces-requires : tie.Need-past-braces-requires Inv-loop μ-loop
-past-braces-requires c κs = search needs
-
 loop-less-4 : tie.Need-loop-less-4 Inv-loop μ-loop
 loop-less-4 c = omega (arith, c .past-braces .ensures .from)
 
@@ -129,7 +126,7 @@ in-braces-spec =
     loop-less-3
     loop-again-3
     add-past-braces
-    past-braces-requires
+    (λ c κs. search needs)
     loop-less-4
     loop-again-4
     returns-3)

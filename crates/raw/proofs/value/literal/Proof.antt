@@ -9,15 +9,6 @@ use Rattle.raw.proofs.contracts.SaysLaws.{says-of, says-off, says-at, s
 use Rattle.raw.proofs.value.literal.Statement.{statement}
 use Rattle.raw.proofs.value.literal.Tie as tie
 
-enum-known-closed : tie.Need-enum-known-closed
-enum-known-closed c = search needs
-
-enum-told : tie.Need-enum-told
-enum-told c = search needs
-
-refused-requires : tie.Need-refused-requires
-refused-requires c κs = search needs
-
 returns : tie.Need-returns
 returns c =
     let told = c .before .enum-told .given .1 in
@@ -35,12 +26,6 @@ put-row-requires c κs =
     let asked = c .before .before .before .before .before .pre in
     (omega (arith, asked .1 .file), omega (arith, asked .1 .file))
 
-add-t12 : tie.Need-add-t12
-add-t12 c = search needs
-
-same-length : tie.Need-same-length
-same-length c = search needs
-
 returns-2 : tie.Need-returns-2
 returns-2 c =
     let put = c .before .before in
@@ -53,13 +38,13 @@ pub literal-spec : {M : Type 1} → statement M
 literal-spec =
     tie.close
     (tie.spec
-    enum-known-closed
-    enum-told
-    refused-requires
+    (λ c. search needs)
+    (λ c. search needs)
+    (λ c κs. search needs)
     returns
     add-put-row
     add-put-row-2
     put-row-requires
-    add-t12
-    same-length
+    (λ c. search needs)
+    (λ c. search needs)
     returns-2)

@@ -19,9 +19,6 @@ abbrev μ-loop : tie.MeasureT-loop
 loop-holds : tie.Need-loop-holds Inv-loop μ-loop
 loop-holds c = reached
 
-has-requires : tie.Need-has-requires Inv-loop μ-loop
-has-requires c κs = search needs
-
 shared-slice-read-match : tie.Need-shared-slice-read-match Inv-loop μ-loop
 shared-slice-read-match c = omega (arith, c .before .before .has .ensures (c .before .if1 .taken))
 
@@ -80,9 +77,6 @@ loop-again-2 c =
 add-past-quotes : tie.Need-add-past-quotes Inv-loop μ-loop
 add-past-quotes c = omega (arith, c .before .before .before .before .before .has .ensures (c .before .before .before .before .if1 .taken))
 
-past-quotes-requires : tie.Need-past-quotes-requires Inv-loop μ-loop
-past-quotes-requires c κs = search needs
-
 loop-less-3 : tie.Need-loop-less-3 Inv-loop μ-loop
 loop-less-3 c =
     let if1 = c .before .before .before .before .before in
@@ -102,9 +96,6 @@ loop-again-3 c =
     quoted-clear (quoted-plain (quoted-plain (turn .loop .inv) (omega (arith, h)) (m .0 .1) (m .1)) (omega (arith, h)) (n .0 .1) (n .1)) (omega (arith, h))
     (c .past-quotes .ensures)
 
-quoted-end-requires : tie.Need-quoted-end-requires Inv-loop μ-loop
-quoted-end-requires c κs = search needs
-
 returns-3 : tie.Need-returns-3 Inv-loop μ-loop
 returns-3 c = quoted-rest (c .before .before .before .loop .inv) (c .quoted-end .ensures)
 
@@ -115,7 +106,7 @@ quoted-spec =
     Inv-loop
     μ-loop
     loop-holds
-    has-requires
+    (λ c κs. search needs)
     shared-slice-read-match
     returns
     add-i
@@ -128,8 +119,8 @@ quoted-spec =
     loop-less-2
     loop-again-2
     add-past-quotes
-    past-quotes-requires
+    (λ c κs. search needs)
     loop-less-3
     loop-again-3
-    quoted-end-requires
+    (λ c κs. search needs)
     returns-3)

@@ -9,30 +9,12 @@ use Rattle.raw.proofs.ways.DelimitedLiteral.{string-first-off, string-i
 use Rattle.raw.proofs.value.string.Statement.{statement}
 use Rattle.raw.proofs.value.string.Tie as tie
 
-quote-requires : tie.Need-quote-requires
-quote-requires c κs = search needs
-
-enum-known-r1 : tie.Need-enum-known-r1
-enum-known-r1 c = search needs
-
-enum-told : tie.Need-enum-told
-enum-told c = search needs
-
 returns : tie.Need-returns
 returns c =
     let a = c .before .before .before .before .args in
     let quote = c .before .before .quote in
     off-onward (length (a .s .now)) 2 (a .at) (string-first-off (a .s .now) (a .at) (quote .ensures .0) (c .enum-told .given .1))
     (c .enum-told .given .1)
-
-quoted-requires : tie.Need-quoted-requires
-quoted-requires c κs = search needs
-
-enum-known-r2 : tie.Need-enum-known-r2
-enum-known-r2 c = search needs
-
-enum-told-2 : tie.Need-enum-told-2
-enum-told-2 c = search needs
 
 returns-2 : tie.Need-returns-2
 returns-2 c =
@@ -44,9 +26,6 @@ returns-2 c =
     off-onward (length (a .s .now)) 2 (a .at)
     (string-inside-off (a .s .now) (a .at) (quote .quote .ensures .0) (r1 .r1 .given .1) (quoted .quoted .ensures .0) (c .enum-told2 .given .1))
     (c .enum-told2 .given .1)
-
-quote-requires-2 : tie.Need-quote-requires-2
-quote-requires-2 c κs = search needs
 
 returns-3 : tie.Need-returns-3
 returns-3 c =
@@ -67,13 +46,13 @@ pub string-spec : {M : Type 1} → statement M
 string-spec =
     tie.close
     (tie.spec
-    quote-requires
-    enum-known-r1
-    enum-told
+    (λ c κs. search needs)
+    (λ c. search needs)
+    (λ c. search needs)
     returns
-    quoted-requires
-    enum-known-r2
-    enum-told-2
+    (λ c κs. search needs)
+    (λ c. search needs)
+    (λ c. search needs)
     returns-2
-    quote-requires-2
+    (λ c κs. search needs)
     returns-3)

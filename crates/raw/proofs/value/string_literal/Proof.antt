@@ -10,18 +10,6 @@ use Rattle.raw.proofs.ways.DelimitedLiteral.{opens-off, inside-off, clo
 use Rattle.raw.proofs.value.string_literal.Statement.{statement}
 use Rattle.raw.proofs.value.string_literal.Tie as tie
 
-quote-requires : tie.Need-quote-requires
-quote-requires c κs = search needs
-
-enum-known-r1 : tie.Need-enum-known-r1
-enum-known-r1 c = search needs
-
-enum-told : tie.Need-enum-told
-enum-told c = search needs
-
-refused-requires : tie.Need-refused-requires
-refused-requires c κs = search needs
-
 returns : tie.Need-returns
 unfolding stringLiteral
 returns c =
@@ -31,18 +19,6 @@ returns c =
     let s = a .s .now in
     off-step (length s) 2 (a .at)
     (opens-off quote quoted quote s (a .at) (quote-rowless s (a .at)) (quoted-rowless s) (quote-rowless s) (opened .quote .ensures .0) told) told (c .refused .ensures)
-
-quoted-requires : tie.Need-quoted-requires
-quoted-requires c κs = search needs
-
-enum-known-r2 : tie.Need-enum-known-r2
-enum-known-r2 c = search needs
-
-enum-told-2 : tie.Need-enum-told-2
-enum-told-2 c = search needs
-
-refused-requires-2 : tie.Need-refused-requires-2
-refused-requires-2 c κs = search needs
 
 returns-2 : tie.Need-returns-2
 unfolding stringLiteral
@@ -57,9 +33,6 @@ returns-2 c =
     (inside-off quote quoted quote s (a .at) (quote-rowless s (a .at)) (quoted-rowless s) (quote-rowless s) (opened .quote .ensures .0) (first .r1 .given .1)
     (read .quoted .ensures .0) told) told (c .refused2 .ensures)
 
-quote-requires-2 : tie.Need-quote-requires-2
-quote-requires-2 c κs = search needs
-
 literal-requires : tie.Need-literal-requires
 literal-requires c κs =
     let second = c .before .before .before in
@@ -73,9 +46,6 @@ literal-requires c κs =
     let file = asked .pre .file in
     let rows = asked .pre .rows in
     (omega arith, record { file = omega arith; place = omega arith; rows = omega arith })
-
-same-length : tie.Need-same-length
-same-length c = search needs
 
 returns-3 : tie.Need-returns-3
 unfolding stringLiteral
@@ -103,17 +73,17 @@ pub string-literal-spec : {M : Type 1} → statement M
 string-literal-spec =
     tie.close
     (tie.spec
-    quote-requires
-    enum-known-r1
-    enum-told
-    refused-requires
+    (λ c κs. search needs)
+    (λ c. search needs)
+    (λ c. search needs)
+    (λ c κs. search needs)
     returns
-    quoted-requires
-    enum-known-r2
-    enum-told-2
-    refused-requires-2
+    (λ c κs. search needs)
+    (λ c. search needs)
+    (λ c. search needs)
+    (λ c κs. search needs)
     returns-2
-    quote-requires-2
+    (λ c κs. search needs)
     literal-requires
-    same-length
+    (λ c. search needs)
     returns-3)

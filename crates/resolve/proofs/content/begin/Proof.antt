@@ -9,15 +9,6 @@ use Rattle.resolve.proofs.Arguments.{begun}
 use Rattle.resolve.proofs.content.begin.Statement.{statement}
 use Rattle.resolve.proofs.content.begin.Tie as tie
 
-add-execute-before : tie.Need-add-execute-before
-add-execute-before c = search needs
-
-execute-before-requires : tie.Need-execute-before-requires
-execute-before-requires c κs = search needs
-
-same-length : tie.Need-same-length
-same-length c = search needs
-
 returns : tie.Need-returns
 returns c =
     let begin = c .before .before .before .before .before .before in
@@ -30,4 +21,4 @@ returns c =
     )
 
 pub begin-spec : {M : Type 1} → statement M
-begin-spec = tie.close (tie.spec add-execute-before execute-before-requires same-length returns)
+begin-spec = tie.close (tie.spec (λ c. search needs) (λ c κs. search needs) (λ c. search needs) returns)

@@ -9,30 +9,12 @@ use Rattle.resolve.proofs.StepWays.{close-refused, close-again}
 use Rattle.resolve.proofs.content.closing.Statement.{statement}
 use Rattle.resolve.proofs.content.closing.Tie as tie
 
-add-t14 : tie.Need-add-t14
-add-t14 c = search needs
-
 returns : tie.Need-returns
 returns c =
     let begin = c .before .before .before .before .before .before in
     let a = begin .args in
     let p = begin .pre in
     (close-refused (a .place) (a .verb) (a .s .now) (a .st) (a .out .now) (a .numbers .now) (p .1) (p .2) (c .if1 .taken), tt)
-
-sub-turnaround : tie.Need-sub-turnaround
-sub-turnaround c = search needs
-
-add-turnaround : tie.Need-add-turnaround
-add-turnaround c = search needs
-
-turnaround-requires : tie.Need-turnaround-requires
-turnaround-requires c κs = search needs
-
-same-length : tie.Need-same-length
-same-length c = search needs
-
-same-length-2 : tie.Need-same-length-2
-same-length-2 c = search needs
 
 returns-2 : tie.Need-returns-2
 returns-2 c =
@@ -59,11 +41,11 @@ pub closing-spec : {M : Type 1} → statement M
 closing-spec =
     tie.close
     (tie.spec
-    add-t14
+    (λ c. search needs)
     returns
-    sub-turnaround
-    add-turnaround
-    turnaround-requires
-    same-length
-    same-length-2
+    (λ c. search needs)
+    (λ c. search needs)
+    (λ c κs. search needs)
+    (λ c. search needs)
+    (λ c. search needs)
     returns-2)

@@ -12,12 +12,6 @@ use Rattle.resolve.proofs.Arguments.{part-same, finished, finish-room, 
 use Rattle.resolve.proofs.content.finish.Statement.{statement}
 use Rattle.resolve.proofs.content.finish.Tie as tie
 
-settle-requires : tie.Need-settle-requires
-settle-requires c κs = search needs
-
-add-execute-command : tie.Need-add-execute-command
-add-execute-command c = search needs
-
 execute-command-requires : tie.Need-execute-command-requires
 execute-command-requires c κs =
     let begin = c .before .before .before .before .before .before .before .before in
@@ -58,15 +52,6 @@ execute-command-requires c κs =
             (omega (arith, closes .last, small, same)) ∙ p .1 .1,
       ),
     )
-
-add-further : tie.Need-add-further
-add-further c = search needs
-
-further-requires : tie.Need-further-requires
-further-requires c κs = search needs
-
-same-length : tie.Need-same-length
-same-length c = search needs
 
 returns : tie.Need-returns
 returns c =
@@ -109,10 +94,10 @@ pub finish-spec : {M : Type 1} → statement M
 finish-spec =
     tie.close
     (tie.spec
-    settle-requires
-    add-execute-command
+    (λ c κs. search needs)
+    (λ c. search needs)
     execute-command-requires
-    add-further
-    further-requires
-    same-length
+    (λ c. search needs)
+    (λ c κs. search needs)
+    (λ c. search needs)
     returns)

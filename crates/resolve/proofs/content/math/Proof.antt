@@ -9,12 +9,6 @@ use Rattle.resolve.proofs.StepWays.{math-refused, math-again}
 use Rattle.resolve.proofs.content.math.Statement.{statement}
 use Rattle.resolve.proofs.content.math.Tie as tie
 
-add-eat-until : tie.Need-add-eat-until
-add-eat-until c = search needs
-
-eat-until-requires : tie.Need-eat-until-requires
-eat-until-requires c κs = search needs
-
 returns : tie.Need-returns
 returns c =
     let begin = c .before .before .before .before .before .before .before in
@@ -22,24 +16,6 @@ returns c =
     let p = begin .pre in
     let eat = c .before .eat-until in
     (math-refused (a .place) (a .s .now) (a .st) (a .out .now) (a .numbers .now) (p .1) (p .2) (eat .result) (eat .ensures .0) (c .if1 .taken), tt)
-
-add-turnaround : tie.Need-add-turnaround
-add-turnaround c = search needs
-
-turnaround-requires : tie.Need-turnaround-requires
-turnaround-requires c κs = search needs
-
-add-put-math : tie.Need-add-put-math
-add-put-math c = search needs
-
-put-math-requires : tie.Need-put-math-requires
-put-math-requires c κs = search needs
-
-same-length : tie.Need-same-length
-same-length c = search needs
-
-same-length-2 : tie.Need-same-length-2
-same-length-2 c = search needs
 
 returns-2 : tie.Need-returns-2
 returns-2 c =
@@ -72,13 +48,13 @@ pub math-spec : {M : Type 1} → statement M
 math-spec =
     tie.close
     (tie.spec
-    add-eat-until
-    eat-until-requires
+    (λ c. search needs)
+    (λ c κs. search needs)
     returns
-    add-turnaround
-    turnaround-requires
-    add-put-math
-    put-math-requires
-    same-length
-    same-length-2
+    (λ c. search needs)
+    (λ c κs. search needs)
+    (λ c. search needs)
+    (λ c κs. search needs)
+    (λ c. search needs)
+    (λ c. search needs)
     returns-2)

@@ -9,21 +9,6 @@ use Rattle.resolve.proofs.StepWays.{open-again}
 use Rattle.resolve.proofs.content.opening.Statement.{statement}
 use Rattle.resolve.proofs.content.opening.Tie as tie
 
-add-turnaround : tie.Need-add-turnaround
-add-turnaround c = search needs
-
-add-turnaround-2 : tie.Need-add-turnaround-2
-add-turnaround-2 c = search needs
-
-turnaround-requires : tie.Need-turnaround-requires
-turnaround-requires c κs = search needs
-
-same-length : tie.Need-same-length
-same-length c = search needs
-
-same-length-2 : tie.Need-same-length-2
-same-length-2 c = search needs
-
 returns : tie.Need-returns
 returns c =
     let begin = c .before .before .before .before .before .before .before .before .before .before .before .before in
@@ -48,9 +33,9 @@ pub opening-spec : {M : Type 1} → statement M
 opening-spec =
     tie.close
     (tie.spec
-    add-turnaround
-    add-turnaround-2
-    turnaround-requires
-    same-length
-    same-length-2
+    (λ c. search needs)
+    (λ c. search needs)
+    (λ c κs. search needs)
+    (λ c. search needs)
+    (λ c. search needs)
     returns)

@@ -8,27 +8,6 @@ use Rattle.resolve.proofs.StepWays.{text-end, text-refused, text-argume
 use Rattle.resolve.proofs.content.text_step.Statement.{statement}
 use Rattle.resolve.proofs.content.text_step.Tie as tie
 
-text-at-requires : tie.Need-text-at-requires
-text-at-requires c κs = search needs
-
-enum-told : tie.Need-enum-told
-enum-told c = search needs
-
-enum-known-next : tie.Need-enum-known-next
-enum-known-next c = search needs
-
-further-requires : tie.Need-further-requires
-further-requires c κs = search needs
-
-enum-known-f : tie.Need-enum-known-f
-enum-known-f c = search needs
-
-enum-known-m : tie.Need-enum-known-m
-enum-known-m c = search needs
-
-same-length : tie.Need-same-length
-same-length c = search needs
-
 returns : tie.Need-returns
 returns c =
     let a = c .before .before .before .before .before .before .before .before .before .before .before .args in
@@ -36,9 +15,6 @@ returns c =
       text-end (a .place) (a .verb) (a .s .now) (a .st) (a .out .now) (a .numbers .now) (turn .result) _ (turn .ensures .0) (c .enum-told .given .1),
       tt,
     )
-
-same-length-2 : tie.Need-same-length-2
-same-length-2 c = search needs
 
 returns-2 : tie.Need-returns-2
 returns-2 c =
@@ -54,9 +30,6 @@ returns-2 c =
           (ready .from) (ready .start) (next .ensures),
     )
 
-same-length-3 : tie.Need-same-length-3
-same-length-3 c = search needs
-
 returns-3 : tie.Need-returns-3
 returns-3 c =
     let a = c .before .before .before .before .before .before .before .before .before .before .before .before .args in
@@ -65,9 +38,6 @@ returns-3 c =
           (c .before .f .given .1),
       tt,
     )
-
-same-length-4 : tie.Need-same-length-4
-same-length-4 c = search needs
 
 returns-4 : tie.Need-returns-4
 returns-4 c =
@@ -83,17 +53,17 @@ pub text-step-spec : {M : Type 1} → statement M
 text-step-spec =
     tie.close
     (tie.spec
-    text-at-requires
-    enum-told
-    enum-known-next
-    further-requires
-    enum-known-f
-    enum-known-m
-    same-length
+    (λ c κs. search needs)
+    (λ c. search needs)
+    (λ c. search needs)
+    (λ c κs. search needs)
+    (λ c. search needs)
+    (λ c. search needs)
+    (λ c. search needs)
     returns
-    same-length-2
+    (λ c. search needs)
     returns-2
-    same-length-3
+    (λ c. search needs)
     returns-3
-    same-length-4
+    (λ c. search needs)
     returns-4)

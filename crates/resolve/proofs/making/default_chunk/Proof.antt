@@ -6,11 +6,8 @@ use Rattle.resolve.proofs.Turnings.{verbatim-some}
 use Rattle.resolve.proofs.making.default_chunk.Statement.{statement}
 use Rattle.resolve.proofs.making.default_chunk.Tie as tie
 
-returns : tie.Need-returns
-returns c = search needs
-
 returns-2 : tie.Need-returns-2
 returns-2 c = verbatim-some (c .before .args .braces) (c .if1 .left)
 
 pub default-chunk-spec : {M : Type 1} → statement M
-default-chunk-spec = tie.close (tie.spec returns returns-2)
+default-chunk-spec = tie.close (tie.spec (λ c. search needs) returns-2)

@@ -10,18 +10,6 @@ use Rattle.resolve.proofs.Turnings.{math-argument, math-literal, lays-t
 use Rattle.resolve.proofs.making.put_math.Statement.{statement}
 use Rattle.resolve.proofs.making.put_math.Tie as tie
 
-push-requires : tie.Need-push-requires
-push-requires c κs = search needs
-
-copy-requires : tie.Need-copy-requires
-copy-requires c κs = search needs
-
-push-requires-2 : tie.Need-push-requires-2
-push-requires-2 c κs = search needs
-
-same-length : tie.Need-same-length
-same-length c = search needs
-
 returns : tie.Need-returns
 returns c =
     let begin = c .before .before .before .before .before .before .before .before .before .before .before .before .before .before .before .before .before in
@@ -45,42 +33,6 @@ returns c =
       len = omega (arith, one .ensures .1, two .ensures .1, three .ensures .1);
       rows = omega arith;
     }
-
-copy-requires-2 : tie.Need-copy-requires-2
-copy-requires-2 c κs = search needs
-
-add-narrow : tie.Need-add-narrow
-add-narrow c = search needs
-
-narrow-requires : tie.Need-narrow-requires
-narrow-requires c κs = search needs
-
-add-narrow-2 : tie.Need-add-narrow-2
-add-narrow-2 c = search needs
-
-narrow-requires-2 : tie.Need-narrow-requires-2
-narrow-requires-2 c κs = search needs
-
-add-narrow-3 : tie.Need-add-narrow-3
-add-narrow-3 c = search needs
-
-narrow-requires-3 : tie.Need-narrow-requires-3
-narrow-requires-3 c κs = search needs
-
-add-narrow-4 : tie.Need-add-narrow-4
-add-narrow-4 c = search needs
-
-narrow-requires-4 : tie.Need-narrow-requires-4
-narrow-requires-4 c κs = search needs
-
-push-requires-3 : tie.Need-push-requires-3
-push-requires-3 c κs = search needs
-
-same-length-2 : tie.Need-same-length-2
-same-length-2 c = search needs
-
-same-length-3 : tie.Need-same-length-3
-same-length-3 c = search needs
 
 returns-2 : tie.Need-returns-2
 returns-2 c =
@@ -113,21 +65,21 @@ pub put-math-spec : {M : Type 1} → statement M
 put-math-spec =
     tie.close
     (tie.spec
-    push-requires
-    copy-requires
-    push-requires-2
-    same-length
+    (λ c κs. search needs)
+    (λ c κs. search needs)
+    (λ c κs. search needs)
+    (λ c. search needs)
     returns
-    copy-requires-2
-    add-narrow
-    narrow-requires
-    add-narrow-2
-    narrow-requires-2
-    add-narrow-3
-    narrow-requires-3
-    add-narrow-4
-    narrow-requires-4
-    push-requires-3
-    same-length-2
-    same-length-3
+    (λ c κs. search needs)
+    (λ c. search needs)
+    (λ c κs. search needs)
+    (λ c. search needs)
+    (λ c κs. search needs)
+    (λ c. search needs)
+    (λ c κs. search needs)
+    (λ c. search needs)
+    (λ c κs. search needs)
+    (λ c κs. search needs)
+    (λ c. search needs)
+    (λ c. search needs)
     returns-2)

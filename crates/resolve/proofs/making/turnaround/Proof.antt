@@ -8,12 +8,6 @@ use Rattle.resolve.proofs.Turnings.{argument-holds, literal-holds}
 use Rattle.resolve.proofs.making.turnaround.Statement.{statement}
 use Rattle.resolve.proofs.making.turnaround.Tie as tie
 
-settle-requires : tie.Need-settle-requires
-settle-requires c κs = search needs
-
-same-length : tie.Need-same-length
-same-length c = search needs
-
 returns : tie.Need-returns
 returns c =
     let begin = c .before .before .before .before .before .before .before .before in
@@ -33,38 +27,8 @@ returns c =
       rows = omega arith;
     }
 
-default-chunk-requires : tie.Need-default-chunk-requires
-default-chunk-requires c κs = search needs
-
-add-narrow : tie.Need-add-narrow
-add-narrow c = search needs
-
-narrow-requires : tie.Need-narrow-requires
-narrow-requires c κs = search needs
-
-add-narrow-2 : tie.Need-add-narrow-2
-add-narrow-2 c = search needs
-
-narrow-requires-2 : tie.Need-narrow-requires-2
-narrow-requires-2 c κs = search needs
-
-add-narrow-3 : tie.Need-add-narrow-3
-add-narrow-3 c = search needs
-
-narrow-requires-3 : tie.Need-narrow-requires-3
-narrow-requires-3 c κs = search needs
-
-add-narrow-4 : tie.Need-add-narrow-4
-add-narrow-4 c = search needs
-
-narrow-requires-4 : tie.Need-narrow-requires-4
-narrow-requires-4 c κs = search needs
-
 push-requires : tie.Need-push-requires
 push-requires c κs = c .before .before .before .before .before .before .before .before .before .before .before .before .before .before .before .before .before .pre .0 .rows
-
-same-length-2 : tie.Need-same-length-2
-same-length-2 c = search needs
 
 returns-2 : tie.Need-returns-2
 returns-2 c =
@@ -95,18 +59,18 @@ pub turnaround-spec : {M : Type 1} → statement M
 turnaround-spec =
     tie.close
     (tie.spec
-    settle-requires
-    same-length
+    (λ c κs. search needs)
+    (λ c. search needs)
     returns
-    default-chunk-requires
-    add-narrow
-    narrow-requires
-    add-narrow-2
-    narrow-requires-2
-    add-narrow-3
-    narrow-requires-3
-    add-narrow-4
-    narrow-requires-4
+    (λ c κs. search needs)
+    (λ c. search needs)
+    (λ c κs. search needs)
+    (λ c. search needs)
+    (λ c κs. search needs)
+    (λ c. search needs)
+    (λ c κs. search needs)
+    (λ c. search needs)
+    (λ c κs. search needs)
     push-requires
-    same-length-2
+    (λ c. search needs)
     returns-2)

@@ -6,9 +6,6 @@ use borrow.Author.Needs.{needs}
 use Rattle.resolve.proofs.rows.push.Statement.{statement}
 use Rattle.resolve.proofs.rows.push.Tie as tie
 
-kind-number-requires : tie.Need-kind-number-requires
-kind-number-requires c κs = search needs
-
 sub-write-chunk : tie.Need-sub-write-chunk
 sub-write-chunk c =
     let a = c .before .before .before .before .before .before .before .args in
@@ -19,12 +16,6 @@ sub-write-chunk c =
           (c .before .before .if1 .taken),
     )
 
-write-chunk-requires : tie.Need-write-chunk-requires
-write-chunk-requires c κs = search needs
-
-same-length : tie.Need-same-length
-same-length c = search needs
-
 returns : tie.Need-returns
 returns c =
     let a = c .before .before .before .before .before .before .before .before .before .before .args in
@@ -33,15 +24,6 @@ returns c =
           (c .before .before .before .before .before .if1 .taken) (c .before .before .write-chunk .ensures),
       (omega arith, omega arith),
     )
-
-write-chunk-requires-2 : tie.Need-write-chunk-requires-2
-write-chunk-requires-2 c κs = search needs
-
-add-t21 : tie.Need-add-t21
-add-t21 c = search needs
-
-same-length-2 : tie.Need-same-length-2
-same-length-2 c = search needs
 
 returns-2 : tie.Need-returns-2
 returns-2 c =
@@ -56,12 +38,12 @@ pub push-spec : {M : Type 1} → statement M
 push-spec =
     tie.close
     (tie.spec
-    kind-number-requires
+    (λ c κs. search needs)
     sub-write-chunk
-    write-chunk-requires
-    same-length
+    (λ c κs. search needs)
+    (λ c. search needs)
     returns
-    write-chunk-requires-2
-    add-t21
-    same-length-2
+    (λ c κs. search needs)
+    (λ c. search needs)
+    (λ c. search needs)
     returns-2)

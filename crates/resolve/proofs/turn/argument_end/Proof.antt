@@ -23,27 +23,12 @@ loop-holds : tie.Need-loop-holds Inv-loop μ-loop
 unfolding argumentEnd
 loop-holds c = (omega arith, c .before .pre, omega arith, refl)
 
-eat-until-requires : tie.Need-eat-until-requires Inv-loop μ-loop
-eat-until-requires c κs = search needs
-
 returns : tie.Need-returns Inv-loop μ-loop
 returns c =
     let loop = c .before .before .loop in
     let s = c .before .before .before .before .args .s .now in
     let eat = c .before .eat-until in
     (end-off (loop .depth) s (loop .i) (eat .result) (eat .ensures .0) (c .if1 .taken) ∙ sym (loop .inv .3), tt)
-
-shared-slice-read-if2 : tie.Need-shared-slice-read-if2 Inv-loop μ-loop
-shared-slice-read-if2 c = search needs
-
-add-depth : tie.Need-add-depth Inv-loop μ-loop
-add-depth c = search needs
-
-add-i : tie.Need-add-i Inv-loop μ-loop
-add-i c = search needs
-
-loop-less : tie.Need-loop-less Inv-loop μ-loop
-loop-less c = search needs
 
 loop-again : tie.Need-loop-again Inv-loop μ-loop
 loop-again c =
@@ -68,15 +53,6 @@ returns-2 c =
       (omega (arith, eat .ensures .1 .from, loop .inv .0), inside),
     )
 
-sub-depth : tie.Need-sub-depth Inv-loop μ-loop
-sub-depth c = search needs
-
-add-i-2 : tie.Need-add-i-2 Inv-loop μ-loop
-add-i-2 c = search needs
-
-loop-less-2 : tie.Need-loop-less-2 Inv-loop μ-loop
-loop-less-2 c = search needs
-
 loop-again-2 : tie.Need-loop-again-2 Inv-loop μ-loop
 loop-again-2 c =
     let loop = c .before .before .before .before .before .loop in
@@ -96,15 +72,15 @@ argument-end-spec =
     Inv-loop
     μ-loop
     loop-holds
-    eat-until-requires
+    (λ c κs. search needs)
     returns
-    shared-slice-read-if2
-    add-depth
-    add-i
-    loop-less
+    (λ c. search needs)
+    (λ c. search needs)
+    (λ c. search needs)
+    (λ c. search needs)
     loop-again
     returns-2
-    sub-depth
-    add-i-2
-    loop-less-2
+    (λ c. search needs)
+    (λ c. search needs)
+    (λ c. search needs)
     loop-again-2)

@@ -8,21 +8,6 @@ use Rattle.resolve.proofs.TextAnswers.{back-blank, grows-blank}
 use Rattle.resolve.proofs.turn.back_blank.Statement.{statement}
 use Rattle.resolve.proofs.turn.back_blank.Tie as tie
 
-copy-requires : tie.Need-copy-requires
-copy-requires c κs = search needs
-
-push-requires : tie.Need-push-requires
-push-requires c κs = search needs
-
-add-eat-whitespace : tie.Need-add-eat-whitespace
-add-eat-whitespace c = search needs
-
-eat-whitespace-requires : tie.Need-eat-whitespace-requires
-eat-whitespace-requires c κs = search needs
-
-same-length : tie.Need-same-length
-same-length c = search needs
-
 returns : tie.Need-returns
 returns c =
     let begin = c .before .before .before .before .before .before .before .before .before .before .before in
@@ -41,9 +26,9 @@ pub back-blank-spec : {M : Type 1} → statement M
 back-blank-spec =
     tie.close
     (tie.spec
-    copy-requires
-    push-requires
-    add-eat-whitespace
-    eat-whitespace-requires
-    same-length
+    (λ c κs. search needs)
+    (λ c κs. search needs)
+    (λ c. search needs)
+    (λ c κs. search needs)
+    (λ c. search needs)
     returns)

@@ -8,18 +8,6 @@ use Rattle.resolve.proofs.TextAnswers.{back-control, grows-control}
 use Rattle.resolve.proofs.turn.back_control.Statement.{statement}
 use Rattle.resolve.proofs.turn.back_control.Tie as tie
 
-copy-requires : tie.Need-copy-requires
-copy-requires c κs = search needs
-
-add-copy : tie.Need-add-copy
-add-copy c = search needs
-
-copy-requires-2 : tie.Need-copy-requires-2
-copy-requires-2 c κs = search needs
-
-same-length : tie.Need-same-length
-same-length c = search needs
-
 returns : tie.Need-returns
 returns c =
     let begin = c .before .before .before .before .before .before .before .before .before .before in
@@ -34,4 +22,4 @@ returns c =
     )
 
 pub back-control-spec : {M : Type 1} → statement M
-back-control-spec = tie.close (tie.spec copy-requires add-copy copy-requires-2 same-length returns)
+back-control-spec = tie.close (tie.spec (λ c κs. search needs) (λ c. search needs) (λ c κs. search needs) (λ c. search needs) returns)

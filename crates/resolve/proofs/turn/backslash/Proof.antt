@@ -13,24 +13,6 @@ use Rattle.resolve.proofs.CommandAnswers.{ends-verb, ends-refused, char
 use Rattle.resolve.proofs.turn.backslash.Statement.{statement}
 use Rattle.resolve.proofs.turn.backslash.Tie as tie
 
-add-peek : tie.Need-add-peek
-add-peek c = search needs
-
-peek-requires : tie.Need-peek-requires
-peek-requires c κs = search needs
-
-enum-told : tie.Need-enum-told
-enum-told c = search needs
-
-push-requires : tie.Need-push-requires
-push-requires c κs = search needs
-
-add-t19 : tie.Need-add-t19
-add-t19 c = search needs
-
-same-length : tie.Need-same-length
-same-length c = search needs
-
 returns : tie.Need-returns
 returns c =
     let begin = c .before .before .before .before .before .before .before .before .before .before .before .before in
@@ -44,21 +26,6 @@ returns c =
       record { at = omega arith; inside = omega (arith, p .0); text = omega (arith, push .ensures .1) },
     )
 
-add-t21 : tie.Need-add-t21
-add-t21 c = search needs
-
-add-t22 : tie.Need-add-t22
-add-t22 c = search needs
-
-enum-known-code : tie.Need-enum-known-code
-enum-known-code c = search needs
-
-is-escape-requires : tie.Need-is-escape-requires
-is-escape-requires c κs = search needs
-
-add-copy : tie.Need-add-copy
-add-copy c = search needs
-
 copy-requires : tie.Need-copy-requires
 copy-requires c κs =
     let begin = c .before .before .before .before .before .before .before .before .before .before .before in
@@ -69,9 +36,6 @@ copy-requires c κs =
     let is = c .before .before .is-escape .ensures in
     let next = char-next (a .verb) (a .s .now) (a .at) (a .len) (a .out .now) (p .0) (p .1) peek seen is in
     (omega (arith, next .0), next .1, omega (arith, next .0, next .1, p .2 .room))
-
-same-length-2 : tie.Need-same-length-2
-same-length-2 c = search needs
 
 returns-2 : tie.Need-returns-2
 returns-2 c =
@@ -88,15 +52,6 @@ returns-2 c =
       record { at = omega (arith, next .0); inside = next .1; text = omega (arith, next .0, copy .ensures .1) },
     )
 
-push-requires-2 : tie.Need-push-requires-2
-push-requires-2 c κs = search needs
-
-add-t31 : tie.Need-add-t31
-add-t31 c = search needs
-
-same-length-3 : tie.Need-same-length-3
-same-length-3 c = search needs
-
 returns-3 : tie.Need-returns-3
 returns-3 c =
     let begin = c .before .before .before .before .before .before .before .before .before .before .before .before .before .before .before in
@@ -110,9 +65,6 @@ returns-3 c =
           (c .before .before .before .before .if3 .taken) (push .result) _ (push .ensures .0),
       record { at = omega arith; inside = omega (arith, p .0); text = omega (arith, push .ensures .1) },
     )
-
-is-whitespace-requires : tie.Need-is-whitespace-requires
-is-whitespace-requires c κs = search needs
 
 back-blank-requires : tie.Need-back-blank-requires
 back-blank-requires c κs =
@@ -128,9 +80,6 @@ back-blank-requires c κs =
       p .2 .room,
     )
 
-same-length-4 : tie.Need-same-length-4
-same-length-4 c = search needs
-
 returns-4 : tie.Need-returns-4
 returns-4 c =
     let a = c .before .before .before .before .before .before .before .before .before .before .before .before .before .before .before .before .before .args in
@@ -139,9 +88,6 @@ returns-4 c =
           (sym (c .before .before .before .before .before .before .if3 .left)) (call .ensures .0),
       call .ensures .1,
     )
-
-is-control-requires : tie.Need-is-control-requires
-is-control-requires c κs = search needs
 
 back-control-requires : tie.Need-back-control-requires
 back-control-requires c κs =
@@ -158,9 +104,6 @@ back-control-requires c κs =
       sym (c .before .before .is-control .ensures) ∙ c .before .if5 .taken,
       p .2 .room,
     )
-
-same-length-5 : tie.Need-same-length-5
-same-length-5 c = search needs
 
 returns-5 : tie.Need-returns-5
 returns-5 c =
@@ -194,9 +137,6 @@ returns-6 c =
     let peek = c .before .before .before .peek .ensures .0 in
     (ends-refused (a .verb) (a .s .now) (a .at) (a .len) (a .out .now) (p .0) (p .1) peek (c .before .enum-told .given .1) (c .if1 .left), tt)
 
-same-length-6 : tie.Need-same-length-6
-same-length-6 c = search needs
-
 returns-7 : tie.Need-returns-7
 returns-7 c =
     let a = c .before .before .before .before .before .before .before .before .before .before .before .before .before .before .before .before .before .before .before .args in
@@ -210,34 +150,34 @@ pub backslash-spec : {M : Type 1} → statement M
 backslash-spec =
     tie.close
     (tie.spec
-    add-peek
-    peek-requires
-    enum-told
-    push-requires
-    add-t19
-    same-length
+    (λ c. search needs)
+    (λ c κs. search needs)
+    (λ c. search needs)
+    (λ c κs. search needs)
+    (λ c. search needs)
+    (λ c. search needs)
     returns
-    add-t21
-    add-t22
-    enum-known-code
-    is-escape-requires
-    add-copy
+    (λ c. search needs)
+    (λ c. search needs)
+    (λ c. search needs)
+    (λ c κs. search needs)
+    (λ c. search needs)
     copy-requires
-    same-length-2
+    (λ c. search needs)
     returns-2
-    push-requires-2
-    add-t31
-    same-length-3
+    (λ c κs. search needs)
+    (λ c. search needs)
+    (λ c. search needs)
     returns-3
-    is-whitespace-requires
+    (λ c κs. search needs)
     back-blank-requires
-    same-length-4
+    (λ c. search needs)
     returns-4
-    is-control-requires
+    (λ c κs. search needs)
     back-control-requires
-    same-length-5
+    (λ c. search needs)
     returns-5
     command-requires
     returns-6
-    same-length-6
+    (λ c. search needs)
     returns-7)

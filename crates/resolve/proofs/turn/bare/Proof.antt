@@ -15,15 +15,6 @@ use Rattle.resolve.proofs.CommandAnswers.{bare-lays}
 use Rattle.resolve.proofs.turn.bare.Statement.{statement}
 use Rattle.resolve.proofs.turn.bare.Tie as tie
 
-add-meaning-of : tie.Need-add-meaning-of
-add-meaning-of c = search needs
-
-meaning-of-requires : tie.Need-meaning-of-requires
-meaning-of-requires c κs = search needs
-
-add-execute-bare : tie.Need-add-execute-bare
-add-execute-bare c = search needs
-
 execute-bare-requires : tie.Need-execute-bare-requires
 execute-bare-requires c κs =
     let begin = c .before .before .before .before .before .before in
@@ -36,9 +27,6 @@ execute-bare-requires c κs =
           (arith, p .0 .white, p .0 .inside),
       omega (arith, p .0 .name, p .0 .white, p .0 .inside, p .1 .room),
     )
-
-same-length : tie.Need-same-length
-same-length c = search needs
 
 returns : tie.Need-returns
 returns c =
@@ -64,9 +52,9 @@ pub bare-spec : {M : Type 1} → statement M
 bare-spec =
     tie.close
     (tie.spec
-    add-meaning-of
-    meaning-of-requires
-    add-execute-bare
+    (λ c. search needs)
+    (λ c κs. search needs)
+    (λ c. search needs)
     execute-bare-requires
-    same-length
+    (λ c. search needs)
     returns)

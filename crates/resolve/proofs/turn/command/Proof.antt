@@ -12,21 +12,6 @@ use Rattle.resolve.proofs.CommandAnswers.{command-one, command-bare, br
 use Rattle.resolve.proofs.turn.command.Statement.{statement}
 use Rattle.resolve.proofs.turn.command.Tie as tie
 
-name-end-requires : tie.Need-name-end-requires
-name-end-requires c κs = search needs
-
-eat-whitespace-requires : tie.Need-eat-whitespace-requires
-eat-whitespace-requires c κs = search needs
-
-takes-one-requires : tie.Need-takes-one-requires
-takes-one-requires c κs = search needs
-
-one-requires : tie.Need-one-requires
-one-requires c κs = search needs
-
-same-length : tie.Need-same-length
-same-length c = search needs
-
 returns : tie.Need-returns
 returns c =
     let begin = c .before .before .before .before .before .before .before .before .before .before .before .before in
@@ -40,15 +25,6 @@ returns c =
           (white .ensures .0) (takes .result) (takes .ensures) (c .before .before .before .before .if1 .taken) (one .result) _ (one .ensures .0),
       one .ensures .1,
     )
-
-opens-at-requires : tie.Need-opens-at-requires
-opens-at-requires c κs = search needs
-
-bare-requires : tie.Need-bare-requires
-bare-requires c κs = search needs
-
-same-length-2 : tie.Need-same-length-2
-same-length-2 c = search needs
 
 returns-2 : tie.Need-returns-2
 returns-2 c =
@@ -66,15 +42,6 @@ returns-2 c =
       bare .ensures .1,
     )
 
-add-meaning-of : tie.Need-add-meaning-of
-add-meaning-of c = search needs
-
-meaning-of-requires : tie.Need-meaning-of-requires
-meaning-of-requires c κs = search needs
-
-add-argument-end : tie.Need-add-argument-end
-add-argument-end c = search needs
-
 argument-end-requires : tie.Need-argument-end-requires
 argument-end-requires c κs =
     let begin = c .before .before .before .before .before .before .before .before .before .before .before in
@@ -87,15 +54,6 @@ argument-end-requires c κs =
     brace-inside (a .s .now) (a .at) (a .code) (a .next) (a .len) (a .out .now) (p .0) (p .1) (name .result) (white .result) (name .ensures .0)
     (white .ensures .0) (takes .result) (takes .ensures) (c .before .before .before .if1 .left) (opens .result) (opens .ensures)
     (not-false _ (c .before .if2 .left))
-
-enum-known-to : tie.Need-enum-known-to
-enum-known-to c = search needs
-
-add-t26 : tie.Need-add-t26
-add-t26 c = search needs
-
-enum-known-f : tie.Need-enum-known-f
-enum-known-f c = search needs
 
 returns-3 : tie.Need-returns-3
 returns-3 c =
@@ -145,22 +103,22 @@ pub command-spec : {M : Type 1} → statement M
 command-spec =
     tie.close
     (tie.spec
-    name-end-requires
-    eat-whitespace-requires
-    takes-one-requires
-    one-requires
-    same-length
+    (λ c κs. search needs)
+    (λ c κs. search needs)
+    (λ c κs. search needs)
+    (λ c κs. search needs)
+    (λ c. search needs)
     returns
-    opens-at-requires
-    bare-requires
-    same-length-2
+    (λ c κs. search needs)
+    (λ c κs. search needs)
+    (λ c. search needs)
     returns-2
-    add-meaning-of
-    meaning-of-requires
-    add-argument-end
+    (λ c. search needs)
+    (λ c κs. search needs)
+    (λ c. search needs)
     argument-end-requires
-    enum-known-to
-    add-t26
-    enum-known-f
+    (λ c. search needs)
+    (λ c. search needs)
+    (λ c. search needs)
     returns-3
     returns-4)

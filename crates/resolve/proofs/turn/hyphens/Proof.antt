@@ -13,18 +13,6 @@ use Rattle.resolve.proofs.TextWays.{hyphen-one, hyphen-two, hyphen-thre
 use Rattle.resolve.proofs.turn.hyphens.Statement.{statement}
 use Rattle.resolve.proofs.turn.hyphens.Tie as tie
 
-add-one : tie.Need-add-one
-add-one c = search needs
-
-eat-byte-requires : tie.Need-eat-byte-requires
-eat-byte-requires c κs = search needs
-
-push-requires : tie.Need-push-requires
-push-requires c κs = search needs
-
-same-length : tie.Need-same-length
-same-length c = search needs
-
 returns : tie.Need-returns
 returns c =
     let begin = c .before .before .before .before .before .before .before .before in
@@ -38,9 +26,6 @@ returns c =
       record { at = omega arith; inside = omega (arith, p .0); text = omega (arith, push .ensures .1) },
     )
 
-eat-byte-requires-2 : tie.Need-eat-byte-requires-2
-eat-byte-requires-2 c κs = search needs
-
 put-code-requires : tie.Need-put-code-requires
 unfolding isScalar
 put-code-requires c κs =
@@ -48,9 +33,6 @@ put-code-requires c κs =
     let two = c .before .before .before .before .eat-byte in
     let more = c .before .before .before .if1 .left in
     (refl, omega (arith, begin .pre .2, begin .pre .0, two .ensures .1 .from, two .ensures .1 .to, more, octets-three 0x2013 (omega arith)))
-
-same-length-2 : tie.Need-same-length-2
-same-length-2 c = search needs
 
 returns-2 : tie.Need-returns-2
 unfolding octets
@@ -81,9 +63,6 @@ put-code-requires-2 c κs =
     let more = c .before .before .before .if1 .left in
     (refl, omega (arith, begin .pre .2, begin .pre .0, two .ensures .1 .from, two .ensures .1 .to, more, octets-three 0x2014 (omega arith)))
 
-same-length-3 : tie.Need-same-length-3
-same-length-3 c = search needs
-
 returns-3 : tie.Need-returns-3
 unfolding octets
 returns-3 c =
@@ -109,15 +88,15 @@ pub hyphens-spec : {M : Type 1} → statement M
 hyphens-spec =
     tie.close
     (tie.spec
-    add-one
-    eat-byte-requires
-    push-requires
-    same-length
+    (λ c. search needs)
+    (λ c κs. search needs)
+    (λ c κs. search needs)
+    (λ c. search needs)
     returns
-    eat-byte-requires-2
+    (λ c κs. search needs)
     put-code-requires
-    same-length-2
+    (λ c. search needs)
     returns-2
     put-code-requires-2
-    same-length-3
+    (λ c. search needs)
     returns-3)

@@ -13,13 +13,10 @@ use Rattle.resolve.proofs.Tests.{escape-tests}
 use Rattle.resolve.proofs.turn.is_escape.Statement.{statement}
 use Rattle.resolve.proofs.turn.is_escape.Tie as tie
 
-is-escapable-requires : tie.Need-is-escapable-requires
-is-escapable-requires c κs = search needs
-
 returns : tie.Need-returns
 returns c =
     let a = c .before .args in
     rw (c .is-escapable .ensures) (escape-tests (eqb (a .c) 0x5E) (eqb (a .c) 0x7E) (isEscapable (a .c) (a .verb) true))
 
 pub is-escape-spec : {M : Type 1} → statement M
-is-escape-spec = tie.close (tie.spec is-escapable-requires returns)
+is-escape-spec = tie.close (tie.spec (λ c κs. search needs) returns)

@@ -8,16 +8,10 @@ use Rattle.text.specs.Scan.{skip}
 use Rattle.resolve.proofs.turn.name_end.Statement.{statement}
 use Rattle.resolve.proofs.turn.name_end.Tie as tie
 
-is-single-char-func-requires : tie.Need-is-single-char-func-requires
-is-single-char-func-requires c κs = search needs
-
 returns : tie.Need-returns
 returns c =
     let single = c .before .is-single-char-func in
     (rw (sym (single .ensures), c .if1 .taken) refl, record { from = omega arith; to = omega arith })
-
-eat-id-requires : tie.Need-eat-id-requires
-eat-id-requires c κs = search needs
 
 returns-2 : tie.Need-returns-2
 returns-2 c =
@@ -25,4 +19,4 @@ returns-2 c =
     (rw (sym (single .ensures), c .before .if1 .left) (c .eat-id .ensures .0), c .eat-id .ensures .1)
 
 pub name-end-spec : {M : Type 1} → statement M
-name-end-spec = tie.close (tie.spec is-single-char-func-requires returns eat-id-requires returns-2)
+name-end-spec = tie.close (tie.spec (λ c κs. search needs) returns (λ c κs. search needs) returns-2)

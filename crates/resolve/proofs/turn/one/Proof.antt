@@ -17,27 +17,6 @@ use Rattle.resolve.proofs.CommandAnswers.{one-lays, one-room, one-grows
 use Rattle.resolve.proofs.turn.one.Statement.{statement}
 use Rattle.resolve.proofs.turn.one.Tie as tie
 
-eat-requires : tie.Need-eat-requires
-eat-requires c κs = search needs
-
-add-meaning-of : tie.Need-add-meaning-of
-add-meaning-of c = search needs
-
-meaning-of-requires : tie.Need-meaning-of-requires
-meaning-of-requires c κs = search needs
-
-add-execute-before : tie.Need-add-execute-before
-add-execute-before c = search needs
-
-execute-before-requires : tie.Need-execute-before-requires
-execute-before-requires c κs = search needs
-
-copy-requires : tie.Need-copy-requires
-copy-requires c κs = search needs
-
-add-execute-command : tie.Need-add-execute-command
-add-execute-command c = search needs
-
 execute-command-requires : tie.Need-execute-command-requires
 execute-command-requires c κs =
     let begin = c .before .before .before .before .before .before .before .before .before .before .before .before .before .before .before in
@@ -74,9 +53,6 @@ execute-command-requires c κs =
             (omega (arith, room .2)) (omega (arith, room .0, one, copy .ensures .0 .end)) (omega (arith, room .0, one, two)),
       ),
     )
-
-same-length : tie.Need-same-length
-same-length c = search needs
 
 returns : tie.Need-returns
 returns c =
@@ -116,13 +92,13 @@ pub one-spec : {M : Type 1} → statement M
 one-spec =
     tie.close
     (tie.spec
-    eat-requires
-    add-meaning-of
-    meaning-of-requires
-    add-execute-before
-    execute-before-requires
-    copy-requires
-    add-execute-command
+    (λ c κs. search needs)
+    (λ c. search needs)
+    (λ c κs. search needs)
+    (λ c. search needs)
+    (λ c κs. search needs)
+    (λ c κs. search needs)
+    (λ c. search needs)
     execute-command-requires
-    same-length
+    (λ c. search needs)
     returns)

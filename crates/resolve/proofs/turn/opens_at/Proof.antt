@@ -4,15 +4,6 @@ use borrow.Author.Needs.{needs}
 use Rattle.resolve.proofs.turn.opens_at.Statement.{statement}
 use Rattle.resolve.proofs.turn.opens_at.Tie as tie
 
-peek-requires : tie.Need-peek-requires
-peek-requires c κs = search needs
-
-enum-told : tie.Need-enum-told
-enum-told c = search needs
-
-enum-known-code : tie.Need-enum-known-code
-enum-known-code c = search needs
-
 returns : tie.Need-returns
 returns c = rw (sym (c .before .before .peek .ensures .0), c .enum-told .given .1) refl
 
@@ -20,4 +11,4 @@ returns-2 : tie.Need-returns-2
 returns-2 c = rw (sym (c .before .before .before .peek .ensures .0), c .before .code .given .1) refl
 
 pub opens-at-spec : {M : Type 1} → statement M
-opens-at-spec = tie.close (tie.spec peek-requires enum-told enum-known-code returns returns-2)
+opens-at-spec = tie.close (tie.spec (λ c κs. search needs) (λ c. search needs) (λ c. search needs) returns returns-2)

@@ -8,18 +8,6 @@ use Rattle.resolve.proofs.TextAnswers as answers
 use Rattle.resolve.proofs.turn.other.Statement.{statement}
 use Rattle.resolve.proofs.turn.other.Tie as tie
 
-peek-requires : tie.Need-peek-requires
-peek-requires c κs = search needs
-
-enum-told : tie.Need-enum-told
-enum-told c = search needs
-
-enum-known-code : tie.Need-enum-known-code
-enum-known-code c = search needs
-
-is-whitespace-requires : tie.Need-is-whitespace-requires
-is-whitespace-requires c κs = search needs
-
 push-requires : tie.Need-push-requires
 push-requires c κs =
     let begin = c .before .before .before .before .before .before .before .before .before in
@@ -29,12 +17,6 @@ push-requires c κs =
     let seen = c .before .before .before .before .code .given .1 in
     let in-text = answers.char-in (a .verb) (a .s .now) (a .at) (a .len) (a .out .now) (p .4) (peek .ensures .0) seen in
     omega (arith, p .4, in-text .0, in-text .1)
-
-eat-whitespace-requires : tie.Need-eat-whitespace-requires
-eat-whitespace-requires c κs = search needs
-
-same-length : tie.Need-same-length
-same-length c = search needs
 
 returns : tie.Need-returns
 returns c =
@@ -70,9 +52,6 @@ returns-2 c =
     let p = begin .pre in
     (answers.other-end (a .verb) (a .s .now) (a .at) (a .len) (a .out .now) (p .4) (c .before .before .peek .ensures .0) (c .enum-told .given .1), tt)
 
-same-length-2 : tie.Need-same-length-2
-same-length-2 c = search needs
-
 returns-3 : tie.Need-returns-3
 returns-3 c =
     let begin = c .before .before .before .before .before .before .before .before .before .before .before .before in
@@ -91,15 +70,15 @@ pub other-spec : {M : Type 1} → statement M
 other-spec =
     tie.close
     (tie.spec
-    peek-requires
-    enum-told
-    enum-known-code
-    is-whitespace-requires
+    (λ c κs. search needs)
+    (λ c. search needs)
+    (λ c. search needs)
+    (λ c κs. search needs)
     push-requires
-    eat-whitespace-requires
-    same-length
+    (λ c κs. search needs)
+    (λ c. search needs)
     returns
     copy-requires
     returns-2
-    same-length-2
+    (λ c. search needs)
     returns-3)

@@ -4,14 +4,8 @@ use borrow.Author.Needs.{needs}
 use Rattle.resolve.proofs.turn.takes_one.Statement.{statement}
 use Rattle.resolve.proofs.turn.takes_one.Tie as tie
 
-opens-at-requires : tie.Need-opens-at-requires
-opens-at-requires c κs = search needs
-
-is-single-char-func-requires : tie.Need-is-single-char-func-requires
-is-single-char-func-requires c κs = search needs
-
 returns : tie.Need-returns
 returns c = rw (c .before .opens-at .ensures, c .is-single-char-func .ensures) refl
 
 pub takes-one-spec : {M : Type 1} → statement M
-takes-one-spec = tie.close (tie.spec opens-at-requires is-single-char-func-requires returns)
+takes-one-spec = tie.close (tie.spec (λ c κs. search needs) (λ c κs. search needs) returns)

@@ -14,15 +14,6 @@ use Rattle.resolve.proofs.CommandAnswers.{hyphen-tests, no-hyphen}
 use Rattle.resolve.proofs.turn.text_at.Statement.{statement}
 use Rattle.resolve.proofs.turn.text_at.Tie as tie
 
-plain-requires : tie.Need-plain-requires
-plain-requires c κs = search needs
-
-copy-requires : tie.Need-copy-requires
-copy-requires c κs = search needs
-
-same-length : tie.Need-same-length
-same-length c = search needs
-
 returns : tie.Need-returns
 returns c =
     let a = c .before .before .before .before .before .before .before .before .before .before .args in
@@ -39,26 +30,11 @@ returns-2 c =
     let a = c .before .before .before .before .before .before .before .args in
     ((λ argument d. ended argument (a .verb) d (a .s .now) (a .at) (c .if2 .taken), refl), tt)
 
-shared-slice-read-b : tie.Need-shared-slice-read-b
-shared-slice-read-b c = search needs
-
-backslash-requires : tie.Need-backslash-requires
-backslash-requires c κs = search needs
-
-same-length-2 : tie.Need-same-length-2
-same-length-2 c = search needs
-
-returns-3 : tie.Need-returns-3
-returns-3 c = search needs
-
 hyphens-requires : tie.Need-hyphens-requires
 hyphens-requires c κs =
     let begin = c .before .before .before .before .before .before .before .before .before .before .before in
     let is = hyphen-tests _ (begin .args .verb) (c .before .if4 .taken) in
     (c .before .before .before .before .if2 .left, is .0, begin .pre .1 .room)
-
-same-length-3 : tie.Need-same-length-3
-same-length-3 c = search needs
 
 returns-4 : tie.Need-returns-4
 returns-4 c =
@@ -72,28 +48,22 @@ other-requires c κs =
     let begin = c .before .before .before .before .before .before .before .before .before .before .before in
     (begin .pre .1 .place, begin .pre .0, c .before .before .if3 .left, no-hyphen _ (begin .args .verb) (c .before .if4 .left), begin .pre .1 .room)
 
-same-length-4 : tie.Need-same-length-4
-same-length-4 c = search needs
-
-returns-5 : tie.Need-returns-5
-returns-5 c = search needs
-
 pub text-at-spec : {M : Type 1} → statement M
 text-at-spec =
     tie.close
     (tie.spec
-    plain-requires
-    copy-requires
-    same-length
+    (λ c κs. search needs)
+    (λ c κs. search needs)
+    (λ c. search needs)
     returns
     returns-2
-    shared-slice-read-b
-    backslash-requires
-    same-length-2
-    returns-3
+    (λ c. search needs)
+    (λ c κs. search needs)
+    (λ c. search needs)
+    (λ c. search needs)
     hyphens-requires
-    same-length-3
+    (λ c. search needs)
     returns-4
     other-requires
-    same-length-4
-    returns-5)
+    (λ c. search needs)
+    (λ c. search needs))

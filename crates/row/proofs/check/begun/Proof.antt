@@ -6,9 +6,6 @@ use Rattle.row.proofs.rules.CheckTurns.{begun-field, begun-else}
 use Rattle.row.proofs.check.begun.Statement.{statement}
 use Rattle.row.proofs.check.begun.Tie as tie
 
-or-wrong-requires : tie.Need-or-wrong-requires
-or-wrong-requires c κs = search needs
-
 returns : tie.Need-returns
 returns c = rw (c .match .keys1)
 
@@ -32,4 +29,4 @@ returns-6 c =
 pub begun-spec : {M : Type 1} → statement M
 begun-spec =
     tie.close
-    (tie.spec or-wrong-requires returns returns-2 returns-3 returns-4 returns-5 returns-6)
+    (tie.spec (λ c κs. search needs) returns returns-2 returns-3 returns-4 returns-5 returns-6)

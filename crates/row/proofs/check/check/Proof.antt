@@ -21,33 +21,6 @@ returns c = bad-count (c .before .before .args .rows .now) (c .if1 .taken)
 loop-holds : tie.Need-loop-holds Inv-loop μ-loop
 loop-holds c = (c .if1 .left, omega arith, omega arith, refl)
 
-mul-step : tie.Need-mul-step Inv-loop μ-loop
-mul-step c = search needs
-
-shared-slice-read-step : tie.Need-shared-slice-read-step Inv-loop μ-loop
-shared-slice-read-step c = search needs
-
-add-step : tie.Need-add-step Inv-loop μ-loop
-add-step c = search needs
-
-mul-step-2 : tie.Need-mul-step-2 Inv-loop μ-loop
-mul-step-2 c = search needs
-
-shared-slice-read-step-2 : tie.Need-shared-slice-read-step-2 Inv-loop μ-loop
-shared-slice-read-step-2 c = search needs
-
-step-requires : tie.Need-step-requires Inv-loop μ-loop
-step-requires c κs = search needs
-
-add-i : tie.Need-add-i Inv-loop μ-loop
-add-i c = search needs
-
-enum-known-state : tie.Need-enum-known-state Inv-loop μ-loop
-enum-known-state c = search needs
-
-loop-less : tie.Need-loop-less Inv-loop μ-loop
-loop-less c = search needs
-
 loop-again : tie.Need-loop-again Inv-loop μ-loop
 loop-again c =
     let l = c .before .before .before .before in
@@ -55,15 +28,6 @@ loop-again c =
     let a = asked .args in
     let m = l .before .loop .inv in
     (m .0, omega arith, omega arith, turn (a .rows .now) (l .before .loop .i) (l .before .loop .state) _ (omega arith) (c .before .step .ensures) (m .3))
-
-value-row-requires : tie.Need-value-row-requires Inv-loop μ-loop
-value-row-requires c κs = search needs
-
-enum-known-next : tie.Need-enum-known-next Inv-loop μ-loop
-enum-known-next c = search needs
-
-enum-told : tie.Need-enum-told Inv-loop μ-loop
-enum-told c = search needs
 
 returns-2 : tie.Need-returns-2 Inv-loop μ-loop
 returns-2 c =
@@ -109,9 +73,6 @@ loop-again-2 c =
     _ (next .next .given .1) in
     (m .0, omega (arith, x .0 .0), omega (arith, x .0 .0, x .0 .1), x .1)
 
-is-whole-requires : tie.Need-is-whole-requires Inv-loop μ-loop
-is-whole-requires c κs = search needs
-
 returns-3 : tie.Need-returns-3 Inv-loop μ-loop
 returns-3 c =
     let is-whole = c .before in
@@ -138,22 +99,22 @@ check-spec =
     μ-loop
     returns
     loop-holds
-    mul-step
-    shared-slice-read-step
-    add-step
-    mul-step-2
-    shared-slice-read-step-2
-    step-requires
-    add-i
-    enum-known-state
-    loop-less
+    (λ c. search needs)
+    (λ c. search needs)
+    (λ c. search needs)
+    (λ c. search needs)
+    (λ c. search needs)
+    (λ c κs. search needs)
+    (λ c. search needs)
+    (λ c. search needs)
+    (λ c. search needs)
     loop-again
-    value-row-requires
-    enum-known-next
-    enum-told
+    (λ c κs. search needs)
+    (λ c. search needs)
+    (λ c. search needs)
     returns-2
     loop-less-2
     loop-again-2
-    is-whole-requires
+    (λ c κs. search needs)
     returns-3
     returns-4)

@@ -12,54 +12,9 @@ use Rattle.row.proofs.check.next.Tie as tie
 abbrev chunky : ℕ → Bool
 chunky n = eqb n 6 || eqb n 7
 
-enum-known-state : tie.Need-enum-known-state
-enum-known-state c = search needs
-
-begun-requires : tie.Need-begun-requires
-begun-requires c κs = search needs
-
-enum-told : tie.Need-enum-told
-enum-told c = search needs
-
-or-wrong-requires : tie.Need-or-wrong-requires
-or-wrong-requires c κs = search needs
-
-enum-told-2 : tie.Need-enum-told-2
-enum-told-2 c = search needs
-
-or-wrong-requires-2 : tie.Need-or-wrong-requires-2
-or-wrong-requires-2 c κs = search needs
-
-enum-known-state-2 : tie.Need-enum-known-state-2
-enum-known-state-2 c = search needs
-
-or-wrong-requires-3 : tie.Need-or-wrong-requires-3
-or-wrong-requires-3 c κs = search needs
-
-enum-known-state-3 : tie.Need-enum-known-state-3
-enum-known-state-3 c = search needs
-
-or-wrong-requires-4 : tie.Need-or-wrong-requires-4
-or-wrong-requires-4 c κs = search needs
-
-enum-known-state-4 : tie.Need-enum-known-state-4
-enum-known-state-4 c = search needs
-
 returns : tie.Need-returns
 unfolding next
 returns c = rw (c .before .before .state4 .given .1, c .if1 .taken)
-
-begun-requires-2 : tie.Need-begun-requires-2
-begun-requires-2 c κs = search needs
-
-enum-told-3 : tie.Need-enum-told-3
-enum-told-3 c = search needs
-
-or-wrong-requires-5 : tie.Need-or-wrong-requires-5
-or-wrong-requires-5 c κs = search needs
-
-enum-told-4 : tie.Need-enum-told-4
-enum-told-4 c = search needs
 
 returns-2 : tie.Need-returns-2
 unfolding next
@@ -103,22 +58,22 @@ pub next-spec : {M : Type 1} → statement M
 next-spec =
     tie.close
     (tie.spec
-    enum-known-state
-    begun-requires
-    enum-told
-    or-wrong-requires
-    enum-told-2
-    or-wrong-requires-2
-    enum-known-state-2
-    or-wrong-requires-3
-    enum-known-state-3
-    or-wrong-requires-4
-    enum-known-state-4
+    (λ c. search needs)
+    (λ c κs. search needs)
+    (λ c. search needs)
+    (λ c κs. search needs)
+    (λ c. search needs)
+    (λ c κs. search needs)
+    (λ c. search needs)
+    (λ c κs. search needs)
+    (λ c. search needs)
+    (λ c κs. search needs)
+    (λ c. search needs)
     returns
-    begun-requires-2
-    enum-told-3
-    or-wrong-requires-5
-    enum-told-4
+    (λ c κs. search needs)
+    (λ c. search needs)
+    (λ c κs. search needs)
+    (λ c. search needs)
     returns-2
     returns-3
     returns-4

@@ -3,12 +3,6 @@ use borrow.Author.Needs.{needs}
 use Rattle.row.proofs.check.step.Statement.{statement}
 use Rattle.row.proofs.check.step.Tie as tie
 
-is-detail-requires : tie.Need-is-detail-requires
-is-detail-requires c κs = search needs
-
-next-requires : tie.Need-next-requires
-next-requires c κs = search needs
-
 returns : tie.Need-returns
 returns c = rw (c .next .ensures, ← c .before .before .is-detail .ensures, c .before .if1 .taken)
 
@@ -16,4 +10,4 @@ returns-2 : tie.Need-returns-2
 returns-2 c = rw (← c .before .is-detail .ensures, c .if1 .left)
 
 pub step-spec : {M : Type 1} → statement M
-step-spec = tie.close (tie.spec is-detail-requires next-requires returns returns-2)
+step-spec = tie.close (tie.spec (λ c κs. search needs) (λ c κs. search needs) returns returns-2)

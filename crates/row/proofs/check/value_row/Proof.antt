@@ -7,30 +7,9 @@ use Rattle.row.proofs.numbers.Flat.{rows-end, rows-next}
 use Rattle.row.proofs.check.value_row.Statement.{statement}
 use Rattle.row.proofs.check.value_row.Tie as tie
 
-sub-if1 : tie.Need-sub-if1
-sub-if1 c = search needs
-
 returns : tie.Need-returns
 unfolding foundOf
 returns c = let a = c .before .args in sym (ap (foundOf (a .i)) (rows-end (a .rows .now) (a .i) (omega arith)))
-
-mul-if2 : tie.Need-mul-if2
-mul-if2 c = search needs
-
-shared-slice-read-if2 : tie.Need-shared-slice-read-if2
-shared-slice-read-if2 c = search needs
-
-add-if2 : tie.Need-add-if2
-add-if2 c = search needs
-
-mul-if2-2 : tie.Need-mul-if2-2
-mul-if2-2 c = search needs
-
-shared-slice-read-if2-2 : tie.Need-shared-slice-read-if2-2
-shared-slice-read-if2-2 c = search needs
-
-add-t13 : tie.Need-add-t13
-add-t13 c = search needs
 
 returns-2 : tie.Need-returns-2
 unfolding foundOf
@@ -50,13 +29,13 @@ pub value-row-spec : {M : Type 1} → statement M
 value-row-spec =
     tie.close
     (tie.spec
-    sub-if1
+    (λ c. search needs)
     returns
-    mul-if2
-    shared-slice-read-if2
-    add-if2
-    mul-if2-2
-    shared-slice-read-if2-2
-    add-t13
+    (λ c. search needs)
+    (λ c. search needs)
+    (λ c. search needs)
+    (λ c. search needs)
+    (λ c. search needs)
+    (λ c. search needs)
     returns-2
     returns-3)

@@ -7,44 +7,14 @@ use Rattle.row.proofs.numbers.Overlay.{put-sets, put-out}
 use Rattle.row.proofs.form.write_numbers.Statement.{statement}
 use Rattle.row.proofs.form.write_numbers.Tie as tie
 
-mul-i : tie.Need-mul-i
-mul-i c = search needs
-
-mul-rows : tie.Need-mul-rows
-mul-rows c = search needs
-
-slice-write-rows : tie.Need-slice-write-rows
-slice-write-rows c = search needs
-
-add-rows : tie.Need-add-rows
-add-rows c = search needs
-
-mul-rows-2 : tie.Need-mul-rows-2
-mul-rows-2 c = search needs
-
 slice-write-rows-2 : tie.Need-slice-write-rows-2
 slice-write-rows-2 c = simp length-set (omega arith)
-
-add-rows-2 : tie.Need-add-rows-2
-add-rows-2 c = search needs
-
-mul-rows-3 : tie.Need-mul-rows-3
-mul-rows-3 c = search needs
 
 slice-write-rows-3 : tie.Need-slice-write-rows-3
 slice-write-rows-3 c = simp length-set (omega arith)
 
-add-rows-3 : tie.Need-add-rows-3
-add-rows-3 c = search needs
-
-mul-rows-4 : tie.Need-mul-rows-4
-mul-rows-4 c = search needs
-
 slice-write-rows-4 : tie.Need-slice-write-rows-4
 slice-write-rows-4 c = simp length-set (omega arith)
-
-same-length : tie.Need-same-length
-same-length c = search needs
 
 returns : tie.Need-returns
 returns c =
@@ -58,18 +28,18 @@ pub write-numbers-spec : {M : Type 1} → statement M
 write-numbers-spec =
     tie.close
     (tie.spec
-    mul-i
-    mul-rows
-    slice-write-rows
-    add-rows
-    mul-rows-2
+    (λ c. search needs)
+    (λ c. search needs)
+    (λ c. search needs)
+    (λ c. search needs)
+    (λ c. search needs)
     slice-write-rows-2
-    add-rows-2
-    mul-rows-3
+    (λ c. search needs)
+    (λ c. search needs)
     slice-write-rows-3
-    add-rows-3
-    mul-rows-4
+    (λ c. search needs)
+    (λ c. search needs)
     slice-write-rows-4
-    same-length
+    (λ c. search needs)
     returns
     returns-2)

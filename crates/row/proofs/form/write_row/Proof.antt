@@ -6,21 +6,6 @@ use Rattle.row.specs.Row.{rowOf, putRow}
 use Rattle.row.proofs.form.write_row.Statement.{statement}
 use Rattle.row.proofs.form.write_row.Tie as tie
 
-kind-number-requires : tie.Need-kind-number-requires
-kind-number-requires c κs = search needs
-
-cast-write-numbers : tie.Need-cast-write-numbers
-cast-write-numbers c = search needs
-
-cast-write-numbers-2 : tie.Need-cast-write-numbers-2
-cast-write-numbers-2 c = search needs
-
-write-numbers-requires : tie.Need-write-numbers-requires
-write-numbers-requires c κs = search needs
-
-same-length : tie.Need-same-length
-same-length c = search needs
-
 returns : tie.Need-returns
 returns c =
     let a = c .before .before .before .before .before .before .args in
@@ -31,9 +16,9 @@ pub write-row-spec : {M : Type 1} → statement M
 write-row-spec =
     tie.close
     (tie.spec
-    kind-number-requires
-    cast-write-numbers
-    cast-write-numbers-2
-    write-numbers-requires
-    same-length
+    (λ c κs. search needs)
+    (λ c. search needs)
+    (λ c. search needs)
+    (λ c κs. search needs)
+    (λ c. search needs)
     returns)

@@ -5,15 +5,9 @@ use Rattle.row.specs.Masks.{takenOf}
 use Rattle.row.proofs.mask.is_taken.Statement.{statement}
 use Rattle.row.proofs.mask.is_taken.Tie as tie
 
-is-detail-requires : tie.Need-is-detail-requires
-is-detail-requires c κs = search needs
-
 returns : tie.Need-returns
 unfolding takenOf
 returns c = rw (c .is-detail .ensures, ne-eqb _ 0 (c .before .if1 .taken))
-
-shr-result : tie.Need-shr-result
-shr-result c = search needs
 
 returns-2 : tie.Need-returns-2
 unfolding takenOf
@@ -24,4 +18,4 @@ unfolding takenOf
 returns-3 c = rw (c .before .if1 .left, le-ltb _ 10 (c .if2 .left))
 
 pub is-taken-spec : {M : Type 1} → statement M
-is-taken-spec = tie.close (tie.spec is-detail-requires returns shr-result returns-2 returns-3)
+is-taken-spec = tie.close (tie.spec (λ c κs. search needs) returns (λ c. search needs) returns-2 returns-3)

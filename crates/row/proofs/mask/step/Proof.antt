@@ -4,12 +4,6 @@ use Rattle.row.specs.Masks.{stepOf}
 use Rattle.row.proofs.mask.step.Statement.{statement}
 use Rattle.row.proofs.mask.step.Tie as tie
 
-is-taken-requires : tie.Need-is-taken-requires
-is-taken-requires c κs = search needs
-
-after-requires : tie.Need-after-requires
-after-requires c κs = search needs
-
 returns : tie.Need-returns
 unfolding stepOf
 returns c = rw (c .after .ensures, ← c .before .before .is-taken .ensures, c .before .if1 .taken)
@@ -19,4 +13,4 @@ unfolding stepOf
 returns-2 c = rw (← c .before .is-taken .ensures, c .if1 .left)
 
 pub step-spec : {M : Type 1} → statement M
-step-spec = tie.close (tie.spec is-taken-requires after-requires returns returns-2)
+step-spec = tie.close (tie.spec (λ c κs. search needs) (λ c κs. search needs) returns returns-2)

@@ -23,9 +23,6 @@ piece-end-requires c κs = c .loop-test .taken
 mul-least : tie.Need-mul-least Inv-loop μ-loop
 mul-least c = let l = c .before .before in omega (arith, l .loop .inv .most, l .loop .inv .place, l .before .before .before .pre .short)
 
-least-requires : tie.Need-least-requires Inv-loop μ-loop
-least-requires c κs = search needs
-
 sub-read-piece : tie.Need-sub-read-piece Inv-loop μ-loop
 sub-read-piece c = omega (arith, c .before .piece-end .ensures .from)
 
@@ -35,17 +32,11 @@ part-read-piece-start c = omega (arith, c .before .piece-end .ensures .from)
 part-read-piece-end : tie.Need-part-read-piece-end Inv-loop μ-loop
 part-read-piece-end c = c .before .piece-end .ensures .to
 
-mul-read-piece : tie.Need-mul-read-piece Inv-loop μ-loop
-mul-read-piece c = search needs
-
 sub-read-piece-2 : tie.Need-sub-read-piece-2 Inv-loop μ-loop
 sub-read-piece-2 c = omega (arith, c .before .least .ensures)
 
 part-read-piece-start-2 : tie.Need-part-read-piece-start-2 Inv-loop μ-loop
 part-read-piece-start-2 c = omega (arith, c .before .least .ensures)
-
-part-read-piece-end-2 : tie.Need-part-read-piece-end-2 Inv-loop μ-loop
-part-read-piece-end-2 c = search needs
 
 read-piece-requires : tie.Need-read-piece-requires Inv-loop μ-loop
 read-piece-requires c κs =
@@ -54,9 +45,6 @@ read-piece-requires c κs =
     let b = x .before .before .before .before .before in
     going-asks (b .args .s .now) (b .args .rows .now) (l .rows) (b .args .valid) (l .at) _ (l .n) (l .sound) (l .inv) (x .piece-end .ensures)
     (b .pre .short) (b .pre .valid)
-
-enum-known-k : tie.Need-enum-known-k Inv-loop μ-loop
-enum-known-k c = search needs
 
 add-n : tie.Need-add-n Inv-loop μ-loop
 add-n c =
@@ -83,9 +71,6 @@ loop-again c =
     let b = x .before .before .before .before .before in
     going-sound (b .args .s .now) (b .args .rows .now) (l .rows) (b .args .valid) (l .at) _ (l .n) (l .sound) (l .inv) (x .piece-end .ensures)
     (b .pre .valid) (m .least .ensures) (y .read-piece .last .1 .1 .0) (y .read-piece .ensures) (y .read-piece .kept .1 .1 .0) (k .given .1)
-
-enum-known-k-2 : tie.Need-enum-known-k-2 Inv-loop μ-loop
-enum-known-k-2 c = search needs
 
 add-n-2 : tie.Need-add-n-2 Inv-loop μ-loop
 add-n-2 c =
@@ -145,20 +130,20 @@ read-pieces-spec =
     loop-holds
     piece-end-requires
     mul-least
-    least-requires
+    (λ c κs. search needs)
     sub-read-piece
     part-read-piece-start
     part-read-piece-end
-    mul-read-piece
+    (λ c. search needs)
     sub-read-piece-2
     part-read-piece-start-2
-    part-read-piece-end-2
+    (λ c. search needs)
     read-piece-requires
-    enum-known-k
+    (λ c. search needs)
     add-n
     loop-less
     loop-again
-    enum-known-k-2
+    (λ c. search needs)
     add-n-2
     loop-less-2
     loop-again-2

@@ -7,26 +7,11 @@ use Rattle.salvage.proofs.file.salvage.Tie as tie
 returns : tie.Need-returns
 returns c = let a = c .before .before .before .args in salvage-long (a .s .now) (a .rows .now) (c .if1 .taken)
 
-valid-to-requires : tie.Need-valid-to-requires
-valid-to-requires c κs = search needs
-
-slice-aggregate-read-pieces : tie.Need-slice-aggregate-read-pieces
-slice-aggregate-read-pieces c = search needs
-
-read-pieces-requires : tie.Need-read-pieces-requires
-read-pieces-requires c κs = search needs
-
-enum-known-n : tie.Need-enum-known-n
-enum-known-n c = search needs
-
 write-sound-requires : tie.Need-write-sound-requires
 write-sound-requires c κs =
     let r = c .before .before .before .before .before in
     let i = r .before .before .before in
     counted-sound (i .before .before .before .args .s .now) (i .if1 .left) (r .read-pieces .ensures) (c .before .before .n .given .1)
-
-enum-known-n-2 : tie.Need-enum-known-n-2
-enum-known-n-2 c = search needs
 
 write-damaged-requires : tie.Need-write-damaged-requires
 write-damaged-requires c κs =
@@ -38,31 +23,19 @@ write-damaged-requires c κs =
       record { short = i .if1 .left; valid = v .valid-to .ensures },
     )
 
-same-length : tie.Need-same-length
-same-length c = search needs
-
-returns-2 : tie.Need-returns-2
-returns-2 c = search needs
-
-same-length-2 : tie.Need-same-length-2
-same-length-2 c = search needs
-
-returns-3 : tie.Need-returns-3
-returns-3 c = search needs
-
 pub salvage-spec : {M : Type 1} → statement M
 salvage-spec =
     tie.close
     (tie.spec
     returns
-    valid-to-requires
-    slice-aggregate-read-pieces
-    read-pieces-requires
-    enum-known-n
+    (λ c κs. search needs)
+    (λ c. search needs)
+    (λ c κs. search needs)
+    (λ c. search needs)
     write-sound-requires
-    enum-known-n-2
+    (λ c. search needs)
     write-damaged-requires
-    same-length
-    returns-2
-    same-length-2
-    returns-3)
+    (λ c. search needs)
+    (λ c. search needs)
+    (λ c. search needs)
+    (λ c. search needs))

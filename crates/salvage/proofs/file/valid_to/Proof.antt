@@ -4,15 +4,6 @@ use Rattle.salvage.proofs.ways.SalvageFile.{valid-all, valid-part}
 use Rattle.salvage.proofs.file.valid_to.Statement.{statement}
 use Rattle.salvage.proofs.file.valid_to.Tie as tie
 
-validate-requires : tie.Need-validate-requires
-validate-requires c κs = search needs
-
-enum-told : tie.Need-enum-told
-enum-told c = search needs
-
-enum-known-i : tie.Need-enum-known-i
-enum-known-i c = search needs
-
 returns : tie.Need-returns
 returns c = valid-all (c .before .before .before .before .args .s .now) (c .before .before .validate .ensures) (c .enum-told .given .1)
 
@@ -24,4 +15,4 @@ returns-2 c =
     valid-part (a .s .now) (validate .ensures) (i .given .1)
 
 pub valid-to-spec : {M : Type 1} → statement M
-valid-to-spec = tie.close (tie.spec validate-requires enum-told enum-known-i returns returns-2)
+valid-to-spec = tie.close (tie.spec (λ c κs. search needs) (λ c. search needs) (λ c. search needs) returns returns-2)

@@ -10,20 +10,8 @@ use Rattle.salvage.proofs.file.write_damaged.Tie as tie
 returns : tie.Need-returns
 returns c = let b = c .before .before .before in salvage-full (b .args .s .now) (b .args .rows .now) (b .pre .0) (c .if1 .taken)
 
-mul-end : tie.Need-mul-end
-mul-end c = search needs
-
-slice-relend-prefix-read-pieces : tie.Need-slice-relend-prefix-read-pieces
-slice-relend-prefix-read-pieces c = search needs
-
 slice-aggregate-read-pieces : tie.Need-slice-aggregate-read-pieces
 slice-aggregate-read-pieces c = sym (length-take-le _ (c .before .before .before .before .args .rows .now) (omega (arith, c .before .if1 .left)))
-
-read-pieces-requires : tie.Need-read-pieces-requires
-read-pieces-requires c κs = search needs
-
-same-length : tie.Need-same-length
-same-length c = search needs
 
 returns-2 : tie.Need-returns-2
 returns-2 c =
@@ -36,9 +24,9 @@ write-damaged-spec =
     tie.close
     (tie.spec
     returns
-    mul-end
-    slice-relend-prefix-read-pieces
+    (λ c. search needs)
+    (λ c. search needs)
     slice-aggregate-read-pieces
-    read-pieces-requires
-    same-length
+    (λ c κs. search needs)
+    (λ c. search needs)
     returns-2)

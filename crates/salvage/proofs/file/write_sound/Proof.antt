@@ -7,12 +7,6 @@ use Rattle.salvage.proofs.file.write_sound.Tie as tie
 returns : tie.Need-returns
 returns c = let b = c .before .before .before in salvage-full (b .args .s .now) (b .args .rows .now) (b .pre .0) (c .if1 .taken)
 
-parse-requires : tie.Need-parse-requires
-parse-requires c κs = search needs
-
-same-length : tie.Need-same-length
-same-length c = search needs
-
 returns-2 : tie.Need-returns-2
 returns-2 c =
     let r = c .before .before .before .before in
@@ -20,4 +14,4 @@ returns-2 c =
     salvage-strictly (b .args .s .now) (b .args .rows .now) (b .pre .0) (b .pre .1) (r .if1 .left) (c .before .before .parse .ensures .0)
 
 pub write-sound-spec : {M : Type 1} → statement M
-write-sound-spec = tie.close (tie.spec returns parse-requires same-length returns-2)
+write-sound-spec = tie.close (tie.spec returns (λ c κs. search needs) (λ c. search needs) returns-2)

@@ -20,9 +20,6 @@ loop-holds c = (omega arith, omega arith, λ e x. x)
 add-find : tie.Need-add-find Inv-loop μ-loop
 add-find c = omega arith
 
-find-requires : tie.Need-find-requires Inv-loop μ-loop
-find-requires c κs = search needs
-
 returns : tie.Need-returns Inv-loop μ-loop
 returns c =
     let a = c .before .before .before .before .args in
@@ -65,7 +62,7 @@ far-end-spec =
     μ-loop
     loop-holds
     add-find
-    find-requires
+    (λ c κs. search needs)
     returns
     sub-if2
     shared-slice-read-if2

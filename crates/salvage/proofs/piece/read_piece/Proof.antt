@@ -4,15 +4,6 @@ use Rattle.salvage.proofs.ways.ReadPiece.{piece-sound, off-strict, off-
 use Rattle.salvage.proofs.piece.read_piece.Statement.{statement}
 use Rattle.salvage.proofs.piece.read_piece.Tie as tie
 
-read-alone-requires : tie.Need-read-alone-requires
-read-alone-requires c κs = search needs
-
-enum-known-n : tie.Need-enum-known-n
-enum-known-n c = search needs
-
-enum-known-f : tie.Need-enum-known-f
-enum-known-f c = search needs
-
 write-damage-requires : tie.Need-write-damage-requires
 write-damage-requires c κs =
     let f = c .before .before in
@@ -21,17 +12,11 @@ write-damage-requires c κs =
     let w = b .args .w .now in
     off-damage w (b .pre) (b .args .rows .now) (off-strict w (b .pre) (b .args .rows .now) (f .f .given .1) (r .read-alone .ensures .0))
 
-same-length : tie.Need-same-length
-same-length c = search needs
-
 returns : tie.Need-returns
 returns c =
     let r = c .before .before .before .before .before in
     let b = r .before .before .before .before in
     piece-sound (b .args .w .now) (b .pre) (b .args .rows .now) (c .before .n .given .1) (r .read-alone .ensures .0) (r .read-alone .ensures .1)
-
-same-length-2 : tie.Need-same-length-2
-same-length-2 c = search needs
 
 returns-2 : tie.Need-returns-2
 returns-2 c =
@@ -47,11 +32,11 @@ pub read-piece-spec : {M : Type 1} → statement M
 read-piece-spec =
     tie.close
     (tie.spec
-    read-alone-requires
-    enum-known-n
-    enum-known-f
+    (λ c κs. search needs)
+    (λ c. search needs)
+    (λ c. search needs)
     write-damage-requires
-    same-length
+    (λ c. search needs)
     returns
-    same-length-2
+    (λ c. search needs)
     returns-2)

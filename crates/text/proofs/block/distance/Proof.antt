@@ -4,21 +4,6 @@ use Rattle.text.proofs.scanning.Blocks.{distance-none}
 use Rattle.text.proofs.block.distance.Statement.{statement}
 use Rattle.text.proofs.block.distance.Tie as tie
 
-apart-requires : tie.Need-apart-requires
-apart-requires c κs = search needs
-
-apart-requires-2 : tie.Need-apart-requires-2
-apart-requires-2 c κs = search needs
-
-apart-requires-3 : tie.Need-apart-requires-3
-apart-requires-3 c κs = search needs
-
-lesser-requires : tie.Need-lesser-requires
-lesser-requires c κs = search needs
-
-lesser-requires-2 : tie.Need-lesser-requires-2
-lesser-requires-2 c κs = search needs
-
 returns : tie.Need-returns
 returns c =
     let lesser = c .before in
@@ -33,9 +18,9 @@ pub distance-spec : {M : Type 1} → statement M
 distance-spec =
     tie.close
     (tie.spec
-    apart-requires
-    apart-requires-2
-    apart-requires-3
-    lesser-requires
-    lesser-requires-2
+    (λ c κs. search needs)
+    (λ c κs. search needs)
+    (λ c κs. search needs)
+    (λ c κs. search needs)
+    (λ c κs. search needs)
     returns)

@@ -13,12 +13,6 @@ Inv-loop s at x i₀ i = Lacking x s at i
 abbrev μ-loop : tie.MeasureT-loop
 μ-loop s at x i₀ i = length s - i
 
-intervals-requires : tie.Need-intervals-requires Inv-loop μ-loop
-intervals-requires c κs = search needs
-
-past-requires : tie.Need-past-requires Inv-loop μ-loop
-past-requires c κs = search needs
-
 loop-holds : tie.Need-loop-holds Inv-loop μ-loop
 loop-holds c = lacking (clear-as (c .before .intervals .ensures) (c .past .ensures))
 
@@ -46,8 +40,8 @@ find-spec =
     (tie.spec
     Inv-loop
     μ-loop
-    intervals-requires
-    past-requires
+    (λ c κs. search needs)
+    (λ c κs. search needs)
     loop-holds
     shared-slice-read-if1
     returns

@@ -11,11 +11,8 @@ use Rattle.text.proofs.block.has.Tie as tie
 returns : tie.Need-returns
 returns c = λ e. let z : _≡_ {A = ℕ} 0 1 = cc in absurd (omega arith)
 
-sub-result : tie.Need-sub-result
-sub-result c = search needs
-
 returns-2 : tie.Need-returns-2
 returns-2 c = λ e. let a = c .before .args in omega (arith, leb-true (a .at) (length (a .s .now) - a .n) e)
 
 pub has-spec : {M : Type 1} → statement M
-has-spec = tie.close (tie.spec returns sub-result returns-2)
+has-spec = tie.close (tie.spec returns (λ c. search needs) returns-2)

@@ -22,9 +22,6 @@ add-i c = omega arith
 shared-slice-read-greater : tie.Need-shared-slice-read-greater Inv-loop μ-loop
 shared-slice-read-greater c = omega arith
 
-greater-requires : tie.Need-greater-requires Inv-loop μ-loop
-greater-requires c κs = search needs
-
 add-k : tie.Need-add-k Inv-loop μ-loop
 add-k c = omega arith
 
@@ -52,7 +49,7 @@ is-ascii-spec =
     loop-holds
     add-i
     shared-slice-read-greater
-    greater-requires
+    (λ c κs. search needs)
     add-k
     loop-less
     loop-again

@@ -15,20 +15,11 @@ abbrev μ-loop : tie.MeasureT-loop
 loop-holds : tie.Need-loop-holds Inv-loop μ-loop
 loop-holds c = (omega arith, omega arith, λ j l n. absurd (omega arith))
 
-cast-i : tie.Need-cast-i Inv-loop μ-loop
-cast-i c = search needs
-
-add-i : tie.Need-add-i Inv-loop μ-loop
-add-i c = search needs
-
 shared-slice-read-place : tie.Need-shared-slice-read-place Inv-loop μ-loop
 shared-slice-read-place c = omega arith
 
 place-requires : tie.Need-place-requires Inv-loop μ-loop
 place-requires c κs = omega arith
-
-lesser-requires : tie.Need-lesser-requires Inv-loop μ-loop
-lesser-requires c κs = search needs
 
 add-k : tie.Need-add-k Inv-loop μ-loop
 add-k c = omega arith
@@ -46,9 +37,6 @@ loop-again c =
     let b = shared-slice-known2 .shared-slice-known2 .given (a .at + v .loop .k) in
     (omega arith, omega arith, part-more (a .x) (a .s .now) (a .at) (v .loop .k) (v .loop .m) _ (c .lesser .ensures) (v .loop .inv .2) (omega arith) (place .place .ensures))
 
-cast-result : tie.Need-cast-result Inv-loop μ-loop
-cast-result c = search needs
-
 returns : tie.Need-returns Inv-loop μ-loop
 returns c =
     let a = c .before .before .before .args in
@@ -62,13 +50,13 @@ part-spec =
     Inv-loop
     μ-loop
     loop-holds
-    cast-i
-    add-i
+    (λ c. search needs)
+    (λ c. search needs)
     shared-slice-read-place
     place-requires
-    lesser-requires
+    (λ c κs. search needs)
     add-k
     loop-less
     loop-again
-    cast-result
+    (λ c. search needs)
     returns)

@@ -17,9 +17,6 @@ abbrev μ-loop : tie.MeasureT-loop
 loop-holds : tie.Need-loop-holds Inv-loop μ-loop
 loop-holds c = clear-none
 
-has-requires : tie.Need-has-requires Inv-loop μ-loop
-has-requires c κs = search needs
-
 part-requires : tie.Need-part-requires Inv-loop μ-loop
 part-requires c κs = c .before .has .ensures (c .if1 .taken)
 
@@ -48,7 +45,7 @@ past-spec =
     Inv-loop
     μ-loop
     loop-holds
-    has-requires
+    (λ c κs. search needs)
     part-requires
     add-result
     returns

@@ -24,17 +24,8 @@ returns c = clear-none
 loop-holds : tie.Need-loop-holds Inv-loop μ-loop
 loop-holds c = clear-none
 
-has-requires : tie.Need-has-requires Inv-loop μ-loop
-has-requires c κs = search needs
-
 is-ascii-requires : tie.Need-is-ascii-requires Inv-loop μ-loop
 is-ascii-requires c κs = c .before .has .ensures (c .if3 .taken)
-
-intervals-requires : tie.Need-intervals-requires Inv-loop μ-loop
-intervals-requires c κs = search needs
-
-past-requires : tie.Need-past-requires Inv-loop μ-loop
-past-requires c κs = search needs
 
 returns-2 : tie.Need-returns-2 Inv-loop μ-loop
 returns-2 c = clear-join (c .before .before .before .before .before .before .loop .inv) (clear-as (c .before .intervals .ensures) (c .past .ensures))
@@ -60,10 +51,10 @@ past-ascii-spec =
     shared-slice-read-if2
     returns
     loop-holds
-    has-requires
+    (λ c κs. search needs)
     is-ascii-requires
-    intervals-requires
-    past-requires
+    (λ c κs. search needs)
+    (λ c κs. search needs)
     returns-2
     add-i
     loop-less

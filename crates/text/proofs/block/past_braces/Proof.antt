@@ -4,14 +4,8 @@ use borrow.Author.Needs.{needs}
 use Rattle.text.proofs.block.past_braces.Statement.{statement}
 use Rattle.text.proofs.block.past_braces.Tie as tie
 
-intervals-requires : tie.Need-intervals-requires
-intervals-requires c κs = search needs
-
-past-requires : tie.Need-past-requires
-past-requires c κs = search needs
-
 returns : tie.Need-returns
 returns c = clear-as (c .before .intervals .ensures) (c .past .ensures)
 
 pub past-braces-spec : {M : Type 1} → statement M
-past-braces-spec = tie.close (tie.spec intervals-requires past-requires returns)
+past-braces-spec = tie.close (tie.spec (λ c κs. search needs) (λ c κs. search needs) returns)

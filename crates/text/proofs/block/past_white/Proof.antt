@@ -5,20 +5,11 @@ use Rattle.text.proofs.scanning.Blocks.{clear-none, clear-as}
 use Rattle.text.proofs.block.past_white.Statement.{statement}
 use Rattle.text.proofs.block.past_white.Tie as tie
 
-has-requires : tie.Need-has-requires
-has-requires c κs = search needs
-
 add-if2 : tie.Need-add-if2
 add-if2 c = omega (arith, c .before .has .ensures (c .if1 .taken))
 
 shared-slice-read-if2 : tie.Need-shared-slice-read-if2
 shared-slice-read-if2 c = omega (arith, c .before .before .has .ensures (c .before .if1 .taken))
-
-intervals-requires : tie.Need-intervals-requires
-intervals-requires c κs = search needs
-
-past-requires : tie.Need-past-requires
-past-requires c κs = search needs
 
 returns : tie.Need-returns
 returns c = clear-as (c .before .intervals .ensures) (c .past .ensures)
@@ -33,11 +24,11 @@ pub past-white-spec : {M : Type 1} → statement M
 past-white-spec =
     tie.close
     (tie.spec
-    has-requires
+    (λ c κs. search needs)
     add-if2
     shared-slice-read-if2
-    intervals-requires
-    past-requires
+    (λ c κs. search needs)
+    (λ c κs. search needs)
     returns
     returns-2
     returns-3)

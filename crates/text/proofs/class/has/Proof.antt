@@ -5,18 +5,9 @@ use Rattle.text.specs.Inner.{hasBit}
 use Rattle.text.proofs.class.has.Statement.{statement}
 use Rattle.text.proofs.class.has.Tie as tie
 
-shr-result : tie.Need-shr-result
-shr-result c = search needs
-
 returns : tie.Need-returns
 unfolding hasBit
 returns c = rw (lt-ltb _ _ (c .if1 .taken))
-
-cast-result : tie.Need-cast-result
-cast-result c = search needs
-
-shr-result-2 : tie.Need-shr-result-2
-shr-result-2 c = search needs
 
 returns-2 : tie.Need-returns-2
 unfolding hasBit
@@ -27,4 +18,4 @@ unfolding hasBit
 returns-3 c = rw (le-ltb _ _ (c .before .if1 .left), le-ltb _ _ (c .if2 .left))
 
 pub has-spec : {M : Type 1} → statement M
-has-spec = tie.close (tie.spec shr-result returns cast-result shr-result-2 returns-2 returns-3)
+has-spec = tie.close (tie.spec (λ c. search needs) returns (λ c. search needs) (λ c. search needs) returns-2 returns-3)

@@ -5,12 +5,9 @@ use Rattle.text.specs.Class.{isIdStart}
 use Rattle.text.proofs.class.is_id_start.Statement.{statement}
 use Rattle.text.proofs.class.is_id_start.Tie as tie
 
-is-id-continue-requires : tie.Need-is-id-continue-requires
-is-id-continue-requires c κs = search needs
-
 returns : tie.Need-returns
 unfolding isIdStart
 returns c = simp (or-assoc, or-false) (cc)
 
 pub is-id-start-spec : {M : Type 1} → statement M
-is-id-start-spec = tie.close (tie.spec is-id-continue-requires returns)
+is-id-start-spec = tie.close (tie.spec (λ c κs. search needs) returns)

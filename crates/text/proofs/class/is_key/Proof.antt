@@ -5,15 +5,9 @@ use Rattle.text.specs.Class.{isKey}
 use Rattle.text.proofs.class.is_key.Statement.{statement}
 use Rattle.text.proofs.class.is_key.Tie as tie
 
-is-control-requires : tie.Need-is-control-requires
-is-control-requires c κs = search needs
-
-is-whitespace-requires : tie.Need-is-whitespace-requires
-is-whitespace-requires c κs = search needs
-
 returns : tie.Need-returns
 unfolding isKey
 returns c = simp or-false (cc)
 
 pub is-key-spec : {M : Type 1} → statement M
-is-key-spec = tie.close (tie.spec is-control-requires is-whitespace-requires returns)
+is-key-spec = tie.close (tie.spec (λ c κs. search needs) (λ c κs. search needs) returns)

@@ -5,36 +5,6 @@ use Rattle.text.specs.Class.{whiteSpace, isWhitespace}
 use Rattle.text.proofs.class.is_whitespace.Statement.{statement}
 use Rattle.text.proofs.class.is_whitespace.Tie as tie
 
-is-within-requires : tie.Need-is-within-requires
-is-within-requires c κs = search needs
-
-is-within-requires-2 : tie.Need-is-within-requires-2
-is-within-requires-2 c κs = search needs
-
-is-within-requires-3 : tie.Need-is-within-requires-3
-is-within-requires-3 c κs = search needs
-
-is-within-requires-4 : tie.Need-is-within-requires-4
-is-within-requires-4 c κs = search needs
-
-is-within-requires-5 : tie.Need-is-within-requires-5
-is-within-requires-5 c κs = search needs
-
-is-within-requires-6 : tie.Need-is-within-requires-6
-is-within-requires-6 c κs = search needs
-
-is-within-requires-7 : tie.Need-is-within-requires-7
-is-within-requires-7 c κs = search needs
-
-is-within-requires-8 : tie.Need-is-within-requires-8
-is-within-requires-8 c κs = search needs
-
-is-within-requires-9 : tie.Need-is-within-requires-9
-is-within-requires-9 c κs = search needs
-
-is-within-requires-10 : tie.Need-is-within-requires-10
-is-within-requires-10 c κs = search needs
-
 returns : tie.Need-returns
 unfolding isWhitespace whiteSpace
 returns c =
@@ -55,14 +25,14 @@ pub is-whitespace-spec : {M : Type 1} → statement M
 is-whitespace-spec =
     tie.close
     (tie.spec
-    is-within-requires
-    is-within-requires-2
-    is-within-requires-3
-    is-within-requires-4
-    is-within-requires-5
-    is-within-requires-6
-    is-within-requires-7
-    is-within-requires-8
-    is-within-requires-9
-    is-within-requires-10
+    (λ c κs. search needs)
+    (λ c κs. search needs)
+    (λ c κs. search needs)
+    (λ c κs. search needs)
+    (λ c κs. search needs)
+    (λ c κs. search needs)
+    (λ c κs. search needs)
+    (λ c κs. search needs)
+    (λ c κs. search needs)
+    (λ c κs. search needs)
     returns)

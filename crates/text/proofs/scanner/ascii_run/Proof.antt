@@ -25,9 +25,6 @@ shared-slice-read-b c = omega arith
 returns : tie.Need-returns Inv-loop μ-loop
 returns c = let v = c .before .before .before .loop .inv in record { from = v .0; to = v .1; passed = v .2; stopped = λ l h. absurd (omega arith) }
 
-has-requires : tie.Need-has-requires Inv-loop μ-loop
-has-requires c κs = search needs
-
 returns-2 : tie.Need-returns-2 Inv-loop μ-loop
 returns-2 c =
     let has = c .before in
@@ -67,7 +64,7 @@ ascii-run-spec =
     loop-holds
     shared-slice-read-b
     returns
-    has-requires
+    (λ c κs. search needs)
     returns-2
     add-i
     loop-less

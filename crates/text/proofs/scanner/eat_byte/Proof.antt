@@ -7,12 +7,6 @@ use Rattle.text.proofs.scanner.eat_byte.Tie as tie
 returns : tie.Need-returns
 returns c = let a = c .before .args in single-end (a .x) (c .before .pre) (a .s .now) (a .at) (c .if1 .taken)
 
-shared-slice-read-if2 : tie.Need-shared-slice-read-if2
-shared-slice-read-if2 c = search needs
-
-add-result : tie.Need-add-result
-add-result c = search needs
-
 returns-2 : tie.Need-returns-2
 returns-2 c =
     let a = c .before .before .before .args in
@@ -30,4 +24,4 @@ returns-3 c =
 pub eat-byte-spec : {M : Type 1} → statement M
 eat-byte-spec =
     tie.close
-    (tie.spec returns shared-slice-read-if2 add-result returns-2 returns-3)
+    (tie.spec returns (λ c. search needs) (λ c. search needs) returns-2 returns-3)

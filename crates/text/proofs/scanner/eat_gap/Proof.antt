@@ -7,12 +7,6 @@ use Rattle.text.specs.Class.{isWhitespace}
 use Rattle.text.proofs.scanner.eat_gap.Statement.{statement}
 use Rattle.text.proofs.scanner.eat_gap.Tie as tie
 
-past-white-requires : tie.Need-past-white-requires
-past-white-requires c κs = search needs
-
-eat-whitespace-requires : tie.Need-eat-whitespace-requires
-eat-whitespace-requires c κs = search needs
-
 returns : tie.Need-returns
 returns c =
     let a = c .before .before .before .args in
@@ -20,4 +14,4 @@ returns c =
     ran isWhitespace (a .s .now) (a .at) (c .eat-whitespace .ensures .0 ∙ sym (gap-over (a .s .now) (past-white .ensures)))
 
 pub eat-gap-spec : {M : Type 1} → statement M
-eat-gap-spec = tie.close (tie.spec past-white-requires eat-whitespace-requires returns)
+eat-gap-spec = tie.close (tie.spec (λ c κs. search needs) (λ c κs. search needs) returns)

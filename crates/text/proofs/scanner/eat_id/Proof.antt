@@ -24,9 +24,6 @@ loop-holds c = refl
 shared-slice-read-b : tie.Need-shared-slice-read-b Inv-loop μ-loop
 shared-slice-read-b c = omega arith
 
-is-letter-requires : tie.Need-is-letter-requires Inv-loop μ-loop
-is-letter-requires c κs = search needs
-
 returns : tie.Need-returns Inv-loop μ-loop
 returns c =
     let test = c .before .before .before .before in
@@ -34,9 +31,6 @@ returns c =
     let asked = turn .before .before in
     let a = asked .args in
     ran isIdContinue (a .s .now) (a .at) (sym (turn .loop .inv ∙ id-stop (a .s .now) _ (test .loop-test .taken) (c .if2 .taken)))
-
-eat-rest-requires : tie.Need-eat-rest-requires Inv-loop μ-loop
-eat-rest-requires c κs = search needs
 
 returns-2 : tie.Need-returns-2 Inv-loop μ-loop
 unfolding holdsOf
@@ -75,9 +69,9 @@ eat-id-spec =
     μ-loop
     loop-holds
     shared-slice-read-b
-    is-letter-requires
+    (λ c κs. search needs)
     returns
-    eat-rest-requires
+    (λ c κs. search needs)
     returns-2
     add-i
     loop-less

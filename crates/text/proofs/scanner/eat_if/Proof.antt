@@ -8,23 +8,8 @@ use Rattle.text.proofs.scanner.eat_if.Tie as tie
 returns : tie.Need-returns
 returns c = let a = c .before .before .args in bit-end (a .t) (a .s .now) (a .at) (c .if1 .taken)
 
-shared-slice-read-b : tie.Need-shared-slice-read-b
-shared-slice-read-b c = search needs
-
-eat-wide-requires : tie.Need-eat-wide-requires
-eat-wide-requires c κs = search needs
-
 returns-2 : tie.Need-returns-2
 returns-2 c = let a = c .before .before .before .before .before .args in passed (holdsOf (a .t)) (a .s .now) (a .at) (c .eat-wide .ensures)
-
-ascii-requires : tie.Need-ascii-requires
-ascii-requires c κs = search needs
-
-has-requires : tie.Need-has-requires
-has-requires c κs = search needs
-
-add-result : tie.Need-add-result
-add-result c = search needs
 
 returns-3 : tie.Need-returns-3
 returns-3 c =
@@ -51,11 +36,11 @@ eat-if-spec =
     tie.close
     (tie.spec
     returns
-    shared-slice-read-b
-    eat-wide-requires
+    (λ c. search needs)
+    (λ c κs. search needs)
     returns-2
-    ascii-requires
-    has-requires
-    add-result
+    (λ c κs. search needs)
+    (λ c κs. search needs)
+    (λ c. search needs)
     returns-3
     returns-4)

@@ -31,9 +31,6 @@ returns c =
     let a = asked .args in
     ran isKey (a .s .now) (a .at) (sym (turn .loop .inv ∙ key-stop (a .s .now) _ (test .loop-test .taken) (c .if2 .taken)))
 
-eat-rest-requires : tie.Need-eat-rest-requires Inv-loop μ-loop
-eat-rest-requires c κs = search needs
-
 returns-2 : tie.Need-returns-2 Inv-loop μ-loop
 unfolding holdsOf
 returns-2 c =
@@ -70,7 +67,7 @@ eat-key-spec =
     loop-holds
     shared-slice-read-b
     returns
-    eat-rest-requires
+    (λ c κs. search needs)
     returns-2
     add-i
     loop-less

@@ -22,9 +22,6 @@ loop-holds c = letters-none
 shared-slice-read-is-letter : tie.Need-shared-slice-read-is-letter Inv-loop μ-loop
 shared-slice-read-is-letter c = omega arith
 
-is-letter-requires : tie.Need-is-letter-requires Inv-loop μ-loop
-is-letter-requires c κs = search needs
-
 returns : tie.Need-returns Inv-loop μ-loop
 returns c = c .before .before .before .before .loop .inv
 
@@ -52,7 +49,7 @@ eat-letters-spec =
     μ-loop
     loop-holds
     shared-slice-read-is-letter
-    is-letter-requires
+    (λ c κs. search needs)
     returns
     add-i
     loop-less

@@ -4,11 +4,8 @@ use Rattle.text.proofs.scanning.Blocks.{line}
 use Rattle.text.proofs.scanner.eat_line.Statement.{statement}
 use Rattle.text.proofs.scanner.eat_line.Tie as tie
 
-find-requires : tie.Need-find-requires
-find-requires c κs = search needs
-
 returns : tie.Need-returns
 returns c = let a = c .before .before .args in line (a .s .now) (a .at) (c .find .ensures)
 
 pub eat-line-spec : {M : Type 1} → statement M
-eat-line-spec = tie.close (tie.spec find-requires returns)
+eat-line-spec = tie.close (tie.spec (λ c κs. search needs) returns)

@@ -16,14 +16,8 @@ Inv-loop s at t want low high narrow i₀ i = skip (wants t want) s at ≡ skip 
 abbrev μ-loop : tie.MeasureT-loop
 μ-loop s at t want low high narrow i₀ i = length s - i
 
-ascii-requires : tie.Need-ascii-requires Inv-loop μ-loop
-ascii-requires c κs = search needs
-
 loop-holds : tie.Need-loop-holds Inv-loop μ-loop
 loop-holds c = refl
-
-ascii-run-requires : tie.Need-ascii-run-requires Inv-loop μ-loop
-ascii-run-requires c κs = search needs
 
 returns : tie.Need-returns Inv-loop μ-loop
 returns c =
@@ -90,9 +84,6 @@ loop-again c =
     let e = turn .loop .inv ∙ ran-on (a .t) (a .want) (ascii .ascii .result) (ascii .ascii .ensures) (a .s .now) (turn .loop .i) (ascii-run .ascii-run .ensures) in
     e ∙ wide-on p (λ n h. wants-on (a .t) n (a .want) (c .if4 .left) (ascii .ascii .ensures .others (if3 .if3 .taken) n h)) (a .s .now) _ (if1 .if1 .left) (if2 .if2 .left)
 
-eat-wide-requires : tie.Need-eat-wide-requires Inv-loop μ-loop
-eat-wide-requires c κs = search needs
-
 returns-4 : tie.Need-returns-4 Inv-loop μ-loop
 returns-4 c =
     let eat-wide = c .before in
@@ -142,9 +133,9 @@ eat-rest-spec =
     (tie.spec
     Inv-loop
     μ-loop
-    ascii-requires
+    (λ c κs. search needs)
     loop-holds
-    ascii-run-requires
+    (λ c κs. search needs)
     returns
     shared-slice-read-if2
     returns-2
@@ -152,7 +143,7 @@ eat-rest-spec =
     add-i
     loop-less
     loop-again
-    eat-wide-requires
+    (λ c κs. search needs)
     returns-4
     loop-less-2
     loop-again-2

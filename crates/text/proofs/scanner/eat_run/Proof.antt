@@ -6,12 +6,6 @@ use Rattle.text.proofs.scanning.Skip.{skip-end, ran-on, ran-stop, ran}
 use Rattle.text.proofs.scanner.eat_run.Statement.{statement}
 use Rattle.text.proofs.scanner.eat_run.Tie as tie
 
-ascii-requires : tie.Need-ascii-requires
-ascii-requires c κs = search needs
-
-ascii-run-requires : tie.Need-ascii-run-requires
-ascii-run-requires c κs = search needs
-
 returns : tie.Need-returns
 returns c =
     let a = c .before .before .before .before .args in
@@ -20,9 +14,6 @@ returns c =
     let p = wants (a .t) (a .want) in
     let e = ran-on (a .t) (a .want) (ascii .result) (ascii .ensures) (a .s .now) (a .at) (ascii-run .ensures) in
     ran p (a .s .now) (a .at) (sym (e ∙ skip-end p (a .s .now) _ (c .if1 .taken)))
-
-shared-slice-read-if2 : tie.Need-shared-slice-read-if2
-shared-slice-read-if2 c = search needs
 
 returns-2 : tie.Need-returns-2
 returns-2 c =
@@ -33,9 +24,6 @@ returns-2 c =
     let a = asked .args in
     ran (wants (a .t) (a .want)) (a .s .now) (a .at)
     (sym (ran-stop (a .t) (a .want) (ascii .ascii .result) (ascii .ascii .ensures) (a .s .now) (a .at) (ascii-run .ascii-run .ensures) (if1 .if1 .left) (c .if2 .taken)))
-
-eat-rest-requires : tie.Need-eat-rest-requires
-eat-rest-requires c κs = search needs
 
 returns-3 : tie.Need-returns-3
 returns-3 c =
@@ -51,10 +39,10 @@ pub eat-run-spec : {M : Type 1} → statement M
 eat-run-spec =
     tie.close
     (tie.spec
-    ascii-requires
-    ascii-run-requires
+    (λ c κs. search needs)
+    (λ c κs. search needs)
     returns
-    shared-slice-read-if2
+    (λ c. search needs)
     returns-2
-    eat-rest-requires
+    (λ c κs. search needs)
     returns-3)

@@ -12,24 +12,12 @@ returns : tie.Need-returns
 unfolding holdsOf
 returns c = let a = c .before .before .args in bit-end IdStart (a .s .now) (a .at) (c .if1 .taken)
 
-shared-slice-read-b : tie.Need-shared-slice-read-b
-shared-slice-read-b c = search needs
-
-is-letter-requires : tie.Need-is-letter-requires
-is-letter-requires c κs = search needs
-
-add-result : tie.Need-add-result
-add-result c = search needs
-
 returns-2 : tie.Need-returns-2
 returns-2 c =
     let a = c .before .before .before .before .before .args in
     let if1 = c .before .before .before .if1 in
     let is-letter = c .before .is-letter in
     letter-start (a .s .now) (a .at) (if1 .left) (sym (is-letter .ensures) ∙ c .if2 .taken)
-
-eat-if-requires : tie.Need-eat-if-requires
-eat-if-requires c κs = search needs
 
 returns-3 : tie.Need-returns-3
 unfolding holdsOf
@@ -40,9 +28,9 @@ eat-start-spec =
     tie.close
     (tie.spec
     returns
-    shared-slice-read-b
-    is-letter-requires
-    add-result
+    (λ c. search needs)
+    (λ c κs. search needs)
+    (λ c. search needs)
     returns-2
-    eat-if-requires
+    (λ c κs. search needs)
     returns-3)

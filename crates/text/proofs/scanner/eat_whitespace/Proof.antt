@@ -33,9 +33,6 @@ returns c =
     let a = asked .args in
     ran isWhitespace (a .s .now) (a .at) (sym (turn .loop .inv ∙ solid-stop (a .s .now) _ (test .loop-test .taken) (c .if2 .taken)))
 
-eat-rest-requires : tie.Need-eat-rest-requires Inv-loop μ-loop
-eat-rest-requires c κs = search needs
-
 returns-2 : tie.Need-returns-2 Inv-loop μ-loop
 unfolding holdsOf
 returns-2 c =
@@ -72,7 +69,7 @@ eat-whitespace-spec =
     loop-holds
     shared-slice-read-b
     returns
-    eat-rest-requires
+    (λ c κs. search needs)
     returns-2
     add-i
     loop-less

@@ -7,18 +7,6 @@ use Rattle.text.proofs.scanning.Seen.{past-told, past-hit, past-miss}
 use Rattle.text.proofs.scanner.eat_wide.Statement.{statement}
 use Rattle.text.proofs.scanner.eat_wide.Tie as tie
 
-peek-requires : tie.Need-peek-requires
-peek-requires c κs = search needs
-
-enum-told : tie.Need-enum-told
-enum-told c = search needs
-
-enum-known-code : tie.Need-enum-known-code
-enum-known-code c = search needs
-
-holds-requires : tie.Need-holds-requires
-holds-requires c κs = search needs
-
 returns : tie.Need-returns
 returns c =
     let holds = c .before in
@@ -48,4 +36,4 @@ returns-3 c =
 pub eat-wide-spec : {M : Type 1} → statement M
 eat-wide-spec =
     tie.close
-    (tie.spec peek-requires enum-told enum-known-code holds-requires returns returns-2 returns-3)
+    (tie.spec (λ c κs. search needs) (λ c. search needs) (λ c. search needs) (λ c κs. search needs) returns returns-2 returns-3)

@@ -4,21 +4,6 @@ use Rattle.text.proofs.general.Places.{part-clamped}
 use Rattle.text.proofs.scanner.from.Statement.{statement}
 use Rattle.text.proofs.scanner.from.Tie as tie
 
-least-requires : tie.Need-least-requires
-least-requires c κs = search needs
-
-least-requires-2 : tie.Need-least-requires-2
-least-requires-2 c κs = search needs
-
-sub-result : tie.Need-sub-result
-sub-result c = search needs
-
-part-result-start : tie.Need-part-result-start
-part-result-start c = search needs
-
-part-result-end : tie.Need-part-result-end
-part-result-end c = search needs
-
 returns : tie.Need-returns
 returns c =
     let a = c .before .before .before .before .args in
@@ -29,4 +14,4 @@ returns c =
 pub from-spec : {M : Type 1} → statement M
 from-spec =
     tie.close
-    (tie.spec least-requires least-requires-2 sub-result part-result-start part-result-end returns)
+    (tie.spec (λ c κs. search needs) (λ c κs. search needs) (λ c. search needs) (λ c. search needs) (λ c. search needs) returns)

@@ -8,20 +8,8 @@ use Rattle.text.proofs.scanner.peek.Tie as tie
 returns : tie.Need-returns
 returns c = seen-inside _ _ (sym (see-end _ _ (c .if1 .taken)))
 
-shared-slice-read-b : tie.Need-shared-slice-read-b
-shared-slice-read-b c = search needs
-
-cast-t8 : tie.Need-cast-t8
-cast-t8 c = search needs
-
-add-t9 : tie.Need-add-t9
-add-t9 c = search needs
-
 returns-2 : tie.Need-returns-2
 returns-2 c = seen-inside _ _ (sym (see-ascii _ _ (c .before .before .if1 .left) (c .if2 .taken)))
-
-peek-wide-requires : tie.Need-peek-wide-requires
-peek-wide-requires c κs = search needs
 
 returns-3 : tie.Need-returns-3
 returns-3 c = seen-inside _ _ (c .peek-wide .ensures)
@@ -29,4 +17,4 @@ returns-3 c = seen-inside _ _ (c .peek-wide .ensures)
 pub peek-spec : {M : Type 1} → statement M
 peek-spec =
     tie.close
-    (tie.spec returns shared-slice-read-b cast-t8 add-t9 returns-2 peek-wide-requires returns-3)
+    (tie.spec returns (λ c. search needs) (λ c. search needs) (λ c. search needs) returns-2 (λ c κs. search needs) returns-3)

@@ -4,21 +4,6 @@ use Rattle.text.proofs.scanning.Seen.{seen-told}
 use Rattle.text.proofs.scanner.peek_wide.Statement.{statement}
 use Rattle.text.proofs.scanner.peek_wide.Tie as tie
 
-decode-requires : tie.Need-decode-requires
-decode-requires c κs = search needs
-
-enum-told : tie.Need-enum-told
-enum-told c = search needs
-
-enum-known-code : tie.Need-enum-known-code
-enum-known-code c = search needs
-
-enum-told-2 : tie.Need-enum-told-2
-enum-told-2 c = search needs
-
-add-t7 : tie.Need-add-t7
-add-t7 c = search needs
-
 returns : tie.Need-returns
 returns c =
     let a = c .before .before .before .before .args in
@@ -42,11 +27,11 @@ pub peek-wide-spec : {M : Type 1} → statement M
 peek-wide-spec =
     tie.close
     (tie.spec
-    decode-requires
-    enum-told
-    enum-known-code
-    enum-told-2
-    add-t7
+    (λ c κs. search needs)
+    (λ c. search needs)
+    (λ c. search needs)
+    (λ c. search needs)
+    (λ c. search needs)
     returns
     returns-2
     returns-3)

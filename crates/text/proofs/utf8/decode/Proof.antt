@@ -11,9 +11,6 @@ use Rattle.text.proofs.utf8.decode.Tie as tie
 returns : tie.Need-returns
 returns c = sym (decode-end _ _ (c .if1 .taken))
 
-sequence-requires : tie.Need-sequence-requires
-sequence-requires c κs = search needs
-
 returns-2 : tie.Need-returns-2
 returns-2 c =
     let a = c .before .before .before .before .args in
@@ -23,9 +20,6 @@ returns-2 c =
 
 value-at-requires : tie.Need-value-at-requires
 value-at-requires c κs = (omega arith, omega arith, omega arith)
-
-add-t5 : tie.Need-add-t5
-add-t5 c = search needs
 
 returns-3 : tie.Need-returns-3
 returns-3 c =
@@ -38,4 +32,4 @@ returns-3 c =
 
 pub decode-spec : {M : Type 1} → statement M
 decode-spec =
-    tie.close (tie.spec returns sequence-requires returns-2 value-at-requires add-t5 returns-3)
+    tie.close (tie.spec returns (λ c κs. search needs) returns-2 value-at-requires (λ c. search needs) returns-3)

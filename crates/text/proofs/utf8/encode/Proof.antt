@@ -8,9 +8,6 @@ use Rattle.text.proofs.sequences.EncodeWays.{encode-not, short-one, enc
 use Rattle.text.proofs.utf8.encode.Statement.{statement}
 use Rattle.text.proofs.utf8.encode.Tie as tie
 
-is-scalar-requires : tie.Need-is-scalar-requires
-is-scalar-requires c κs = search needs
-
 returns : tie.Need-returns
 returns c =
     let a = c .before .before .before .args in
@@ -24,15 +21,6 @@ returns-2 c =
     let if1 = c .before .before .if1 in
     let if2 = c .before .if2 in
     short-one (a .c) (a .out .now) (sym (is-scalar .ensures) ∙ not-false _ (if1 .left)) (if2 .taken) (c .if3 .taken)
-
-cast-out : tie.Need-cast-out
-cast-out c = search needs
-
-slice-write-out : tie.Need-slice-write-out
-slice-write-out c = search needs
-
-same-length : tie.Need-same-length
-same-length c = search needs
 
 returns-3 : tie.Need-returns-3
 returns-3 c =
@@ -51,24 +39,6 @@ returns-4 c =
     let asked = is-scalar .before .before in
     let a = asked .args in
     short-two (a .c) (a .out .now) (sym (is-scalar .is-scalar .ensures) ∙ not-false _ (if1 .if1 .left)) (if2 .if2 .left) (if4 .if4 .taken) (c .if5 .taken)
-
-add-out : tie.Need-add-out
-add-out c = search needs
-
-cast-out-2 : tie.Need-cast-out-2
-cast-out-2 c = search needs
-
-slice-write-out-2 : tie.Need-slice-write-out-2
-slice-write-out-2 c = search needs
-
-further-of-requires : tie.Need-further-of-requires
-further-of-requires c κs = search needs
-
-slice-write-out-3 : tie.Need-slice-write-out-3
-slice-write-out-3 c = search needs
-
-same-length-2 : tie.Need-same-length-2
-same-length-2 c = search needs
 
 returns-5 : tie.Need-returns-5
 returns-5 c =
@@ -92,29 +62,8 @@ returns-6 c =
     let a = asked .args in
     short-three (a .c) (a .out .now) (sym (is-scalar .is-scalar .ensures) ∙ not-false _ (if1 .if1 .left)) (if4 .if4 .left) (if6 .if6 .taken) (c .if7 .taken)
 
-add-out-2 : tie.Need-add-out-2
-add-out-2 c = search needs
-
-cast-out-3 : tie.Need-cast-out-3
-cast-out-3 c = search needs
-
-slice-write-out-4 : tie.Need-slice-write-out-4
-slice-write-out-4 c = search needs
-
-further-of-requires-2 : tie.Need-further-of-requires-2
-further-of-requires-2 c κs = search needs
-
 slice-write-out-5 : tie.Need-slice-write-out-5
 slice-write-out-5 c = simp length-set (omega arith)
-
-further-of-requires-3 : tie.Need-further-of-requires-3
-further-of-requires-3 c κs = search needs
-
-slice-write-out-6 : tie.Need-slice-write-out-6
-slice-write-out-6 c = search needs
-
-same-length-3 : tie.Need-same-length-3
-same-length-3 c = search needs
 
 returns-7 : tie.Need-returns-7
 returns-7 c =
@@ -139,9 +88,6 @@ returns-8 c =
     let a = asked .args in
     short-four (a .c) (a .out .now) (sym (is-scalar .is-scalar .ensures) ∙ not-false _ (if1 .if1 .left)) (if6 .if6 .left) (c .if8 .taken)
 
-add-out-3 : tie.Need-add-out-3
-add-out-3 c = search needs
-
 cast-out-4 : tie.Need-cast-out-4
 cast-out-4 c =
     let if1 = c .before .before .before .before in
@@ -151,29 +97,11 @@ cast-out-4 c =
     let h = scalar-high (a .c) (sym (is-scalar .is-scalar .ensures) ∙ not-false _ (if1 .if1 .left)) in
     omega arith
 
-slice-write-out-7 : tie.Need-slice-write-out-7
-slice-write-out-7 c = search needs
-
-further-of-requires-4 : tie.Need-further-of-requires-4
-further-of-requires-4 c κs = search needs
-
 slice-write-out-8 : tie.Need-slice-write-out-8
 slice-write-out-8 c = simp length-set (omega arith)
 
-further-of-requires-5 : tie.Need-further-of-requires-5
-further-of-requires-5 c κs = search needs
-
 slice-write-out-9 : tie.Need-slice-write-out-9
 slice-write-out-9 c = simp length-set (omega arith)
-
-further-of-requires-6 : tie.Need-further-of-requires-6
-further-of-requires-6 c κs = search needs
-
-slice-write-out-10 : tie.Need-slice-write-out-10
-slice-write-out-10 c = search needs
-
-same-length-4 : tie.Need-same-length-4
-same-length-4 c = search needs
 
 returns-9 : tie.Need-returns-9
 returns-9 c =
@@ -192,40 +120,40 @@ pub encode-spec : {M : Type 1} → statement M
 encode-spec =
     tie.close
     (tie.spec
-    is-scalar-requires
+    (λ c κs. search needs)
     returns
     returns-2
-    cast-out
-    slice-write-out
-    same-length
+    (λ c. search needs)
+    (λ c. search needs)
+    (λ c. search needs)
     returns-3
     returns-4
-    add-out
-    cast-out-2
-    slice-write-out-2
-    further-of-requires
-    slice-write-out-3
-    same-length-2
+    (λ c. search needs)
+    (λ c. search needs)
+    (λ c. search needs)
+    (λ c κs. search needs)
+    (λ c. search needs)
+    (λ c. search needs)
     returns-5
     returns-6
-    add-out-2
-    cast-out-3
-    slice-write-out-4
-    further-of-requires-2
+    (λ c. search needs)
+    (λ c. search needs)
+    (λ c. search needs)
+    (λ c κs. search needs)
     slice-write-out-5
-    further-of-requires-3
-    slice-write-out-6
-    same-length-3
+    (λ c κs. search needs)
+    (λ c. search needs)
+    (λ c. search needs)
     returns-7
     returns-8
-    add-out-3
+    (λ c. search needs)
     cast-out-4
-    slice-write-out-7
-    further-of-requires-4
+    (λ c. search needs)
+    (λ c κs. search needs)
     slice-write-out-8
-    further-of-requires-5
+    (λ c κs. search needs)
     slice-write-out-9
-    further-of-requires-6
-    slice-write-out-10
-    same-length-4
+    (λ c κs. search needs)
+    (λ c. search needs)
+    (λ c. search needs)
     returns-9)

@@ -4,12 +4,6 @@ use Rattle.text.proofs.general.Places.{boundary-in, boundary-out}
 use Rattle.text.proofs.utf8.is_boundary.Statement.{statement}
 use Rattle.text.proofs.utf8.is_boundary.Tie as tie
 
-shared-slice-read-is-tail : tie.Need-shared-slice-read-is-tail
-shared-slice-read-is-tail c = search needs
-
-is-tail-requires : tie.Need-is-tail-requires
-is-tail-requires c κs = search needs
-
 returns : tie.Need-returns
 returns c =
     let a = c .before .before .before .before .args in
@@ -21,4 +15,4 @@ returns-2 c = let a = c .before .before .args in boundary-out (a .s .now) (a .n)
 
 pub is-boundary-spec : {M : Type 1} → statement M
 is-boundary-spec =
-    tie.close (tie.spec shared-slice-read-is-tail is-tail-requires returns returns-2)
+    tie.close (tie.spec (λ c. search needs) (λ c κs. search needs) returns returns-2)

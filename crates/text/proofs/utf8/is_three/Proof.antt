@@ -11,35 +11,8 @@ use Rattle.text.proofs.general.Tests.{both-true}
 use Rattle.text.proofs.utf8.is_three.Statement.{statement}
 use Rattle.text.proofs.utf8.is_three.Tie as tie
 
-sub-if1 : tie.Need-sub-if1
-sub-if1 c = search needs
-
 returns : tie.Need-returns
 returns c = λ e. let z : _≡_ {A = ℕ} 0 1 = cc in absurd (omega arith)
-
-shared-slice-read-result : tie.Need-shared-slice-read-result
-shared-slice-read-result c = search needs
-
-shared-slice-read-result-2 : tie.Need-shared-slice-read-result-2
-shared-slice-read-result-2 c = search needs
-
-add-is-tail : tie.Need-add-is-tail
-add-is-tail c = search needs
-
-shared-slice-read-is-tail : tie.Need-shared-slice-read-is-tail
-shared-slice-read-is-tail c = search needs
-
-is-tail-requires : tie.Need-is-tail-requires
-is-tail-requires c κs = search needs
-
-add-is-tail-2 : tie.Need-add-is-tail-2
-add-is-tail-2 c = search needs
-
-shared-slice-read-is-tail-2 : tie.Need-shared-slice-read-is-tail-2
-shared-slice-read-is-tail-2 c = search needs
-
-is-tail-requires-2 : tie.Need-is-tail-requires-2
-is-tail-requires-2 c κs = search needs
 
 returns-2 : tie.Need-returns-2
 returns-2 c =
@@ -52,14 +25,14 @@ pub is-three-spec : {M : Type 1} → statement M
 is-three-spec =
     tie.close
     (tie.spec
-    sub-if1
+    (λ c. search needs)
     returns
-    shared-slice-read-result
-    shared-slice-read-result-2
-    add-is-tail
-    shared-slice-read-is-tail
-    is-tail-requires
-    add-is-tail-2
-    shared-slice-read-is-tail-2
-    is-tail-requires-2
+    (λ c. search needs)
+    (λ c. search needs)
+    (λ c. search needs)
+    (λ c. search needs)
+    (λ c κs. search needs)
+    (λ c. search needs)
+    (λ c. search needs)
+    (λ c κs. search needs)
     returns-2)

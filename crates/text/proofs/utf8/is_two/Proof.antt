@@ -11,26 +11,8 @@ use Rattle.text.proofs.general.Tests.{both-true}
 use Rattle.text.proofs.utf8.is_two.Statement.{statement}
 use Rattle.text.proofs.utf8.is_two.Tie as tie
 
-sub-if1 : tie.Need-sub-if1
-sub-if1 c = search needs
-
 returns : tie.Need-returns
 returns c = λ e. let z : _≡_ {A = ℕ} 0 1 = cc in absurd (omega arith)
-
-shared-slice-read-result : tie.Need-shared-slice-read-result
-shared-slice-read-result c = search needs
-
-shared-slice-read-result-2 : tie.Need-shared-slice-read-result-2
-shared-slice-read-result-2 c = search needs
-
-add-is-tail : tie.Need-add-is-tail
-add-is-tail c = search needs
-
-shared-slice-read-is-tail : tie.Need-shared-slice-read-is-tail
-shared-slice-read-is-tail c = search needs
-
-is-tail-requires : tie.Need-is-tail-requires
-is-tail-requires c κs = search needs
 
 returns-2 : tie.Need-returns-2
 returns-2 c = λ e.
@@ -42,11 +24,11 @@ pub is-two-spec : {M : Type 1} → statement M
 is-two-spec =
     tie.close
     (tie.spec
-    sub-if1
+    (λ c. search needs)
     returns
-    shared-slice-read-result
-    shared-slice-read-result-2
-    add-is-tail
-    shared-slice-read-is-tail
-    is-tail-requires
+    (λ c. search needs)
+    (λ c. search needs)
+    (λ c. search needs)
+    (λ c. search needs)
+    (λ c κs. search needs)
     returns-2)

@@ -9,9 +9,6 @@ use Rattle.text.proofs.utf8.sequence.Tie as tie
 returns : tie.Need-returns
 returns c = let a = c .before .before .args in (sym (width-end (a .s .now) (a .at) (c .if1 .taken)), omega arith, omega arith)
 
-shared-slice-read-a : tie.Need-shared-slice-read-a
-shared-slice-read-a c = search needs
-
 returns-2 : tie.Need-returns-2
 returns-2 c =
     let a = c .before .before .before .before .args in
@@ -28,12 +25,6 @@ returns-3 c =
     let if2 = c .before .if2 in
     let g = shared-slice-known2 .given (a .at) in
     (sym (width-none (a .s .now) (a .at) (if1 .left) (omega arith) (if2 .left) (c .if3 .taken)), omega arith, omega arith)
-
-sequence-length-requires : tie.Need-sequence-length-requires
-sequence-length-requires c κs = search needs
-
-sub-if4 : tie.Need-sub-if4
-sub-if4 c = search needs
 
 returns-4 : tie.Need-returns-4
 returns-4 c =
@@ -105,11 +96,11 @@ sequence-spec =
     tie.close
     (tie.spec
     returns
-    shared-slice-read-a
+    (λ c. search needs)
     returns-2
     returns-3
-    sequence-length-requires
-    sub-if4
+    (λ c κs. search needs)
+    (λ c. search needs)
     returns-4
     goes-on-requires
     returns-5

@@ -28,9 +28,6 @@ shared-slice-read-if1 c = omega arith
 add-past-ascii : tie.Need-add-past-ascii Inv-loop μ-loop
 add-past-ascii c = omega arith
 
-past-ascii-requires : tie.Need-past-ascii-requires Inv-loop μ-loop
-past-ascii-requires c κs = search needs
-
 loop-less : tie.Need-loop-less Inv-loop μ-loop
 loop-less c = omega (arith, c .past-ascii .ensures .from)
 
@@ -40,9 +37,6 @@ loop-again c =
     let h = c .before .before .before .loop-test .taken in
     let x = c .past-ascii .ensures in
     (omega (arith, x .from, x .to), v .inv .1 ∙ valid-ascii (λ n. Valid) _ (v .at) h (c .before .if1 .taken) x)
-
-is-two-requires : tie.Need-is-two-requires Inv-loop μ-loop
-is-two-requires c κs = search needs
 
 add-at : tie.Need-add-at Inv-loop μ-loop
 add-at c = omega (arith, c .before .is-two .ensures (c .if2 .taken) .1)
@@ -56,9 +50,6 @@ loop-again-2 c =
     let x = c .before .is-two .ensures (c .if2 .taken) in
     (x .1, v .inv .1 ∙ valid-on (λ n. Valid) _ (v .at) 2 (sym (x .0)) (λ z. omega arith) (x .1))
 
-is-three-requires : tie.Need-is-three-requires Inv-loop μ-loop
-is-three-requires c κs = search needs
-
 add-at-2 : tie.Need-add-at-2 Inv-loop μ-loop
 add-at-2 c = omega (arith, c .before .is-three .ensures (c .if3 .taken) .1)
 
@@ -70,9 +61,6 @@ loop-again-3 c =
     let v = c .before .before .before .before .before .before .before .loop in
     let x = c .before .is-three .ensures (c .if3 .taken) in
     (x .1, v .inv .1 ∙ valid-on (λ n. Valid) _ (v .at) 3 (sym (x .0)) (λ z. omega arith) (x .1))
-
-sequence-requires : tie.Need-sequence-requires Inv-loop μ-loop
-sequence-requires c κs = search needs
 
 returns : tie.Need-returns Inv-loop μ-loop
 returns c =
@@ -109,18 +97,18 @@ validate-spec =
     loop-holds
     shared-slice-read-if1
     add-past-ascii
-    past-ascii-requires
+    (λ c κs. search needs)
     loop-less
     loop-again
-    is-two-requires
+    (λ c κs. search needs)
     add-at
     loop-less-2
     loop-again-2
-    is-three-requires
+    (λ c κs. search needs)
     add-at-2
     loop-less-3
     loop-again-3
-    sequence-requires
+    (λ c κs. search needs)
     returns
     add-at-3
     loop-less-4

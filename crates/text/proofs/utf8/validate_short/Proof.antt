@@ -22,9 +22,6 @@ loop-holds : tie.Need-loop-holds Inv-loop μ-loop
 unfolding validityOf
 loop-holds c = (omega arith, refl)
 
-sequence-requires : tie.Need-sequence-requires Inv-loop μ-loop
-sequence-requires c κs = search needs
-
 returns : tie.Need-returns Inv-loop μ-loop
 returns c =
     let turn = c .before .before .before .loop in
@@ -57,7 +54,7 @@ validate-short-spec =
     Inv-loop
     μ-loop
     loop-holds
-    sequence-requires
+    (λ c κs. search needs)
     returns
     add-at
     loop-less
