@@ -1,8 +1,8 @@
-pub mod Parts
-pub mod Stacks
-pub mod Tests
-pub mod Rows
-pub mod Combining
-pub mod Executing
-pub mod Settling
+-- The laws and proofs of `command`, lowest first. The proof of a function is MODULE/FUNCTION/Proof.antt.
+
+-- text under construction
+pub mod stacks
+-- the ways through each function
+pub mod ways
+-- any two outcomes that a contract allows are the same
 pub mod Unique

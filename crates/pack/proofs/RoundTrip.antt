@@ -19,7 +19,7 @@ use Rattle.pack.specs.Pack.{isPackable, bytesFor, Pack}
 use Rattle.pack.specs.Unpack.{isUnpackable, Unpack}
 use Rattle.pack.specs.RoundTrip.{edgeRows, edgeBytes, RoundTrip}
 use Rattle.pack.proofs.bytes.SevenBytes.{unpacking-length}
-use Rattle.pack.proofs.bytes.Accepted.{packable, packable-seven, unpackable, ends-of-spans, spans-of-ends, flat-packable}
+use Rattle.pack.proofs.bytes.AcceptedInput.{packable, packable-seven, unpackable, ends-of-spans, spans-of-ends, flat-packable}
 use Rattle.pack.proofs.bytes.Inverse.{packs-back, packing-length, unpacks-back}
 use Rattle.pack.proofs.contracts.KnownAnswers.{pack-told, pack-gives, unpack-told, unpack-gives}
 use Rattle.pack.proofs.contracts.StrictPacks.{fitting, strictly, readings}

@@ -5,6 +5,6 @@ pub mod Digits
 -- bytes taken as rows, seven to a row
 pub mod SevenBytes
 -- what packable numbers and unpackable bytes are
-pub mod Accepted
+pub mod AcceptedInput
 -- packing and unpacking undo each other
 pub mod Inverse

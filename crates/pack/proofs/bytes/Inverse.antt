@@ -12,7 +12,7 @@ use Rattle.row.specs.Limits.{mostBytes}
 use Rattle.pack.specs.Digits.{digits, AllBelow, Bytes, threeBytes, ofBytes}
 use Rattle.pack.specs.Seven.{packRow, packing, unpackRow, unpacking, InSeven}
 use Rattle.pack.proofs.bytes.Digits.{of-digits, digits-of}
-use Rattle.pack.proofs.bytes.Accepted.{AllInSeven}
+use Rattle.pack.proofs.bytes.AcceptedInput.{AllInSeven}
 
 -- ---- rows, through bytes
 

@@ -23,7 +23,7 @@ use Rattle.row.proofs.Laid.{laid}
 use Rattle.row.specs.declared.fault.Outcome.{Outcome}
 use Rattle.row.specs.declared.fault.Outcome.the-variants.{Count}
 use Rattle.pack.specs.Pack.{isPackable, bytesFor, Pack}
-use Rattle.pack.proofs.bytes.Accepted.{spans-fit, flat-packable}
+use Rattle.pack.proofs.bytes.AcceptedInput.{spans-fit, flat-packable}
 use Rattle.pack.proofs.contracts.KnownAnswers.{pack-gives}
 
 pub fitting : (n : ℕ) (rs : List Row) → n ≤ mostBytes → isRows rs ≡ true → SpansIn n rs → isPackable (flat rs) ≡ true

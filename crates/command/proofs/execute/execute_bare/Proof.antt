@@ -7,11 +7,11 @@ use mathlib.Core.List.{List, [], append-nil}
 use lib.ListN.{length}
 use Rattle.text.specs.Utf8.{octets, isScalar}
 use Rattle.text.specs.Scan.{part}
-use Rattle.command.proofs.Stacks.{lays-none, octets-three, octets-two}
+use Rattle.command.proofs.stacks.LaysLaws.{lays-none, octets-three, octets-two}
 use Rattle.command.specs.declared.meaning.Meaning.the-variants.{Itself, Letter, Accent, Slash, Copyright, Hyphenation, Unknown}
 use Rattle.command.specs.Execute.{Sane}
-use Rattle.command.proofs.Combining as edit
-use Rattle.command.proofs.Executing as laws
+use Rattle.command.proofs.ways.LastCharacterWays as edit
+use Rattle.command.proofs.ways.ExecuteWays as laws
 use Rattle.command.proofs.execute.execute_bare.Statement.{statement}
 use Rattle.command.proofs.execute.execute_bare.Tie as tie
 use Rattle.command.proofs.execute.execute_bare.Reads as reads

@@ -7,8 +7,8 @@ use borrow.Author.Needs.{needs}
 use Rattle.text.specs.Scan.{part}
 use Rattle.text.specs.Utf8.{isScalar}
 use Rattle.command.specs.declared.meaning.Meaning.the-variants as meaning
-use Rattle.command.proofs.Stacks.{lays-none, octets-two}
-use Rattle.command.proofs.Executing.{leads, leads-unknown}
+use Rattle.command.proofs.stacks.LaysLaws.{lays-none, octets-two}
+use Rattle.command.proofs.ways.ExecuteWays.{leads, leads-unknown}
 use Rattle.command.proofs.execute.execute_before.Statement.{statement}
 use Rattle.command.proofs.execute.execute_before.Tie as tie
 

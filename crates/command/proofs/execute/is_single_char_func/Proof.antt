@@ -1,5 +1,5 @@
 -- `command::execute::is_single_char_func` meets its contract. Assumes nothing.
-use Rattle.command.proofs.Tests.{singles}
+use Rattle.command.proofs.ways.SingleCharTests.{singles}
 use Rattle.command.specs.Commands.{isSingleCharFunc}
 use Rattle.command.proofs.execute.is_single_char_func.Statement.{statement}
 use Rattle.command.proofs.execute.is_single_char_func.Tie as tie

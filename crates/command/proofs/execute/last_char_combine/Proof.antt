@@ -10,9 +10,9 @@ use Rattle.text.specs.Utf8.{octets}
 use Rattle.command.specs.Stack.{Lays}
 use Rattle.compose.specs.Lookup.{numbers}
 use Rattle.compose.specs.Composites.{composites}
-use Rattle.command.proofs.Stacks.{lays-as, octets-two}
+use Rattle.command.proofs.stacks.LaysLaws.{lays-as, octets-two}
 use Rattle.chunk.proofs.texts.LastCharacter.{last-less}
-use Rattle.command.proofs.Combining as laws
+use Rattle.command.proofs.ways.LastCharacterWays as laws
 use Rattle.command.proofs.execute.last_char_combine.Statement.{statement}
 use Rattle.command.proofs.execute.last_char_combine.Tie as tie
 use Rattle.command.proofs.execute.last_char_combine.Reads as reads

@@ -5,7 +5,7 @@ use borrow.Author.Needs.{needs}
 use mathlib.Core.Path.{_≡_, sym, _∙_}
 use Rattle.text.specs.Scan.{part}
 use Rattle.command.specs.Commands.{same}
-use Rattle.command.proofs.Rows as laws
+use Rattle.command.proofs.ways.MeaningRows as laws
 use Rattle.command.proofs.meaning.matches.Statement.{statement}
 use Rattle.command.proofs.meaning.matches.Tie as tie
 use Rattle.command.proofs.meaning.matches.Reads as reads

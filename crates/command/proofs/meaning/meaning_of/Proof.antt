@@ -6,7 +6,7 @@ use mathlib.Core.Path.{_≡_, refl, sym, ap, _∙_}
 use lib.ListN.{length, getD}
 use Rattle.text.specs.Scan.{part}
 use Rattle.command.specs.Commands.{same, meaningOf}
-use Rattle.command.proofs.Rows as laws
+use Rattle.command.proofs.ways.MeaningRows as laws
 use Rattle.command.proofs.meaning.meaning_of.Statement.{statement}
 use Rattle.command.proofs.meaning.meaning_of.Tie as tie
 use Rattle.command.proofs.meaning.meaning_of.Reads as reads

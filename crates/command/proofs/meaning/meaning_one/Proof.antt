@@ -4,7 +4,7 @@ use borrow.Author.Tests.{ne-eqb}
 use Rattle.text.specs.Utf8.{octets}
 use Rattle.chunk.specs.Worked.{utf8}
 use Rattle.command.specs.Commands.{commands, meaningIn, same}
-use Rattle.command.proofs.Rows as laws
+use Rattle.command.proofs.ways.MeaningRows as laws
 use Rattle.command.proofs.meaning.meaning_one.Statement.{statement}
 use Rattle.command.proofs.meaning.meaning_one.Tie as tie
 use Rattle.command.proofs.meaning.meaning_one.Reads as reads

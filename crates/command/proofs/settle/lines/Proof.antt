@@ -8,7 +8,7 @@ use mathlib.Core.List.{List}
 use lib.ListN.{length, getD, take, drop}
 use Rattle.text.specs.Scan.{part}
 use Rattle.chunk.specs.Inner.{stops}
-use Rattle.command.proofs.Settling as laws
+use Rattle.command.proofs.ways.SettleWays as laws
 use Rattle.command.proofs.settle.lines.Statement.{statement}
 use Rattle.command.proofs.settle.lines.Tie as tie
 use Rattle.command.proofs.settle.lines.Reads as reads

@@ -6,8 +6,8 @@ use mathlib.Core.Path.{_≡_, refl, sym, ap, subst, _∙_}
 use mathlib.Core.List.{List}
 use Rattle.text.specs.Scan.{part}
 use Rattle.chunk.specs.Format.{Written}
-use Rattle.command.proofs.Stacks.{lays-as, lays-still}
-use Rattle.command.proofs.Settling as laws
+use Rattle.command.proofs.stacks.LaysLaws.{lays-as, lays-still}
+use Rattle.command.proofs.ways.SettleWays as laws
 use Rattle.command.proofs.settle.settle.Statement.{statement}
 use Rattle.command.proofs.settle.settle.Tie as tie
 use Rattle.command.proofs.settle.settle.Reads as reads

@@ -7,7 +7,7 @@ use mathlib.Core.Bool.{true, false}
 use mathlib.Core.List.{List}
 use lib.ListN.{length, getD, take, drop}
 use Rattle.text.specs.Scan.{part}
-use Rattle.command.proofs.Settling as laws
+use Rattle.command.proofs.ways.SettleWays as laws
 use Rattle.command.proofs.settle.shift.Statement.{statement}
 use Rattle.command.proofs.settle.shift.Tie as tie
 use Rattle.command.proofs.settle.shift.Reads as reads

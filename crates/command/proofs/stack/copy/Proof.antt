@@ -7,7 +7,7 @@ use mathlib.Core.List.{List, _++_, append-nil}
 use lib.ListN.{length, take, replicate, length-set}
 use Rattle.text.specs.Scan.{part}
 use Rattle.text.proofs.general.Parts.{part-none}
-use Rattle.command.proofs.Stacks as laws
+use Rattle.command.proofs.stacks.LaysLaws as laws
 use Rattle.command.proofs.stack.copy.Statement.{statement}
 use Rattle.command.proofs.stack.copy.Tie as tie
 use Rattle.command.proofs.stack.copy.Reads as reads

@@ -1,6 +1,6 @@
 -- `command::stack::push` meets its contract. Assumes nothing.
 use mathlib.Core.Path.{refl}
-use Rattle.command.proofs.Stacks as laws
+use Rattle.command.proofs.stacks.LaysLaws as laws
 use borrow.Author.Needs.{needs}
 use Rattle.command.proofs.stack.push.Statement.{statement}
 use Rattle.command.proofs.stack.push.Tie as tie

@@ -4,7 +4,7 @@ use native.Mathlib.Omega.{arith}
 use mathlib.Core.Path.{_≡_, refl, sym, ap, _∙_}
 use mathlib.Core.List.{List, _++_}
 use lib.ListN.{length, take, drop}
-use Rattle.command.proofs.Stacks as laws
+use Rattle.command.proofs.stacks.LaysLaws as laws
 use borrow.Author.Needs.{needs}
 use Rattle.command.proofs.stack.put_code.Statement.{statement}
 use Rattle.command.proofs.stack.put_code.Tie as tie

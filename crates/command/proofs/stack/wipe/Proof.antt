@@ -6,7 +6,7 @@ use mathlib.Core.Path.{_≡_, refl, sym, ap, _∙_}
 use mathlib.Core.List.{List, _++_, append-nil}
 use lib.ListN.{length, take, replicate, length-set}
 use Rattle.text.specs.Scan.{part}
-use Rattle.command.proofs.Stacks as laws
+use Rattle.command.proofs.stacks.LaysLaws as laws
 use Rattle.command.proofs.stack.wipe.Statement.{statement}
 use Rattle.command.proofs.stack.wipe.Tie as tie
 use Rattle.command.proofs.stack.wipe.Reads as reads

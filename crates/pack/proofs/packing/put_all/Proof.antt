@@ -6,7 +6,7 @@ use lib.ListN.{length, drop}
 use borrow.Author.Needs.{needs}
 use Rattle.row.specs.Numbers.{rowsOf}
 use Rattle.pack.proofs.loops.ListWriting.{at-first}
-use Rattle.pack.proofs.bytes.Accepted.{packable, AllInSeven, packable-seven, seven-next}
+use Rattle.pack.proofs.bytes.AcceptedInput.{packable, AllInSeven, packable-seven, seven-next}
 use Rattle.pack.proofs.loops.RowWriting.{Packing, pack-turn, pack-end}
 use Rattle.pack.proofs.packing.put_all.Statement.{statement}
 use Rattle.pack.proofs.packing.put_all.Tie as tie

@@ -7,18 +7,6 @@ use Rattle.raw.proofs.ways.EntryWays.{preamble-off, preamble-on}
 use Rattle.raw.proofs.entry.preamble.Statement.{statement}
 use Rattle.raw.proofs.entry.preamble.Tie as tie
 
-string-requires : tie.Need-string-requires
-string-requires c κs = search needs
-
-enum-known-r1 : tie.Need-enum-known-r1
-enum-known-r1 c = search needs
-
-enum-told : tie.Need-enum-told
-enum-told c = search needs
-
-refused-requires : tie.Need-refused-requires
-refused-requires c κs = search needs
-
 returns : tie.Need-returns
 returns c =
     let enum-told = c .before in
@@ -26,9 +14,6 @@ returns c =
     let asked = string .before .before .before in
     let a = asked .args in
     preamble-off (a .s .now) (a .at) (string .string .ensures .0) (enum-told .enum-told .given .1) (c .refused .ensures)
-
-add-put-row : tie.Need-add-put-row
-add-put-row c = search needs
 
 add-put-row-2 : tie.Need-add-put-row-2
 add-put-row-2 c =
@@ -48,12 +33,6 @@ put-row-requires c κs =
     let k = step-place (length (a .s .now)) 2 (a .at) (r1 .r1 .given .1) (string .string .ensures .1) (asked .pre .place) in
     (omega arith, omega arith)
 
-add-t12 : tie.Need-add-t12
-add-t12 c = search needs
-
-same-length : tie.Need-same-length
-same-length c = search needs
-
 returns-2 : tie.Need-returns-2
 returns-2 c =
     let put-row = c .before .before in
@@ -67,14 +46,14 @@ pub preamble-spec : {M : Type 1} → statement M
 preamble-spec =
     tie.close
     (tie.spec
-    string-requires
-    enum-known-r1
-    enum-told
-    refused-requires
+    (λ c κs. search needs)
+    (λ c. search needs)
+    (λ c. search needs)
+    (λ c κs. search needs)
     returns
-    add-put-row
+    (λ c. search needs)
     add-put-row-2
     put-row-requires
-    add-t12
-    same-length
+    (λ c. search needs)
+    (λ c. search needs)
     returns-2)

@@ -9,18 +9,6 @@ use Rattle.raw.proofs.ways.FieldWays.{name-off, equals-off, value-off, 
 use Rattle.raw.proofs.field.field.Statement.{statement}
 use Rattle.raw.proofs.field.field.Tie as tie
 
-name-requires : tie.Need-name-requires
-name-requires c κs = search needs
-
-enum-known-r1 : tie.Need-enum-known-r1
-enum-known-r1 c = search needs
-
-enum-told : tie.Need-enum-told
-enum-told c = search needs
-
-refused-requires : tie.Need-refused-requires
-refused-requires c κs = search needs
-
 returns : tie.Need-returns
 returns c =
     let enum-told = c .before in
@@ -29,21 +17,6 @@ returns c =
     let a = asked .args in
     off-step (length (a .s .now)) 3 (a .at) (name-off (a .kind) (a .s .now) (a .at) (name .name .ensures .0) (enum-told .enum-told .given .1)) (enum-told .enum-told .given .1)
     (c .refused .ensures)
-
-eat-whitespace-requires : tie.Need-eat-whitespace-requires
-eat-whitespace-requires c κs = search needs
-
-equals-requires : tie.Need-equals-requires
-equals-requires c κs = search needs
-
-enum-known-r3 : tie.Need-enum-known-r3
-enum-known-r3 c = search needs
-
-enum-told-2 : tie.Need-enum-told-2
-enum-told-2 c = search needs
-
-refused-requires-2 : tie.Need-refused-requires-2
-refused-requires-2 c κs = search needs
 
 returns-2 : tie.Need-returns-2
 returns-2 c =
@@ -57,12 +30,6 @@ returns-2 c =
     off-step (length (a .s .now)) 3 (a .at)
     (equals-off (a .kind) (a .s .now) (a .at) (name .name .ensures .0) (r1 .r1 .given .1) (eat-whitespace .eat-whitespace .ensures .0) (equals .equals .ensures .0)
     (enum-told2 .enum-told2 .given .1)) (enum-told2 .enum-told2 .given .1) (c .refused2 .ensures)
-
-eat-whitespace-requires-2 : tie.Need-eat-whitespace-requires-2
-eat-whitespace-requires-2 c κs = search needs
-
-add-put-row : tie.Need-add-put-row
-add-put-row c = search needs
 
 add-put-row-2 : tie.Need-add-put-row-2
 add-put-row-2 c =
@@ -92,9 +59,6 @@ put-row-requires c κs =
     let l = step-place len 1 _ (r3 .r3 .given .1) (equals .equals .ensures .1) (omega (arith, k .1, eat-whitespace .eat-whitespace .ensures .1 .to)) in
     (omega (arith, asked .pre .file, asked .pre .place), omega (arith, asked .pre .file))
 
-add-abbr-field : tie.Need-add-abbr-field
-add-abbr-field c = search needs
-
 abbr-field-requires : tie.Need-abbr-field-requires
 abbr-field-requires c κs =
     let eat-whitespace2 = c .before .before .before .before .before in
@@ -109,15 +73,6 @@ abbr-field-requires c κs =
     let k = step-place len 1 (a .at) (r1 .r1 .given .1) (name .name .ensures .1) (asked .pre .place) in
     let l = step-place len 1 _ (r3 .r3 .given .1) (equals .equals .ensures .1) (omega (arith, k .1, eat-whitespace .eat-whitespace .ensures .1 .to)) in
     ready-later _ (a .n + 1 + 1) (asked .pre) (omega arith) (omega (arith, eat-whitespace2 .eat-whitespace2 .ensures .1 .to)) (omega arith)
-
-enum-known-r5 : tie.Need-enum-known-r5
-enum-known-r5 c = search needs
-
-enum-told-3 : tie.Need-enum-told-3
-enum-told-3 c = search needs
-
-same-length : tie.Need-same-length
-same-length c = search needs
 
 returns-3 : tie.Need-returns-3
 returns-3 c =
@@ -136,15 +91,6 @@ returns-3 c =
           (eat-whitespace2 .eat-whitespace2 .ensures .0) (put-row .put-row .ensures) (abbr-field .ensures .0) (c .enum-told3 .given .1),
       off-within (length (a .s .now)) 3 (a .at) (a .n) (c .enum-told3 .given .1),
     )
-
-eat-whitespace-requires-3 : tie.Need-eat-whitespace-requires-3
-eat-whitespace-requires-3 c κs = search needs
-
-comment-requires : tie.Need-comment-requires
-comment-requires c κs = search needs
-
-same-length-2 : tie.Need-same-length-2
-same-length-2 c = search needs
 
 returns-4 : tie.Need-returns-4
 returns-4 c =
@@ -179,28 +125,28 @@ pub field-spec : {M : Type 1} → statement M
 field-spec =
     tie.close
     (tie.spec
-    name-requires
-    enum-known-r1
-    enum-told
-    refused-requires
+    (λ c κs. search needs)
+    (λ c. search needs)
+    (λ c. search needs)
+    (λ c κs. search needs)
     returns
-    eat-whitespace-requires
-    equals-requires
-    enum-known-r3
-    enum-told-2
-    refused-requires-2
+    (λ c κs. search needs)
+    (λ c κs. search needs)
+    (λ c. search needs)
+    (λ c. search needs)
+    (λ c κs. search needs)
     returns-2
-    eat-whitespace-requires-2
-    add-put-row
+    (λ c κs. search needs)
+    (λ c. search needs)
     add-put-row-2
     put-row-requires
-    add-abbr-field
+    (λ c. search needs)
     abbr-field-requires
-    enum-known-r5
-    enum-told-3
-    same-length
+    (λ c. search needs)
+    (λ c. search needs)
+    (λ c. search needs)
     returns-3
-    eat-whitespace-requires-3
-    comment-requires
-    same-length-2
+    (λ c κs. search needs)
+    (λ c κs. search needs)
+    (λ c. search needs)
     returns-4)

@@ -16,21 +16,6 @@ use Rattle.raw.proofs.ways.ElementWays.{single-none, element-number, nu
 use Rattle.raw.proofs.value.bare_element.Statement.{statement}
 use Rattle.raw.proofs.value.bare_element.Tie as tie
 
-eat-if-requires : tie.Need-eat-if-requires
-eat-if-requires c κs = search needs
-
-number-requires : tie.Need-number-requires
-number-requires c κs = search needs
-
-enum-known-r1 : tie.Need-enum-known-r1
-enum-known-r1 c = search needs
-
-enum-told : tie.Need-enum-told
-enum-told c = search needs
-
-refused-requires : tie.Need-refused-requires
-refused-requires c κs = search needs
-
 returns : tie.Need-returns
 returns c =
     let enum-told = c .before in
@@ -42,9 +27,6 @@ returns c =
     off-step (length (a .s .now)) 1 (a .at)
     (element-number (a .s .now) (a .at) (eat-if .eat-if .ensures .0) (if1 .if1 .taken) ∙ ap (under (row kind.Literal (a .at)))
     (rowless-off (number (a .s .now) (a .at)) (the-number .number .ensures .0) (enum-told .enum-told .given .1))) (enum-told .enum-told .given .1) (c .refused .ensures)
-
-add-put-row : tie.Need-add-put-row
-add-put-row c = search needs
 
 add-put-row-2 : tie.Need-add-put-row-2
 add-put-row-2 c =
@@ -66,12 +48,6 @@ put-row-requires c κs =
     let k = step-place len 0 (a .at) (r1 .r1 .given .1) (number .number .ensures .1) (asked .pre .0 .place) in
     (omega (arith, asked .pre .0 .file), omega (arith, asked .pre .0 .file))
 
-add-t18 : tie.Need-add-t18
-add-t18 c = search needs
-
-same-length : tie.Need-same-length
-same-length c = search needs
-
 returns-2 : tie.Need-returns-2
 returns-2 c =
     let put-row = c .before .before in
@@ -91,21 +67,6 @@ returns-2 c =
       (omega arith, omega arith, omega arith),
     )
 
-eat-if-requires-2 : tie.Need-eat-if-requires-2
-eat-if-requires-2 c κs = search needs
-
-ident-requires : tie.Need-ident-requires
-ident-requires c κs = search needs
-
-enum-known-r2 : tie.Need-enum-known-r2
-enum-known-r2 c = search needs
-
-enum-told-2 : tie.Need-enum-told-2
-enum-told-2 c = search needs
-
-refused-requires-2 : tie.Need-refused-requires-2
-refused-requires-2 c κs = search needs
-
 returns-3 : tie.Need-returns-3
 returns-3 c =
     let enum-told2 = c .before in
@@ -119,9 +80,6 @@ returns-3 c =
     off-step (length (a .s .now)) 1 (a .at)
     (element-name (a .s .now) (a .at) (eat-if .eat-if .ensures .0) (if1 .if1 .left) (eat-if2 .eat-if2 .ensures .0) (if2 .if2 .taken) ∙ ap (under (row kind.Name (a .at)))
     (rowless-off (ident (a .s .now) (a .at)) (the-ident .ident .ensures .0) (enum-told2 .enum-told2 .given .1))) (enum-told2 .enum-told2 .given .1) (c .refused2 .ensures)
-
-add-put-row-3 : tie.Need-add-put-row-3
-add-put-row-3 c = search needs
 
 add-put-row-4 : tie.Need-add-put-row-4
 add-put-row-4 c =
@@ -142,12 +100,6 @@ put-row-requires-2 c κs =
     let len = length (a .s .now) in
     let k = step-place len 1 (a .at) (r2 .r2 .given .1) (ident .ident .ensures .1) (asked .pre .0 .place) in
     (omega (arith, asked .pre .0 .file), omega (arith, asked .pre .0 .file))
-
-add-t24 : tie.Need-add-t24
-add-t24 c = search needs
-
-same-length-2 : tie.Need-same-length-2
-same-length-2 c = search needs
 
 returns-4 : tie.Need-returns-4
 returns-4 c =
@@ -184,28 +136,28 @@ pub bare-element-spec : {M : Type 1} → statement M
 bare-element-spec =
     tie.close
     (tie.spec
-    eat-if-requires
-    number-requires
-    enum-known-r1
-    enum-told
-    refused-requires
+    (λ c κs. search needs)
+    (λ c κs. search needs)
+    (λ c. search needs)
+    (λ c. search needs)
+    (λ c κs. search needs)
     returns
-    add-put-row
+    (λ c. search needs)
     add-put-row-2
     put-row-requires
-    add-t18
-    same-length
+    (λ c. search needs)
+    (λ c. search needs)
     returns-2
-    eat-if-requires-2
-    ident-requires
-    enum-known-r2
-    enum-told-2
-    refused-requires-2
+    (λ c κs. search needs)
+    (λ c κs. search needs)
+    (λ c. search needs)
+    (λ c. search needs)
+    (λ c κs. search needs)
     returns-3
-    add-put-row-3
+    (λ c. search needs)
     add-put-row-4
     put-row-requires-2
-    add-t24
-    same-length-2
+    (λ c. search needs)
+    (λ c. search needs)
     returns-4
     returns-5)

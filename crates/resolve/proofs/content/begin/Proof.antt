@@ -5,7 +5,7 @@ use mathlib.Core.Path.{_≡_, refl, sym, ap, subst, _∙_}
 use lib.ListN.{length}
 use borrow.Author.Needs.{needs}
 use Rattle.text.specs.Scan.{part}
-use Rattle.resolve.proofs.Arguments.{begun}
+use Rattle.resolve.proofs.ways.ArgumentWays.{begun}
 use Rattle.resolve.proofs.content.begin.Statement.{statement}
 use Rattle.resolve.proofs.content.begin.Tie as tie
 

@@ -5,7 +5,7 @@ use mathlib.Core.Path.{_≡_, refl, sym, ap, _∙_}
 use mathlib.Core.Bool.{false}
 use lib.ListN.{length, getD}
 use borrow.Author.Needs.{needs}
-use Rattle.resolve.proofs.StepWays.{close-refused, close-again}
+use Rattle.resolve.proofs.ways.StepWays.{close-refused, close-again}
 use Rattle.resolve.proofs.content.closing.Statement.{statement}
 use Rattle.resolve.proofs.content.closing.Tie as tie
 

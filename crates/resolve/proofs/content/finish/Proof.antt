@@ -6,9 +6,9 @@ use lib.ListN.{length}
 use borrow.Author.Needs.{needs}
 use Rattle.text.specs.Scan.{part}
 use Rattle.command.specs.Execute.{Sane}
-use Rattle.command.proofs.Executing.{meaning-sane}
-use Rattle.command.proofs.Stacks.{lays-below}
-use Rattle.resolve.proofs.Arguments.{part-same, finished, finish-room, finish-grows}
+use Rattle.command.proofs.ways.ExecuteWays.{meaning-sane}
+use Rattle.command.proofs.stacks.LaysLaws.{lays-below}
+use Rattle.resolve.proofs.ways.ArgumentWays.{part-same, finished, finish-room, finish-grows}
 use Rattle.resolve.proofs.content.finish.Statement.{statement}
 use Rattle.resolve.proofs.content.finish.Tie as tie
 

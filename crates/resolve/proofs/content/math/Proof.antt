@@ -5,7 +5,7 @@ use mathlib.Core.Path.{_≡_, refl, sym, ap, _∙_}
 use mathlib.Core.Bool.{false}
 use lib.ListN.{length, getD}
 use borrow.Author.Needs.{needs}
-use Rattle.resolve.proofs.StepWays.{math-refused, math-again}
+use Rattle.resolve.proofs.ways.StepWays.{math-refused, math-again}
 use Rattle.resolve.proofs.content.math.Statement.{statement}
 use Rattle.resolve.proofs.content.math.Tie as tie
 

@@ -5,7 +5,7 @@ use mathlib.Core.Path.{_≡_, refl, sym, ap, _∙_}
 use mathlib.Core.Bool.{false}
 use lib.ListN.{length, getD}
 use borrow.Author.Needs.{needs}
-use Rattle.resolve.proofs.StepWays.{open-again}
+use Rattle.resolve.proofs.ways.StepWays.{open-again}
 use Rattle.resolve.proofs.content.opening.Statement.{statement}
 use Rattle.resolve.proofs.content.opening.Tie as tie
 

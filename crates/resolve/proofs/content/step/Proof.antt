@@ -2,7 +2,7 @@
 use mathlib.Core.Path.{_≡_, refl, sym, ap, _∙_}
 use lib.ListN.{length, getD}
 use borrow.Author.Needs.{needs}
-use Rattle.resolve.proofs.StepWays.{dollar-tests, ordinary, ordinary-end, step-as}
+use Rattle.resolve.proofs.ways.StepWays.{dollar-tests, ordinary, ordinary-end, step-as}
 use Rattle.resolve.proofs.content.step.Statement.{statement}
 use Rattle.resolve.proofs.content.step.Tie as tie
 

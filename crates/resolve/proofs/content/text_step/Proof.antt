@@ -4,7 +4,7 @@ use native.Mathlib.Omega.{arith}
 use mathlib.Core.Path.{_≡_, refl, sym, ap, _∙_}
 use lib.ListN.{length}
 use borrow.Author.Needs.{needs}
-use Rattle.resolve.proofs.StepWays.{text-end, text-refused, text-argument, text-put, ahead-text, ahead-further}
+use Rattle.resolve.proofs.ways.StepWays.{text-end, text-refused, text-argument, text-put, ahead-text, ahead-further}
 use Rattle.resolve.proofs.content.text_step.Statement.{statement}
 use Rattle.resolve.proofs.content.text_step.Tie as tie
 

@@ -2,7 +2,7 @@
 use Prim.Native.Nat.{ℕ, zero, suc}
 use mathlib.Core.Path.{_≡_, refl}
 use borrow.Author.Needs.{needs}
-use Rattle.resolve.proofs.Turnings.{verbatim-some}
+use Rattle.resolve.proofs.ways.MakingWays.{verbatim-some}
 use Rattle.resolve.proofs.making.default_chunk.Statement.{statement}
 use Rattle.resolve.proofs.making.default_chunk.Tie as tie
 

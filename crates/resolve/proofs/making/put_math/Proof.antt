@@ -6,7 +6,7 @@ use mathlib.Core.List.{_∷_, []}
 use lib.ListN.{length}
 use borrow.Author.Needs.{needs}
 use Rattle.text.specs.Scan.{part}
-use Rattle.resolve.proofs.Turnings.{math-argument, math-literal, lays-three}
+use Rattle.resolve.proofs.ways.MakingWays.{math-argument, math-literal, lays-three}
 use Rattle.resolve.proofs.making.put_math.Statement.{statement}
 use Rattle.resolve.proofs.making.put_math.Tie as tie
 

@@ -4,7 +4,7 @@ use native.Mathlib.Omega.{arith}
 use mathlib.Core.Path.{_≡_, refl, sym, ap, _∙_}
 use lib.ListN.{length}
 use borrow.Author.Needs.{needs}
-use Rattle.resolve.proofs.Turnings.{argument-holds, literal-holds}
+use Rattle.resolve.proofs.ways.MakingWays.{argument-holds, literal-holds}
 use Rattle.resolve.proofs.making.turnaround.Statement.{statement}
 use Rattle.resolve.proofs.making.turnaround.Tie as tie
 

@@ -1,7 +1,7 @@
 -- `resolve::rows::push` meets its contract. Assumes nothing.
 use Prim.Native.Nat.{_+_, _≤_, _<_}
 use native.Mathlib.Omega.{arith}
-use Rattle.resolve.proofs.Pushes.{pushed-new, pushed-join, pushed-some}
+use Rattle.resolve.proofs.ways.PushWays.{pushed-new, pushed-join, pushed-some}
 use borrow.Author.Needs.{needs}
 use Rattle.resolve.proofs.rows.push.Statement.{statement}
 use Rattle.resolve.proofs.rows.push.Tie as tie

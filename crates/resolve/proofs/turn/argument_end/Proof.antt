@@ -9,7 +9,7 @@ use borrow.Author.Needs.{needs}
 use Rattle.raw.specs.Reader.{many}
 use Rattle.resolve.specs.Content.{endTurn, argumentEnd}
 use Rattle.resolve.specs.Inner.{endOf}
-use Rattle.resolve.proofs.TextWays.{end-off, end-open, end-close, end-found}
+use Rattle.resolve.proofs.ways.TextWays.{end-off, end-open, end-close, end-found}
 use Rattle.resolve.proofs.turn.argument_end.Statement.{statement}
 use Rattle.resolve.proofs.turn.argument_end.Tie as tie
 

@@ -4,7 +4,7 @@ use native.Mathlib.Omega.{arith}
 use mathlib.Core.Path.{_≡_, refl, sym, ap, _∙_}
 use lib.ListN.{length, getD}
 use borrow.Author.Needs.{needs}
-use Rattle.resolve.proofs.TextAnswers.{back-blank, grows-blank}
+use Rattle.resolve.proofs.ways.TextAnswers.{back-blank, grows-blank}
 use Rattle.resolve.proofs.turn.back_blank.Statement.{statement}
 use Rattle.resolve.proofs.turn.back_blank.Tie as tie
 

@@ -8,8 +8,8 @@ use lib.ListN.{length, getD}
 use lib.Dec.{eqb}
 use borrow.Author.Needs.{needs}
 use borrow.Author.Tests.{not-true, not-false}
-use Rattle.resolve.proofs.Texts.{says-as}
-use Rattle.resolve.proofs.CommandAnswers.{ends-verb, ends-refused, char-next, escapes, stands, behind, begins-so}
+use Rattle.resolve.proofs.ways.TextTurns.{says-as}
+use Rattle.resolve.proofs.ways.CommandAnswers.{ends-verb, ends-refused, char-next, escapes, stands, behind, begins-so}
 use Rattle.resolve.proofs.turn.backslash.Statement.{statement}
 use Rattle.resolve.proofs.turn.backslash.Tie as tie
 

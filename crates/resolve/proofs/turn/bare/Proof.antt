@@ -10,8 +10,8 @@ use borrow.Author.Needs.{needs}
 use borrow.Author.Tests.{not-true, not-false}
 use Rattle.text.specs.Scan.{part}
 use Rattle.command.specs.Execute.{Sane}
-use Rattle.command.proofs.Executing.{meaning-sane}
-use Rattle.resolve.proofs.CommandAnswers.{bare-lays}
+use Rattle.command.proofs.ways.ExecuteWays.{meaning-sane}
+use Rattle.resolve.proofs.ways.CommandAnswers.{bare-lays}
 use Rattle.resolve.proofs.turn.bare.Statement.{statement}
 use Rattle.resolve.proofs.turn.bare.Tie as tie
 

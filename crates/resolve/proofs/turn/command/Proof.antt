@@ -8,7 +8,7 @@ use lib.ListN.{length, getD}
 use lib.Dec.{eqb}
 use borrow.Author.Needs.{needs}
 use borrow.Author.Tests.{not-true, not-false}
-use Rattle.resolve.proofs.CommandAnswers.{command-one, command-bare, brace-inside, brace-next, command-argument, command-endless, ends-by}
+use Rattle.resolve.proofs.ways.CommandAnswers.{command-one, command-bare, brace-inside, brace-next, command-argument, command-endless, ends-by}
 use Rattle.resolve.proofs.turn.command.Statement.{statement}
 use Rattle.resolve.proofs.turn.command.Tie as tie
 

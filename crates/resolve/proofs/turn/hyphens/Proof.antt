@@ -6,10 +6,10 @@ use mathlib.Core.Bool.{false}
 use mathlib.Core.List.{_∷_, []}
 use lib.ListN.{length, getD}
 use Rattle.text.specs.Utf8.{isScalar, octets}
-use Rattle.command.proofs.Stacks.{octets-three}
+use Rattle.command.proofs.stacks.LaysLaws.{octets-three}
 use borrow.Author.Needs.{needs}
-use Rattle.resolve.proofs.Texts.{wrote-one}
-use Rattle.resolve.proofs.TextWays.{hyphen-one, hyphen-two, hyphen-three}
+use Rattle.resolve.proofs.ways.TextTurns.{wrote-one}
+use Rattle.resolve.proofs.ways.TextWays.{hyphen-one, hyphen-two, hyphen-three}
 use Rattle.resolve.proofs.turn.hyphens.Statement.{statement}
 use Rattle.resolve.proofs.turn.hyphens.Tie as tie
 

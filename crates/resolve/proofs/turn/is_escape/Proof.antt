@@ -9,7 +9,7 @@ use lib.Dec.{eqb}
 use borrow.Author.Needs.{needs}
 use borrow.Author.Tests.{not-true, not-false}
 use Rattle.chunk.specs.Format.{isEscapable}
-use Rattle.resolve.proofs.Tests.{escape-tests}
+use Rattle.resolve.proofs.ways.TestChains.{escape-tests}
 use Rattle.resolve.proofs.turn.is_escape.Statement.{statement}
 use Rattle.resolve.proofs.turn.is_escape.Tie as tie
 

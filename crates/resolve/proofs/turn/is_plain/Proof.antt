@@ -1,7 +1,7 @@
 -- `resolve::turn::is_plain` meets its contract. Assumes nothing.
 use lib.Dec.{eqb, ltb}
 use Rattle.resolve.specs.Inner.{isPlain}
-use Rattle.resolve.proofs.Tests.{plains}
+use Rattle.resolve.proofs.ways.TestChains.{plains}
 use Rattle.resolve.proofs.turn.is_plain.Statement.{statement}
 use Rattle.resolve.proofs.turn.is_plain.Tie as tie
 

@@ -10,10 +10,10 @@ use borrow.Author.Needs.{needs}
 use borrow.Author.Tests.{not-true, not-false}
 use Rattle.text.specs.Scan.{part}
 use Rattle.command.specs.Execute.{Sane, leading}
-use Rattle.command.proofs.Stacks.{lays-as, both-first}
+use Rattle.command.proofs.stacks.LaysLaws.{lays-as, both-first}
 use Rattle.resolve.specs.declared.turn.Text.the-variants as text
-use Rattle.command.proofs.Executing.{meaning-sane}
-use Rattle.resolve.proofs.CommandAnswers.{one-lays, one-room, one-grows}
+use Rattle.command.proofs.ways.ExecuteWays.{meaning-sane}
+use Rattle.resolve.proofs.ways.CommandAnswers.{one-lays, one-room, one-grows}
 use Rattle.resolve.proofs.turn.one.Statement.{statement}
 use Rattle.resolve.proofs.turn.one.Tie as tie
 

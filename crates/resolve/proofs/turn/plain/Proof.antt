@@ -7,7 +7,7 @@ use lib.ListN.{length, getD}
 use borrow.Author.Needs.{needs}
 use borrow.Author.Tests.{not-false}
 use Rattle.resolve.specs.Inner.{isPlain, PlainTo}
-use Rattle.resolve.proofs.Texts.{plain-start, plain-more}
+use Rattle.resolve.proofs.ways.TextTurns.{plain-start, plain-more}
 use Rattle.resolve.proofs.turn.plain.Statement.{statement}
 use Rattle.resolve.proofs.turn.plain.Tie as tie
 

@@ -8,9 +8,9 @@ use lib.ListN.{length, getD}
 use lib.Dec.{eqb}
 use borrow.Author.Needs.{needs}
 use borrow.Author.Tests.{not-true, not-false}
-use Rattle.resolve.proofs.Turns.{ended}
-use Rattle.resolve.proofs.Texts.{wrote-run, says-as}
-use Rattle.resolve.proofs.CommandAnswers.{hyphen-tests, no-hyphen}
+use Rattle.resolve.proofs.contents.TurnsSeen.{ended}
+use Rattle.resolve.proofs.ways.TextTurns.{wrote-run, says-as}
+use Rattle.resolve.proofs.ways.CommandAnswers.{hyphen-tests, no-hyphen}
 use Rattle.resolve.proofs.turn.text_at.Statement.{statement}
 use Rattle.resolve.proofs.turn.text_at.Tie as tie
 

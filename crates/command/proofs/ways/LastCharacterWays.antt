@@ -27,8 +27,8 @@ use Rattle.chunk.specs.Format.{lastAt, lastCode}
 use Rattle.text.proofs.general.Parts.{length-part, drop-part}
 use Rattle.chunk.proofs.texts.LastCharacter.{last-less}
 use Rattle.command.specs.Execute.{front, dotted, bare, marked, withMark, lastCharCombine, given}
-use Rattle.command.proofs.Parts.{take-part}
-use Rattle.command.proofs.Stacks.{lays-as, lays-on, octets-few, octets-one, octets-two, octets-three}
+use Rattle.command.proofs.stacks.MoreParts.{take-part}
+use Rattle.command.proofs.stacks.LaysLaws.{lays-as, lays-on, octets-few, octets-one, octets-two, octets-three}
 
 -- ---- the characters that are written
 

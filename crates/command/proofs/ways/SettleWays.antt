@@ -18,7 +18,7 @@ use Rattle.chunk.specs.Inner.{plain, stops}
 use Rattle.text.proofs.general.Parts.{part-none, part-more, part-head, part-join, length-part}
 use Rattle.chunk.proofs.texts.LineEnds.{run-turn, end-white, end-blank}
 use Rattle.command.specs.Stack.{Lays, defaultChunk}
-use Rattle.command.proofs.Stacks.{lays-as, lays-on, lays-still, pushed}
+use Rattle.command.proofs.stacks.LaysLaws.{lays-as, lays-on, lays-still, pushed}
 
 -- ---- what still stands
 

@@ -28,7 +28,7 @@ use Rattle.resolve.specs.declared.content.Stepped.{Stepped}
 use Rattle.resolve.specs.declared.content.Stepped.the-variants as stepped
 use Rattle.resolve.specs.Content.{Part, put, cut, math, Reader, State, refusedByte, step, steps, maths, closing, contentTurn}
 use Rattle.resolve.specs.Inner.{Holds, Goes, RowsHeld, standing, from, turns, concat, SaysText, SaysStep, Turned, Calculated, Further, Ahead, Grows, GrowsText, Ordinary}
-use Rattle.resolve.proofs.Turns.{leads, stopped, turn-open, turn-close, turn-math}
+use Rattle.resolve.proofs.contents.TurnsSeen.{leads, stopped, turn-open, turn-close, turn-math}
 
 -- ---- math
 

@@ -18,7 +18,7 @@ use Rattle.chunk.specs.Format.{Written, formatOne, formatVerbatim, whiteFrom}
 use Rattle.text.proofs.general.Parts.{drop-take}
 use Rattle.chunk.proofs.passes.ChunkByChunk.{format-on, white-on}
 use Rattle.command.specs.Stack.{Lays, defaultChunk}
-use Rattle.command.proofs.Stacks.{lays-on}
+use Rattle.command.proofs.stacks.LaysLaws.{lays-on}
 use Rattle.resolve.specs.declared.rows.Rows.{Rows}
 use Rattle.resolve.specs.declared.making.Making.{Making}
 use Rattle.resolve.specs.declared.making.Place.{Place}
@@ -26,7 +26,7 @@ use Rattle.resolve.specs.Content.{Part, cut, math, State, steps, joins, 
 use Rattle.resolve.specs.Literal.{chunkUp}
 use Rattle.resolve.specs.Rows.{RowsHold, textsOf, onto, Pushes}
 use Rattle.resolve.specs.Inner.{Holds, Goes, RowsHeld, standing, some}
-use Rattle.resolve.proofs.Joins.{joining}
+use Rattle.resolve.proofs.Joining.{joining}
 
 -- ---- texts of chunks
 

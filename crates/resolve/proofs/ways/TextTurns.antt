@@ -18,12 +18,12 @@ use Rattle.raw.specs.Reader.{OutOf, ok, again, bad, more}
 use Rattle.text.proofs.general.Tests.{both-true}
 use Rattle.text.proofs.general.Parts.{part-none, part-head}
 use Rattle.command.specs.Stack.{Lays}
-use Rattle.command.proofs.Stacks.{lays-as}
+use Rattle.command.proofs.stacks.LaysLaws.{lays-as}
 use Rattle.resolve.specs.declared.turn.Text.{Text}
 use Rattle.resolve.specs.declared.turn.Text.the-variants as text
 use Rattle.resolve.specs.Content.{Part, put, Reader, contentTurn}
 use Rattle.resolve.specs.Inner.{turns, concat, Wrote, SaysText, isPlain, PlainTo, GrowsText, Grows}
-use Rattle.resolve.proofs.Turns.{leads, at-byte, Itself, turn-copy}
+use Rattle.resolve.proofs.contents.TurnsSeen.{leads, at-byte, Itself, turn-copy}
 
 pub more-more : (xs ys : List Part) (o : OutOf Part) → more xs (more ys o) ≡ more (xs ++ ys) o
 more-more xs ys (ok q zs) = ap (λ (l : List Part). ok q l) (sym (append-assoc xs ys zs))

@@ -19,7 +19,7 @@ use Rattle.text.specs.declared.utf8.Encoded.the-variants as encoded
 use Rattle.text.specs.Scan.{part}
 use Rattle.text.proofs.general.Parts.{part-more, length-part, drop-take}
 use Rattle.command.specs.Stack.{Lays}
-use Rattle.command.proofs.Parts.{take-part}
+use Rattle.command.proofs.stacks.MoreParts.{take-part}
 
 -- ---- any texts
 

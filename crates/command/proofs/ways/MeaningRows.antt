@@ -21,7 +21,7 @@ use Rattle.chunk.specs.Worked.{utf8}
 use Rattle.text.proofs.general.Parts.{part-head, length-part}
 use Rattle.command.specs.Commands.{Named, same, commands, meaningIn, meaningOf}
 use Rattle.command.specs.Names.{Row, codeOf, decoded, flat, meaningBy, rowOf, rowsOf, long, names}
-use Rattle.command.proofs.Parts.{part-empty}
+use Rattle.command.proofs.stacks.MoreParts.{part-empty}
 
 -- texts of different lengths are not the same
 same-long : (s t : List ℕ) → (length s ≡ length t → ⊥) → same s t ≡ false

@@ -30,9 +30,9 @@ use Rattle.raw.proofs.readers.Loop.{advancing-turn}
 use Rattle.text.proofs.general.Parts.{part-head}
 use Rattle.resolve.specs.Content.{Part, put, Reader, begins, hyphens, endTurn, argumentEnd, contentTurn}
 use Rattle.resolve.specs.Inner.{Behind, Ordinary, endOf}
-use Rattle.resolve.proofs.Sound.{end-sound}
-use Rattle.resolve.proofs.Turns.{at-byte, byte-of, turn-hyphens, turn-blank, turn-copy, Itself, slash-back}
-use Rattle.resolve.proofs.Texts.{Turns}
+use Rattle.resolve.proofs.contents.TurnsAdvance.{end-sound}
+use Rattle.resolve.proofs.contents.TurnsSeen.{at-byte, byte-of, turn-hyphens, turn-blank, turn-copy, Itself, slash-back}
+use Rattle.resolve.proofs.ways.TextTurns.{Turns}
 
 no-loop : {A : Type 0} (b : Bool) → b ≡ true → b ≡ false → A
 no-loop true h k = let z : _≡_ {A = ℕ} 0 1 = ap (λ (b : Bool). cond b 0 1) k in absurd (omega (arith, z))

@@ -20,12 +20,12 @@ use Rattle.command.specs.declared.meaning.Meaning.{Meaning}
 use Rattle.command.specs.Stack.{Lays, defaultChunk}
 use Rattle.command.specs.Commands.{meaningOf}
 use Rattle.command.specs.Execute.{given, leading, executed, executeCommand}
-use Rattle.command.proofs.Stacks.{lays-below}
+use Rattle.command.proofs.stacks.LaysLaws.{lays-below}
 use Rattle.resolve.specs.declared.rows.Rows.{Rows}
 use Rattle.resolve.specs.declared.making.Making.{Making}
 use Rattle.resolve.specs.Content.{Part, State, beginning, steps, pushed, closed, chunksOf}
 use Rattle.resolve.specs.Inner.{Holds, Begun, Finished, Further, Closes, inArgument, wholeText}
-use Rattle.resolve.proofs.Turnings.{held-text, held-below}
+use Rattle.resolve.proofs.ways.MakingWays.{held-text, held-below}
 
 pub begun : (name : List ℕ) (k : Meaning) (p : ℕ) (m : Making) (o : List ℕ) (rows : Rows) (r : ℕ) (o′ : List ℕ)
     → Lays (m .len) (leading name k) o r o′ → m .len ≤ length o

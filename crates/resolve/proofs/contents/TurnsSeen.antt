@@ -28,7 +28,7 @@ use Rattle.command.specs.Execute.{absent, given, executeCommand}
 use Rattle.resolve.specs.Content.{Part, put, cut, math, Reader, refusedByte, nameEnd, takesOne, opensAt, withName, command, braced, argumentEnd}
 use Rattle.resolve.specs.Content.{endsAt, ran, backslash, isEscape, begins, maths, closing, hyphens, contentTurn}
 use Rattle.resolve.specs.Inner.{turns, opened, Behind}
-use Rattle.resolve.proofs.Sound.{turns-on, char-parts}
+use Rattle.resolve.proofs.contents.TurnsAdvance.{turns-on, char-parts}
 
 -- ---- characters of ASCII
 

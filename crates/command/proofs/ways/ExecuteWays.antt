@@ -22,7 +22,7 @@ use Rattle.chunk.specs.Worked.{utf8}
 use Rattle.text.proofs.general.Parts.{length-part}
 use Rattle.command.specs.Commands.{Named, commands, meaningIn, meaningOf, same}
 use Rattle.command.specs.Execute.{executed, given, absent, leading, Sane}
-use Rattle.command.proofs.Stacks.{lays-as, lays-on, lays-still}
+use Rattle.command.proofs.stacks.LaysLaws.{lays-as, lays-on, lays-still}
 
 -- ---- before an argument
 

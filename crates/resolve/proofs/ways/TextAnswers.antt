@@ -13,14 +13,14 @@ use Rattle.text.specs.declared.scanner.Seen.the-variants.{End, Char}
 use Rattle.text.specs.Scan.{Inside}
 use Rattle.text.proofs.Seeing.{seeing}
 use Rattle.command.specs.Stack.{Lays}
-use Rattle.command.proofs.Stacks.{lays-as, lays-on}
+use Rattle.command.proofs.stacks.LaysLaws.{lays-as, lays-on}
 use Rattle.resolve.specs.Content.{Reader, begins}
 use Rattle.resolve.specs.Inner.{Wrote, SaysText, GrowsText, Grows, Behind, Ordinary}
 use Rattle.resolve.specs.declared.turn.Text.the-variants as text
-use Rattle.resolve.proofs.Sound.{white-on}
-use Rattle.resolve.proofs.Turns.{ended}
-use Rattle.resolve.proofs.Texts.{Turns, wrote-one, wrote-two}
-use Rattle.resolve.proofs.TextWays.{itself-of, copy-turn, blank-turn, control-turn, back-turn, white-begins, control-begins}
+use Rattle.resolve.proofs.contents.TurnsAdvance.{white-on}
+use Rattle.resolve.proofs.contents.TurnsSeen.{ended}
+use Rattle.resolve.proofs.ways.TextTurns.{Turns, wrote-one, wrote-two}
+use Rattle.resolve.proofs.ways.TextWays.{itself-of, copy-turn, blank-turn, control-turn, back-turn, white-begins, control-begins}
 
 -- the place after white space, of which there is some
 past-white : (s : List ℕ) (p c n q : ℕ) → see s p ≡ Char c n → isWhitespace c ≡ true → q ≡ skip isWhitespace s p → Ahead s p q

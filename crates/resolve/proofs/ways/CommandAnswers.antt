@@ -24,14 +24,14 @@ use Rattle.command.specs.declared.meaning.Meaning.{Meaning}
 use Rattle.command.specs.Stack.{Lays}
 use Rattle.command.specs.Commands.{meaningOf}
 use Rattle.command.specs.Execute.{absent, given, leading, executed, executeCommand}
-use Rattle.command.proofs.Stacks.{lays-as, lays-over, both-second, both-below}
+use Rattle.command.proofs.stacks.LaysLaws.{lays-as, lays-over, both-second, both-below}
 use Rattle.resolve.specs.Content.{Part, Reader, isEscape, begins, nameEnd, takesOne, opensAt, argumentEnd}
 use Rattle.resolve.specs.declared.turn.Text.{Text}
 use Rattle.resolve.specs.declared.turn.Text.the-variants as text
 use Rattle.resolve.specs.Inner.{turns, opened, SaysText, Behind, Took, endOf, EndInside, Ordinary, Spans}
-use Rattle.resolve.proofs.Sound.{Ends, end-inside, opens-inside}
-use Rattle.resolve.proofs.Turns.{stopped, slash-end-verb, slash-end, slash-escape, slash-verb, took-one, took-none, took-endless, took-argument}
-use Rattle.resolve.proofs.Texts.{wrote-one, says-put, says-as}
+use Rattle.resolve.proofs.contents.TurnsAdvance.{Ends, end-inside, opens-inside}
+use Rattle.resolve.proofs.contents.TurnsSeen.{stopped, slash-end-verb, slash-end, slash-escape, slash-verb, took-one, took-none, took-endless, took-argument}
+use Rattle.resolve.proofs.ways.TextTurns.{wrote-one, says-put, says-as}
 
 -- ---- `one` and `bare`
 

@@ -1,4 +1,4 @@
--- More laws of `part`, the text from one place to another, beside those of chunk/proofs/Parts.antt.
+-- More laws of `part`, the text from one place to another, beside those of text/proofs/general/Parts.antt.
 -- Assumes nothing.
 use Prim.Native.Nat.{ℕ, _+_, _-_, _≤_, min}
 use native.Mathlib.Omega.{arith}
