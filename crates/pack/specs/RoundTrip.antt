@@ -42,7 +42,7 @@ pub record RoundTrip : Type 0 where
   pub packs : (s c c′ : List ℕ) (n : ℕ) → Bytes s → Unpack s c (Count n) c′
       → (b b′ : List ℕ) (r : Outcome) → Pack (take (n * 4) c′) b r b′ → length s ≤ length b
       → (r ≡ Count (length s)) × (b′ ≡ s ++ drop (length s) b)
-  -- rows that keep the row rules, with spans that lie in a file, pack without refusal
+  -- rows that keep the row rules, with spans that lie in a file, pack with no refusal but 16
   pub fitting : (n : ℕ) (rs : List Row) → n ≤ mostBytes → isRows rs ≡ true → SpansIn n rs → isPackable (flat rs) ≡ true
   -- so does what strict reading gives, of its definition and of its contract
   pub strictly : (s : List ℕ) (q : ℕ) (rs : List Row) → strict s ≡ ok q rs → isPackable (flat rs) ≡ true

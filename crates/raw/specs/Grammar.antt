@@ -78,7 +78,7 @@ string = quote then quoted then quote
 unfoldable pub stringLiteral : Reader
 stringLiteral = quote then over (plain kind.Literal) quoted then quote
 
--- digits and one point; a = 0 before the point
+-- digits and one point; a is 0 as long as no point was read
 unfoldable pub numberTurn : ℕ → Reader
 numberTurn zero =
     when (holdsOf test.Digit) (turn 0)
@@ -165,7 +165,7 @@ key = scan isKey
 
 -- ---- entries
 
--- an ASCII capital in small
+-- the small letter of an ASCII capital; any other character as it is
 abbrev pub lower : ℕ → ℕ
 lower c = cond (leb 0x41 c && leb c 0x5A) (c + 0x20) c
 

@@ -50,7 +50,7 @@ after (ok q rs) g = ok q rs
 after (again q rs a) g = more rs (g a q)
 after (bad f) g = bad f
 
--- by what is seen: a character of the class is eaten, and f follows it; else o
+-- by what is seen: f from the place after a character of class t; else o
 abbrev pub eaten : {P : Type 0} → (ℕ → Bool) → Seen → (ℕ → OutOf P) → OutOf P → OutOf P
 eaten t End f o = o
 eaten t (Char c n) f o = cond (t c) (f n) o
@@ -77,11 +77,11 @@ infixr 20 _then_
 abbrev pub _then_ : {P : Type 0} → ReaderOf P → ReaderOf P → ReaderOf P
 _then_ f g s p = andThen (f s p) (g s)
 
--- eat a character of class t and go on with f; or g
+-- eat a character of class t and go on with f; else g, and nothing is eaten
 abbrev pub when : {P : Type 0} → (ℕ → Bool) → ReaderOf P → ReaderOf P → ReaderOf P
 when t f g s p = eaten t (see s p) (f s) (g s p)
 
--- at a character of class t, f; or g
+-- f where a character of class t stands, which is not eaten; else g
 abbrev pub sees : {P : Type 0} → (ℕ → Bool) → ReaderOf P → ReaderOf P → ReaderOf P
 sees t f g s p = eaten t (see s p) (λ n. f s p) (g s p)
 

@@ -29,7 +29,7 @@ Answered call n = (c : List ℕ) × (c′ : List ℕ) × call c (Rows n) c′
 abbrev pub Full : (List ℕ → Reading → List ℕ → Type 0) → Type 0
 Full call = (b b′ : List ℕ) (r : Reading) → call b r b′ → (r ≡ Refused (nowhere NoRoom)) ↔ ((n : ℕ) × Answered call n × (length b / 4 < n))
 
--- a call whose answer and rows are those of a reading that refuses with no 16 by itself answers 16 just so
+-- a call whose answer and rows are those of a reading which by itself never refuses with 16 answers 16 exactly then
 abbrev pub Sixteen : Type 1
 Sixteen =
     (o : Out) → (o ≡ bad (nowhere NoRoom) → ⊥) → (call : List ℕ → Reading → List ℕ → Type 0) →

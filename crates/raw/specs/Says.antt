@@ -27,7 +27,7 @@ answerOf (ok q rs) n = answer.Next q (n + length rs)
 answerOf (again q rs a) n = answer.Next q (n + length rs)
 answerOf (bad f) n = answer.Refused f
 
--- the refusal of a reader without rows, which has no other use
+-- the refusal of a reader without rows, as an answer; it is asked for refusals only
 abbrev pub refusedOf : Step → Answer
 refusedOf (step.At q) = answer.Next q 0
 refusedOf (step.Refused f) = answer.Refused f
@@ -62,7 +62,7 @@ abbrev pub Within : ℕ → ℕ → ℕ → ℕ → Answer → Type 0
 Within len w p n (answer.Next q m) = (p + w ≤ q) × (q ≤ max p len) × (m + 8 * p ≤ n + 8 * q)
 Within len w p n (answer.Refused f) = Unit {0}
 
--- a turn that goes on goes on by v at least
+-- a turn after which the loop goes on has eaten v bytes at least
 abbrev pub WithinTurn : ℕ → ℕ → ℕ → ℕ → ℕ → Turn → Type 0
 WithinTurn len v w p n (turn.Again q m) = (p + v ≤ q) × (q ≤ max p len) × (m + 8 * p ≤ n + 8 * q)
 WithinTurn len v w p n (turn.Done q m) = (p + w ≤ q) × (q ≤ max p len) × (m + 8 * p ≤ n + 8 * q)

@@ -27,7 +27,7 @@ use Rattle.row.specs.Rules.{isRows, clean}
 abbrev pub Same : List ℕ → List ℕ → ℕ → ℕ → Type 0
 Same s t p e = (i : ℕ) → p ≤ i → i < e → see s i ≡ see t i
 
--- an answer's place is q
+-- the answer ends at q
 abbrev pub Stops : {P : Type 0} → OutOf P → ℕ → Type 0
 Stops (ok q′ rs) q = q′ ≡ q
 Stops (again q′ rs a) q = q′ ≡ q
@@ -42,7 +42,7 @@ shifted d (ok q rs) = ok (q + d) (moved d rs)
 shifted d (again q rs a) = again (q + d) (moved d rs) a
 shifted d (bad f) = bad (faultUp d f)
 
--- t goes on no character of the text before it
+-- t does not begin inside a character of the text before it
 abbrev pub Fresh : List ℕ → Type 0
 Fresh t = within tail (getD t 0 256) ≡ false
 
