@@ -1,4 +1,4 @@
--- The definitions by octets go through a text as chunk.rs does through its characters: `characters`.
+-- The definitions, which go by octets, go through a text as chunk.rs goes through its characters: `characters`.
 -- Assumes nothing.
 use Prim.Native.Nat.{ℕ, _+_, _≤_, _<_}
 use native.Mathlib.Omega.{arith}
@@ -47,7 +47,7 @@ white-code w u c e =
     by [] h = absurd (omega arith)
     by (b ∷ t) h = refl
 
--- behind any other octets
+-- whatever octets stand before these characters
 ended-behind : (cs u : List ℕ) (c : ℕ) → Scalars (c ∷ cs) → endsWhite (u ++ utf8Of (c ∷ cs)) ≡ charEndsWhite (c ∷ cs)
 unfolding utf8Of charEndsWhite
 ended-behind [] u c (chars.next e s) = ap (λ (t : List ℕ). endsWhite (u ++ t)) (append-nil (octets c)) ∙ ends-code u c e
@@ -61,7 +61,7 @@ ended (c ∷ cs) s = ended-behind cs [] c s
 
 -- ---- a character's octets
 
--- one octet, the character itself, or none of ASCII
+-- the octets of a character are the character itself, one octet of ASCII; or none of them is ASCII
 data Coded (c : ℕ) : Type 0 where
   alone : octets c ≡ c ∷ [] → Coded c
   above : 0x80 ≤ c → High (octets c) → Coded c
@@ -111,7 +111,7 @@ module _ (c : ℕ) (e : isScalar c ≡ true) where
 abbrev inOctets : Written → Written
 inOctets x = written (utf8Of (x .text)) (x .white)
 
--- whatever stood before
+-- the lines of a text are those of its characters, whatever stood before it
 abbrev LinesOf : List ℕ → Type 0
 LinesOf cs = (w : Bool) (u : List ℕ) → lines w u (utf8Of cs) ≡ inOctets (charLines (white w u) cs)
 
@@ -159,7 +159,7 @@ escapes-all verb [] s = refl
 escapes-all verb (c ∷ cs) (chars.next e s) =
     escaped-append verb (octets c) (utf8Of cs) ∙ escape-turn verb c cs e (isEscapable c verb false) refl (escapes-all verb cs s)
 
--- ---- a text has characters
+-- ---- every text that is UTF-8 has characters
 
 has-chars : {t : List ℕ} → Octets t → (cs : List ℕ) × Scalars cs × (utf8Of cs ≡ t)
 unfolding utf8Of

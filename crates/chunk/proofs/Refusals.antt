@@ -14,7 +14,7 @@ use Rattle.text.specs.declared.utf8.Validity.{Validity}
 use Rattle.text.specs.declared.utf8.Validity.the-variants as validity
 use Rattle.row.specs.declared.fault.Reason.the-variants.{NotUtf8, NoRoom, BadRows}
 use Rattle.row.specs.declared.fault.Fault.{Fault}
-use Rattle.row.specs.Fault.{numberOf, faultAt, nowhere}
+use Rattle.row.specs.Fault.{numberOf, faultAt, nowhere, Answered}
 use Rattle.chunk.specs.declared.answer.Checked.{Checked}
 use Rattle.chunk.specs.declared.answer.Checked.the-variants as checked
 use Rattle.row.specs.declared.fault.Outcome.{Outcome}
@@ -22,7 +22,7 @@ use Rattle.row.specs.declared.fault.Outcome.the-variants as outcome
 use Rattle.chunk.specs.Chunk.{areChunks, chunksOf}
 use Rattle.chunk.specs.Format.{formatVerbatim, toBiblatexString}
 use Rattle.chunk.specs.Write.{rowsChecked, checkedOf, writingOf, writtenInto, Write}
-use Rattle.chunk.specs.Refusals.{WriteFault, ill-formed, unsound, full, Answered, Refusals}
+use Rattle.chunk.specs.Refusals.{WriteFault, ill-formed, unsound, full, Refusals}
 
 module _ (t l w : List ℕ) (n : ℕ) (f : Fault) where
   by-room : (y : Bool) → outcome.Refused f ≡ cond y (outcome.Count (length w)) (outcome.Refused (nowhere NoRoom)) → WriteFault t l f
@@ -44,7 +44,7 @@ write-fault t l w n f e = by-text t l w n f (validityOf t) refl e
 
 -- ---- 16
 
--- the check does not answer it
+-- the check never answers 16
 check-not-full : (t l : List ℕ) (v : Validity) → rowsChecked t l v ≡ checked.Refused (nowhere NoRoom) → ⊥
 check-not-full t l validity.Valid e = by (areChunks t l) e
   where
@@ -54,7 +54,7 @@ check-not-full t l validity.Valid e = by (areChunks t l) e
 check-not-full t l (validity.IllFormed m) e =
     let q : faultAt NotUtf8 m ≡ nowhere NoRoom = cc in let n : _≡_ {A = ℕ} 2 16 = ap (λ (f : Fault). numberOf (f .reason)) q in absurd (omega arith)
 
--- a writer of w whose check comes to c
+-- a writer that has w to write, and whose check answers c
 module _ (w : List ℕ) where
   full-told : (c : Checked) → (c ≡ checked.Refused (nowhere NoRoom) → ⊥) → (x : ℕ) → writingOf c w x ≡ outcome.Refused (nowhere NoRoom) →
       (c ≡ checked.Passed) × (x < length w)
@@ -76,14 +76,13 @@ module _ (w : List ℕ) where
   too-little (checked.Refused f) x y m e h = let z : _≡_ {A = ℕ} 0 1 = cc in absurd (omega arith)
 
   write-full : (c : Checked) → (c ≡ checked.Refused (nowhere NoRoom) → ⊥) → (b b′ : List ℕ) (r : Outcome) → Write c w b r b′ →
-      (r ≡ outcome.Refused (nowhere NoRoom)) ↔ ((n : ℕ) × Answered (Write c w) n × (length b < n))
+      (r ≡ outcome.Refused (nowhere NoRoom)) ↔ ((n : ℕ) × Answered (Write c w) (outcome.Count n) × (length b < n))
   write-full c other b b′ r p = (
     λ e.
         let t = full-told c other (length b) (sym (p .answer) ∙ e) in
         let d : List ℕ = replicate (length w) 0 in
         let l : length d ≡ length w = length-replicate (length w) 0 in
-        let k : outcome.Count (length w) ≡ writingOf c w (length d) =
-        rw (t .0, le-leb (length w) (length d) (omega arith)) in
+        let k : outcome.Count (length w) ≡ writingOf c w (length d) = rw (t .0, le-leb (length w) (length d) (omega arith)) in
         (length w, (d, writtenInto c w d, record { answer = k; bytes = refl }), t .1),
     λ h. p .answer ∙ too-little c (length b) (length (h .1 .0)) (h .0) (h .1 .2 .answer) (h .2),
   )

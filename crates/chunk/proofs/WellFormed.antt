@@ -31,7 +31,7 @@ use Rattle.chunk.proofs.rows.Answers.{are-chunks, written}
 
 -- ---- what is written of a text
 
--- whatever stood before
+-- what is written of the text is UTF-8, whatever stood before it
 abbrev Lined : List ℕ → Type 0
 Lined t = (w : Bool) (u : List ℕ) → Octets (lines w u t .text)
 
@@ -68,7 +68,7 @@ escaped-octets verb (next c {s} e o) =
     by (low {b} h) e = alone b h (isEscapable b verb false)
     by {c} (high h) e = subst Octets (sym (high-escaped verb h)) (shapes .octets-char c e)
 
--- ---- and of chunks
+-- ---- what is written of chunks
 
 one-octets : (w : Bool) (k : Kind) {t : List ℕ} → Octets t → Octets (formatOne w k t .text)
 one-octets w Normal o = lines-octets o w []
@@ -106,9 +106,9 @@ write-octets verb extra (texts.next {c} o h) =
 string-octets : (verb : Bool) (cs : List Chunk) → Texts cs → Octets (toBiblatexString verb cs)
 string-octets verb cs h = next (0x7B ∷ []) (ascii 0x7B (omega arith)) (write-octets verb false h)
 
--- ---- the check
+-- ---- chunks that pass the check are UTF-8
 
--- between two boundaries
+-- the part of a text between two boundaries is UTF-8
 part-octets : (t : List ℕ) (a e : ℕ) → Octets t → a ≤ e → isBoundary t a ≡ true → isBoundary t e ≡ true → Octets (part t a e)
 part-octets t a e o h p q =
     let x = rfc3629 .boundary t a o .0 p in

@@ -10,5 +10,5 @@ pub mod LastCharacter
 pub mod LineEnds
 -- characters that are escaped
 pub mod Escapes
--- sequences that the writers pass as they are
+-- sequences that the writers write unchanged
 pub mod PassedSequences

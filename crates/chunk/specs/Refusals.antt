@@ -10,7 +10,7 @@ use Rattle.text.specs.Utf8.{validityOf}
 use Rattle.text.specs.declared.utf8.Validity.the-variants as validity
 use Rattle.row.specs.declared.fault.Reason.the-variants.{NotUtf8, NoRoom, BadRows}
 use Rattle.row.specs.declared.fault.Fault.{Fault}
-use Rattle.row.specs.Fault.{faultAt, nowhere}
+use Rattle.row.specs.Fault.{faultAt, nowhere, Answered}
 use Rattle.row.specs.declared.fault.Outcome.{Outcome}
 use Rattle.row.specs.declared.fault.Outcome.the-variants as outcome
 use Rattle.chunk.specs.Chunk.{areChunks}
@@ -22,16 +22,12 @@ pub data WriteFault (t l : List ℕ) : Fault → Type 0 where
   unsound : areChunks t l ≡ false → WriteFault t l (nowhere BadRows)
   full : WriteFault t l (nowhere NoRoom)
 
--- of an input, over whatever is lent for the output: there is an answer, of n bytes
-abbrev pub Answered : (List ℕ → Outcome → List ℕ → Type 0) → ℕ → Type 0
-Answered call n = (c : List ℕ) × (c′ : List ℕ) × call c (outcome.Count n) c′
-
 pub record Refusals : Type 0 where
   -- `format_verbatim` and `to_biblatex_string` answer no others
   pub formats : (t l b b′ : List ℕ) (f : Fault) → FormatVerbatim t l b (outcome.Refused f) b′ → WriteFault t l f
   pub writes : (verb : Bool) (t l b b′ : List ℕ) (f : Fault) → ToBiblatexString verb t l b (outcome.Refused f) b′ → WriteFault t l f
   -- "then 16 exactly if an answer exists and needs more rows or bytes than a lent output has"
   pub formats-full : (t l b b′ : List ℕ) (r : Outcome) → FormatVerbatim t l b r b′ →
-      (r ≡ outcome.Refused (nowhere NoRoom)) ↔ ((n : ℕ) × Answered (FormatVerbatim t l) n × (length b < n))
+      (r ≡ outcome.Refused (nowhere NoRoom)) ↔ ((n : ℕ) × Answered (FormatVerbatim t l) (outcome.Count n) × (length b < n))
   pub writes-full : (verb : Bool) (t l b b′ : List ℕ) (r : Outcome) → ToBiblatexString verb t l b r b′ →
-      (r ≡ outcome.Refused (nowhere NoRoom)) ↔ ((n : ℕ) × Answered (ToBiblatexString verb t l) n × (length b < n))
+      (r ≡ outcome.Refused (nowhere NoRoom)) ↔ ((n : ℕ) × Answered (ToBiblatexString verb t l) (outcome.Count n) × (length b < n))

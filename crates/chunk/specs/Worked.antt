@@ -1,22 +1,15 @@
 -- Chunks and what both writers make of them: the chunks of real values, and line ends, white space and extra braces across chunks.
 --     table, Worked       the proof of `Worked` is `worked` of proofs/Worked.antt
 -- Assumes nothing.
-use Prim.Native.Nat.{ℕ}
-use Prim.Native.Char.{code}
-use Prim.Native.String.{String, [] as none, _∷_ as _and_}
+use Prim.Native.String.{String}
 use mathlib.Core.Path.{_≡_}
 use mathlib.Core.Bool.{true, false}
-use mathlib.Core.List.{List, [], _∷_, _++_, map}
-use Rattle.text.specs.Utf8.{octets}
+use mathlib.Core.List.{List, [], _∷_, map}
+use Rattle.text.specs.Strings.{utf8}
 use Rattle.chunk.specs.declared.form.Kind.{Kind}
 use Rattle.chunk.specs.declared.form.Kind.the-variants.{Normal, Verbatim, Math}
 use Rattle.chunk.specs.Chunk.{Chunk, chunk}
 use Rattle.chunk.specs.Format.{formatVerbatim, toBiblatexString}
-
--- the octets of a text
-unfoldable pub utf8 : String → List ℕ
-utf8 none = []
-utf8 (c and s) = octets (code c) ++ utf8 s
 
 -- a chunk, whose span no writer looks at
 infix 80 _of_

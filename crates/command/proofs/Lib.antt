@@ -2,7 +2,9 @@
 
 -- text under construction
 pub mod stacks
--- the ways through each function
+-- one law for each way through each function
 pub mod ways
 -- any two outcomes that a contract allows are the same
 pub mod Unique
+-- the proof of specs/WellFormed.antt: what a command writes is UTF-8, and short
+pub mod WellFormed

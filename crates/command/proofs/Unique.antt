@@ -1,6 +1,6 @@
--- What the contracts settle: any two outcomes that one allows are the same. Stated of each contract as the check reads it off the source, so
--- that a contract which said less would fail here. Of a text that is written, the new end and all up to it are settled; what lies past the end
--- is left open on purpose, and `wipe` clears it.
+-- Each contract allows one outcome only. This is said of the contract as the check reads it off the source, so that a contract which said
+-- less would fail here. Of a text that is written, the new end and all up to it are settled; what lies past the end is left open on purpose,
+-- and `wipe` clears it.
 -- Assumes nothing.
 use Prim.Native.Nat.{ℕ}
 use mathlib.Core.Path.{_≡_, sym, _∙_}
@@ -11,7 +11,6 @@ use Rattle.command.specs.Stack.{Lays}
 use Rattle.command.proofs.names.names.Reads as names
 use Rattle.command.proofs.meaning.meaning_of.Reads as meaning-of
 use Rattle.command.proofs.execute.is_single_char_func.Reads as is-single-char-func
-use Rattle.command.proofs.execute.last_char_combine.Reads as last-char-combine
 use Rattle.command.proofs.execute.execute_before.Reads as execute-before
 use Rattle.command.proofs.execute.execute_command.Reads as execute-command
 use Rattle.command.proofs.execute.execute_bare.Reads as execute-bare
@@ -36,10 +35,6 @@ one-end n w o r o₁ q o₂ h k = h .end ∙ sym (k .end)
 
 pub one-text : (n : ℕ) (w o : List ℕ) (r : ℕ) (o₁ : List ℕ) (q : ℕ) (o₂ : List ℕ) → Lays n w o r o₁ → Lays n w o q o₂ → take r o₁ ≡ take q o₂
 one-text n w o r o₁ q o₂ h k = h .text ∙ sym (k .text)
-
-pub one-combine : (κs : Lfts 2) (a : _) (x y : _) (s t : _) → last-char-combine.Post κs a x s → last-char-combine.Post κs a y t
-    → (x ≡ y) × (take x (s .1 .0 .now) ≡ take y (t .1 .0 .now))
-one-combine κs a x y s t p q = (one-end _ _ _ _ _ _ _ (p .0) (q .0), one-text _ _ _ _ _ _ _ (p .0) (q .0))
 
 pub one-before : (κs : Lfts 2) (a : _) (x y : _) (s t : _) → execute-before.Post κs a x s → execute-before.Post κs a y t
     → (x ≡ y) × (take x (s .1 .1 .1 .1 .0 .now) ≡ take y (t .1 .1 .1 .1 .0 .now))

@@ -1,12 +1,12 @@
--- One law for each way through a function, over what its calls told.
+-- One law for each way through a function, over what its calls answered.
 
 -- a chain of tests, as the code joins them and as `mark` does: `is_single_char_func`
 pub mod SingleCharTests
 -- the list of commands and its rows of bytes: src/meaning.rt
 pub mod MeaningRows
--- a mark onto the last character of an argument: `last_char_combine`
+-- a mark put onto the last character of an argument: `last_char_combine`
 pub mod LastCharacterWays
--- what comes of a command: src/execute.rt
+-- what a command writes: src/execute.rt
 pub mod ExecuteWays
 -- a chunk's text formatted in place: src/settle.rt
 pub mod SettleWays

@@ -8,7 +8,7 @@ use mathlib.Core.Bool.{Bool, true, false, cond, _&&_, _||_}
 use mathlib.Core.List.{List, [], _∷_}
 use lib.Dec.{eqb}
 use Rattle.text.specs.Class.{mark}
-use Rattle.chunk.specs.Worked.{utf8}
+use Rattle.text.specs.Strings.{utf8}
 use Rattle.command.specs.declared.meaning.Meaning.{Meaning}
 use Rattle.command.specs.declared.meaning.Meaning.the-variants.{Itself, Letter, Accent, Slash, Copyright, Hyphenation, Unknown}
 

@@ -2,3 +2,4 @@ pub mod Stack
 pub mod Commands
 pub mod Execute
 pub mod Names
+pub mod WellFormed

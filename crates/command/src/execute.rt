@@ -63,7 +63,7 @@ fn bare(mark: u32) -> u32
 
 // A mark onto the last character of the argument that stands from a place to another. The text grows by two bytes at most: a mark has two, and
 // a composed character is at most two longer than its letter.
-pub fn last_char_combine(marks: &[u32], out: &mut [u8], from: usize, to: usize, mark: u32) -> usize
+fn last_char_combine(marks: &[u32], out: &mut [u8], from: usize, to: usize, mark: u32) -> usize
     requires { ⌜ (now marks ≡ numbers composites) × (from ≤ to) × (to + 2 ≤ length (now out)) × (isScalar mark ≡ true) × (mark ≤ 0x7FF) ⌝ }
     ensures { λ r. ⌜ Lays from (lastCharCombine (given (part (now (out .entry)) from to)) mark) (now (out .entry)) r (now (out .exit)) ⌝ }
     ensures { λ r. ⌜ r ≤ to + 2 ⌝ }

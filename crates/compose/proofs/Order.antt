@@ -1,7 +1,7 @@
 -- The order of letters and marks: what the test `before` says, in numbers.
 --     Less               comes before; `before-less`, `less-trans`, `less-apart`
---     apart              the test for the same letter and mark fails on others
---     neither            two of which none comes before the other are the same
+--     apart              the test for the same letter and mark fails where these differ
+--     neither            where neither of two comes before the other, they are the same
 -- Assumes nothing.
 use Prim.Native.Nat.{ℕ, _≤_, _<_}
 use native.Mathlib.Omega.{arith}
@@ -21,12 +21,12 @@ less-trans a b c d e f (smaller x) (same y q) = smaller (omega arith)
 less-trans a b c d e f (same x p) (smaller y) = smaller (omega arith)
 less-trans a b c d e f (same x p) (same y q) = same (omega arith) (omega arith)
 
--- what comes before others is not the same
+-- a letter and a mark that come before others are not the same
 pub less-apart : (a b c d : ℕ) → Less a b c d → a ≡ c → b ≡ d → ⊥
 less-apart a b c d (smaller x) p q = omega arith
 less-apart a b c d (same x y) p q = omega arith
 
--- the test for the same letter and mark
+-- the test for the same letter and mark fails where these differ
 pub apart : (a b c d : ℕ) → (a ≡ c → b ≡ d → ⊥) → (eqb a c && eqb b d) ≡ false
 apart a b c d ne = by (eqb a c) (eqb b d) refl refl
   where

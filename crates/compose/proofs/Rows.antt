@@ -21,7 +21,7 @@ use Rattle.compose.proofs.Order.{Less, before-less, less-trans, less-ap
 abbrev pub rowOf : List Row → ℕ → Row
 rowOf rs k = rowAt (numbers rs) k
 
--- a row and another come in this order
+-- the first row comes before the second
 infix 20 _≺_
 abbrev pub _≺_ : Row → Row → Type 0
 _≺_ r s = Less (r .letter) (r .mark) (s .letter) (s .mark)

@@ -1,5 +1,5 @@
--- What the public contracts settle: any two outcomes that one allows are the same. Stated of each contract as the check reads it off the
--- source, so that a contract which said less would fail here.
+-- Each public contract allows one outcome only. This is said of the contract as the check reads it off the source, so that a contract
+-- which said less would fail here.
 -- Assumes nothing.
 use mathlib.Core.Path.{_≡_, sym, _∙_}
 use contract.Lifetimes.{Lfts}

@@ -13,21 +13,21 @@ use Rattle.row.specs.declared.fault.Reason.the-variants.{NoRoom, BadRows}
 use Rattle.row.specs.declared.fault.Fault.{Fault}
 use Rattle.row.specs.declared.fault.Outcome.{Outcome}
 use Rattle.row.specs.declared.fault.Outcome.the-variants.{Count, Refused}
-use Rattle.row.specs.Fault.{numberOf, nowhere}
+use Rattle.row.specs.Fault.{numberOf, nowhere, Answered}
 use Rattle.pack.specs.Answer.{answerOf}
 use Rattle.pack.specs.Pack.{isPackable, bytesFor, packedOf, packedInto, Pack}
 use Rattle.pack.specs.Unpack.{isUnpackable, unpackedOf, unpackedInto, Unpack}
-use Rattle.pack.specs.Refusals.{PackFault, full, unsound, Answered, Refusals}
+use Rattle.pack.specs.Refusals.{PackFault, full, unsound, Refusals}
 
 fault-of : (x y : Bool) (n : ℕ) (f : Fault) → Refused f ≡ answerOf x y n → PackFault f
 fault-of true true n f e = let z : _≡_ {A = ℕ} 0 1 = cc in absurd (omega arith)
 fault-of true false n f e = let q : nowhere NoRoom ≡ f = cc in subst PackFault q full
 fault-of false y n f e = let q : nowhere BadRows ≡ f = cc in subst PackFault q unsound
 
--- ---- 16, of an input that is accepted or not, and whose answer is n
+-- ---- 16. The input is accepted or not, and n is how much its answer needs
 
 module _ (accepted : Bool) (n : ℕ) where
-  -- it was accepted, and x is too little
+  -- where 16 is answered, the input was accepted and x is less than n
   full-told : (x : ℕ) → answerOf accepted (leb n x) n ≡ Refused (nowhere NoRoom) → (accepted ≡ true) × (x < n)
   full-told x = by accepted (leb n x) refl
     where
@@ -38,11 +38,11 @@ module _ (accepted : Bool) (n : ℕ) where
           let q : nowhere BadRows ≡ nowhere NoRoom = cc in
           let n : _≡_ {A = ℕ} 17 16 = ap (λ (f : Fault). numberOf (f .reason)) q in absurd (omega arith)
 
-  -- where it is accepted and n is lent, n is the answer
+  -- where the input is accepted and n or more is lent, the answer is n
   enough : (x : ℕ) → accepted ≡ true → n ≤ x → Count n ≡ answerOf accepted (leb n x) n
   enough x e h = rw (e, le-leb n x h)
 
-  -- where m is an answer, less than m is too little
+  -- where m is the answer over enough room, 16 is the answer over less than m
   too-little : (x y m : ℕ) → Count m ≡ answerOf accepted (leb n y) n → x < m → answerOf accepted (leb n x) n ≡ Refused (nowhere NoRoom)
   too-little x y m = by accepted (leb n y)
     where
@@ -51,7 +51,7 @@ module _ (accepted : Bool) (n : ℕ) where
       by true false e h = let z : _≡_ {A = ℕ} 0 1 = cc in absurd (omega arith)
       by false b e h = let z : _≡_ {A = ℕ} 0 1 = cc in absurd (omega arith)
 
-packs-full : (l b b′ : List ℕ) (r : Outcome) → Pack l b r b′ → (r ≡ Refused (nowhere NoRoom)) ↔ ((n : ℕ) × Answered (Pack l) n × (length b < n))
+packs-full : (l b b′ : List ℕ) (r : Outcome) → Pack l b r b′ → (r ≡ Refused (nowhere NoRoom)) ↔ ((n : ℕ) × Answered (Pack l) (Count n) × (length b < n))
 unfolding packedOf
 packs-full l b b′ r p = (
   λ e.
@@ -64,7 +64,7 @@ packs-full l b b′ r p = (
   λ h. p .answer ∙ too-little (isPackable l) (bytesFor (length l)) (length b) (length (h .1 .0)) (h .0) (h .1 .2 .answer) (h .2),
 )
 
-unpacks-full : (s b b′ : List ℕ) (r : Outcome) → Unpack s b r b′ → (r ≡ Refused (nowhere NoRoom)) ↔ ((n : ℕ) × Answered (Unpack s) n × (length b / 4 < n))
+unpacks-full : (s b b′ : List ℕ) (r : Outcome) → Unpack s b r b′ → (r ≡ Refused (nowhere NoRoom)) ↔ ((n : ℕ) × Answered (Unpack s) (Count n) × (length b / 4 < n))
 unfolding unpackedOf
 unpacks-full s b b′ r p = (
   λ e.

@@ -1,10 +1,10 @@
--- Rows as bytes, by the definitions alone.
+-- Rows as bytes: laws of the definitions.
 
--- a number and its digits in a base, over the base and the width
+-- a number and its digits, for any base and any number of digits
 pub mod Digits
 -- bytes taken as rows, seven to a row
 pub mod SevenBytes
--- what packable numbers and unpackable bytes are
+-- what it means that numbers are packable and that bytes are unpackable
 pub mod AcceptedInput
 -- packing and unpacking undo each other
 pub mod Inverse

@@ -7,7 +7,7 @@ use mathlib.Core.List.{List}
 use lib.ListN.{length}
 use Rattle.row.specs.declared.fault.Reason.the-variants.{NoRoom, BadRows}
 use Rattle.row.specs.declared.fault.Fault.{Fault}
-use Rattle.row.specs.Fault.{nowhere}
+use Rattle.row.specs.Fault.{nowhere, Answered}
 use Rattle.row.specs.declared.fault.Outcome.{Outcome}
 use Rattle.row.specs.declared.fault.Outcome.the-variants.{Count, Refused}
 use Rattle.pack.specs.Pack.{Pack}
@@ -18,16 +18,12 @@ pub data PackFault : Fault → Type 0 where
   full : PackFault (nowhere NoRoom)
   unsound : PackFault (nowhere BadRows)
 
--- of an input, over whatever is lent for the output: there is an answer, of n bytes or rows
-abbrev pub Answered : (List ℕ → Outcome → List ℕ → Type 0) → ℕ → Type 0
-Answered call n = (c : List ℕ) × (c′ : List ℕ) × call c (Count n) c′
-
 pub record Refusals : Type 0 where
   -- `pack` and `unpack` answer no others
   pub packs : (l b b′ : List ℕ) (f : Fault) → Pack l b (Refused f) b′ → PackFault f
   pub unpacks : (s b b′ : List ℕ) (f : Fault) → Unpack s b (Refused f) b′ → PackFault f
   -- "then 16 exactly if an answer exists and needs more rows or bytes than a lent output has"
   pub packs-full : (l b b′ : List ℕ) (r : Outcome) → Pack l b r b′ →
-      (r ≡ Refused (nowhere NoRoom)) ↔ ((n : ℕ) × Answered (Pack l) n × (length b < n))
+      (r ≡ Refused (nowhere NoRoom)) ↔ ((n : ℕ) × Answered (Pack l) (Count n) × (length b < n))
   pub unpacks-full : (s b b′ : List ℕ) (r : Outcome) → Unpack s b r b′ →
-      (r ≡ Refused (nowhere NoRoom)) ↔ ((n : ℕ) × Answered (Unpack s) n × (length b / 4 < n))
+      (r ≡ Refused (nowhere NoRoom)) ↔ ((n : ℕ) × Answered (Unpack s) (Count n) × (length b / 4 < n))

@@ -1,5 +1,5 @@
--- The proof of specs/Braces.antt: `braced-value`. With d more braces open, the loop of `inBraces` answers the first closing brace that
--- outnumbers them too, or refuses because there is none: by what is seen at each place.
+-- The proof of specs/Braces.antt: `braced-value`. It is proved of the loop of `inBraces` with d braces open already: the loop ends at the
+-- first closing brace that outnumbers these and those opened since, or refuses because there is none. What is seen at each place decides.
 -- Assumes nothing.
 use Prim.Native.Nat.{ℕ, zero, suc, _+_, _≤_, _<_}
 use native.Mathlib.Omega.{arith}
@@ -23,7 +23,7 @@ use Rattle.raw.proofs.readers.Loop.{many-turn}
 use Rattle.raw.proofs.grammar.Readers.{braced-turn-kept}
 use Rattle.raw.proofs.ways.ByteTurns.{slash-on, open-on, close-on, close-stop, braces-cut-off, braces-other}
 
--- a closing brace outnumbers those that opened since p, and d more
+-- at q stands a closing brace that outnumbers the braces opened since p, and d more
 record OutBy (d : ℕ) (s : List ℕ) (p q : ℕ) : Type 0 where
   opened : ℕ
   closed : ℕ
@@ -34,7 +34,7 @@ record OutBy (d : ℕ) (s : List ℕ) (p q : ℕ) : Type 0 where
 
 -- ---- what is seen at a place decides
 
--- one place shows one character
+-- what is seen at a place is one thing: not two characters, and not a character and the end
 apart : {A : Type 0} {x : Seen} {a b k n : ℕ} → x ≡ Char a k → x ≡ Char b n → (a ≡ b → ⊥) → A
 apart {a = a} {b} {k} {n} e f h = let z : Char a k ≡ Char b n = sym e ∙ f in absurd (h cc)
 
@@ -44,7 +44,7 @@ ended {b = b} {n} e f = let z : End ≡ Char b n = sym e ∙ f in let y : _≡_ 
 same-place : {x : Seen} {a b k n : ℕ} → x ≡ Char a k → x ≡ Char b n → n ≡ k
 same-place {a = a} {b} {k} {n} e f = let z : Char a k ≡ Char b n = sym e ∙ f in cc
 
--- braces are counted forward
+-- braces are counted from a place to one that is not before it
 forward : {s : List ℕ} {p q o c : ℕ} → Braces s p q o c → p ≤ q
 forward none = omega arith
 forward {s} {p} (pair {b = b} {n} {x = x} e f h) =
@@ -53,10 +53,10 @@ forward {s} {p} (opens {n = n} e h) = let i = seeing .see-ahead s p 0x7B n e in 
 forward {s} {p} (closes {n = n} e h) = let i = seeing .see-ahead s p 0x7D n e in omega (arith, forward h)
 forward {s} {p} (other {n = n} {x = x} e u v w h) = let i = seeing .see-ahead s p x n e in omega (arith, forward h)
 
--- ---- one place on, by what stands there
+-- ---- one step on: the same brace outnumbers from the next place on, by what stands at p
 
 module _ {s : List ℕ} {p : ℕ} where
-  -- the end of the text
+  -- at the end of the text there is no such brace
   no-end : {q d : ℕ} → see s p ≡ End → OutBy d s p q → ⊥
   no-end {q} z x = by q (x .counted) (x .brace)
     where
@@ -67,7 +67,7 @@ module _ {s : List ℕ} {p : ℕ} where
       by q (closes e h) b = ended z e
       by q (other e u v w h) b = ended z e
 
-  -- a backslash before the end of the text
+  -- behind a backslash at the end of the text there is no such brace
   no-pair : {q d b : ℕ} → see s p ≡ Char 0x5C b → see s b ≡ End → OutBy d s p q → ⊥
   no-pair {q} {b = b} z y x = by q (x .counted) (x .brace)
     where
@@ -134,7 +134,7 @@ Answers d s p (ok q rs) = (rs ≡ []) × OutBy d s p q × ((r : ℕ) → OutBy d
 Answers d s p (again q rs a) = ⊥
 Answers d s p (bad f) = (f .reason ≡ UnexpectedEof) × ((q : ℕ) → OutBy d s p q → ⊥)
 
--- from a place further on
+-- where the same braces outnumber from p on and from k on, an answer that is right from k on is right from p on
 carry : (d e : ℕ) (s : List ℕ) (p k : ℕ) (o : Out) → ((q : ℕ) → OutBy e s k q → OutBy d s p q) → ((q : ℕ) → OutBy d s p q → OutBy e s k q) →
     Answers e s k o → Answers d s p o
 carry d e s p k (ok q rs) f g x = (x .0, f q (x .1), λ r y. x .2 r (g r y))
@@ -151,12 +151,12 @@ module _ (s : List ℕ) where
   on-turn : (d e p k : ℕ) → bracedTurn d s p ≡ again k [] e → rest d p ≡ rest e k
   on-turn d e p k h = by-turn d p h ∙ more-none (rest e k)
 
-  -- the end of the text
+  -- at the end of the text
   at-end : (d p : ℕ) → see s p ≡ End → Answers d s p (rest d p)
   at-end d p z = subst (Answers d s p) (sym (by-turn d p (braces-cut-off d s p z))) (refl, λ q y. no-end z y)
 
   module _ (p : ℕ) (go : (e k : ℕ) → p < k → Answers e s k (rest e k)) where
-    -- one turn, to k
+    -- after a turn that goes to k
     by-rest : (d e k : ℕ) → p < k → bracedTurn d s p ≡ again k [] e →
         ((q : ℕ) → OutBy e s k q → OutBy d s p q) → ((q : ℕ) → OutBy d s p q → OutBy e s k q) → Answers d s p (rest d p)
     by-rest d e k l h f g = subst (Answers d s p) (sym (on-turn d e p k h)) (carry d e s p k (rest e k) f g (go e k l))

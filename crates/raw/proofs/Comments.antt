@@ -83,7 +83,7 @@ module _ (s : List ℕ) where
   ends zero p h = let z = seeing .see-end s p (omega arith) in rw (scan-end no-brace s p z) (none, end z)
   ends (suc n) p h = ends-here p (λ k l. ends n k (omega arith))
 
-  -- and nowhere else
+  -- the place that closes the comment, with no closing brace before it, is where the scan ends
   ended : {p q : ℕ} → Unclosed s p q → Closed s q → scanned no-brace s p ≡ ok q []
   ended {p} none (brace {n = n} z) = scan-stop no-brace s p 0x7D n z (brace-fails 0x7D refl)
   ended {p} none (end z) = scan-end no-brace s p z
@@ -105,7 +105,7 @@ module _ (s : List ℕ) (p q : ℕ) (b : Begins s p q) where
       let y : End ≡ Char 0x25 (b .next) = sym z ∙ ap (see s) i ∙ b .percent in
       let k : _≡_ {A = ℕ} 0 1 = cc in absurd (omega arith)
 
-  -- no name begins with it
+  -- no name begins with a percent sign
   no-start : isIdStart 0x25 ≡ false
   unfolding isIdStart isIdContinue
   no-start = refl

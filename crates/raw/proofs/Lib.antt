@@ -4,9 +4,9 @@
 pub mod readers
 -- the readers of the grammar, and what their laws say of a file
 pub mod grammar
--- the words of the inner contracts
+-- the definitions with which the inner contracts are written
 pub mod contracts
--- the ways through each function
+-- one law for each way through each function
 pub mod ways
 -- the cases of specs/Worked.antt compute
 pub mod Worked

@@ -1,8 +1,9 @@
--- Which refusals strict reading can answer, and their places: `refusals`. When a call answers 16: `sixteen`.
+-- Which refusals strict reading can answer, and their places: `refusals`. When a call answers 16: `own-or-full` and `sixteen`.
 -- Assumes nothing.
 use Prim.Native.Nat.{ℕ, _*_, _/_, _≤_, _<_}
 use native.Mathlib.Omega.{arith}
 use mathlib.Core.Path.{_≡_, refl, sym, ap, _∙_, subst}
+use mathlib.Core.Logic.{inl, inr, ⊎-elim}
 use mathlib.Core.Bool.{Bool, true, false, cond}
 use mathlib.Core.List.{List}
 use lib.ListN.{length, replicate, length-replicate}
@@ -17,14 +18,14 @@ use Rattle.raw.specs.declared.answer.Reading.the-variants as reading
 use Rattle.raw.specs.Reader.{Out, ok, again, bad}
 use Rattle.raw.specs.Grammar.{file}
 use Rattle.raw.specs.Read.{strict, readingOut, leftOut, Read}
-use Rattle.raw.specs.Refusals.{ReadFault, long, met, full, Sixteen, Refusals}
+use Rattle.raw.specs.Refusals.{ReadFault, long, met, full, OwnOrFull, Sixteen, Refusals}
 use Rattle.raw.proofs.readers.Trace.{Refused, Traced}
 use Rattle.raw.proofs.grammar.Readers.{from-start}
 use Rattle.raw.proofs.grammar.Files.{file-laws}
 use Rattle.raw.proofs.Strict.{strict-by, file-refuses}
 
 module _ (s : List ℕ) (f : Fault) where
-  -- a refusal that was made here
+  -- equal refusals can be answered alike
   made : (g : Fault) → _≡_ {A = Out} (bad g) (bad f) → ReadFault s g → ReadFault s f
   made g e x = let q : g ≡ f = cc in subst (ReadFault s) q x
 
@@ -40,27 +41,23 @@ module _ (s : List ℕ) (f : Fault) where
       (λ n h e. made (faultAt NotUtf8 n) e (met NotUtf8 n (omega arith) (omega arith) (omega arith)))
       (λ o. file-fault)
 
-  -- rows that do not fit
-  rows-fault : (rs : List Row) (n : ℕ) →
-      reading.Refused f ≡ cond (leb (length rs) (n / 4)) (reading.Rows (length rs)) (reading.Refused (nowhere NoRoom)) → ReadFault s f
-  rows-fault rs n = by (leb (length rs) (n / 4))
-    where
-      by : (x : Bool) → reading.Refused f ≡ cond x (reading.Rows (length rs)) (reading.Refused (nowhere NoRoom)) → ReadFault s f
-      by true e = let z : _≡_ {A = ℕ} 0 1 = cc in absurd (omega arith)
-      by false e = let q : nowhere NoRoom ≡ f = cc in subst (ReadFault s) q full
+-- rows that do not fit are refused with 16
+rows-refused : (n : ℕ) (x : Bool) {f : Fault} → reading.Refused f ≡ cond x (reading.Rows n) (reading.Refused (nowhere NoRoom)) → nowhere NoRoom ≡ f
+rows-refused n true e = let z : _≡_ {A = ℕ} 0 1 = cc in absurd (omega arith)
+rows-refused n false e = cc
 
-  out-fault : (o : Out) (n : ℕ) → strict s ≡ o → reading.Refused f ≡ readingOut o n → ReadFault s f
-  out-fault (ok q rs) n d e = rows-fault rs n e
-  out-fault (again q rs a) n d e = rows-fault rs n e
-  out-fault (bad g) n d e = let q : g ≡ f = cc in strict-fault (d ∙ ap bad q)
+pub own-or-full : OwnOrFull
+own-or-full (ok q rs) size f e = inr (rows-refused (length rs) (leb (length rs) (size / 4)) e)
+own-or-full (again q rs a) size f e = inr (rows-refused (length rs) (leb (length rs) (size / 4)) e)
+own-or-full (bad g) size f e = let q : g ≡ f = cc in inl (ap bad q)
 
--- ---- 16, of a reading that finds o
+-- ---- when 16 is answered by a call whose answer and rows are those of a reading o
 
--- numbers enough for n rows
+-- enough numbers for n rows
 abbrev room : ℕ → List ℕ
 room n = replicate (n * 4) 0
 
--- where rows were found: too few numbers are lent; and where n rows are answered, less is too little
+-- a reading that finds the rows rs: where too few numbers are lent the answer is 16, and where enough are it is their count
 module _ (rs : List Row) where
   abbrev rowsOr : ℕ → Reading
   rowsOr x = cond (leb (length rs) (x / 4)) (reading.Rows (length rs)) (reading.Refused (nowhere NoRoom))
@@ -97,7 +94,7 @@ enough (ok q rs) other x e = (length rs, room (length rs), rows-enough rs, rows-
 enough (again q rs a) other x e = (length rs, room (length rs), rows-enough rs, rows-full rs x e)
 enough (bad f) other x e = let z : f ≡ nowhere NoRoom = cc in absurd (other (ap bad z))
 
--- of a call whose answer and rows are those of o
+-- such a call answers 16 exactly if there is an answer that needs more than is lent
 pub sixteen : Sixteen
 sixteen o other call told make b b′ r p = (
   λ e.
@@ -106,11 +103,11 @@ sixteen o other call told make b b′ r p = (
   λ h. told b b′ r p ∙ too-little o (length b) (length (h .1 .0)) (h .0) (told (h .1 .0) (h .1 .1) (reading.Rows (h .0)) (h .1 .2)) (h .2),
 )
 
--- a refusal of another number
+-- a refusal with a number below 16 is not 16
 not-sixteen : {f : Fault} → f ≡ nowhere NoRoom → numberOf (f .reason) < 16 → ⊥
 not-sixteen e h = let n = ap (λ (f : Fault). numberOf (f .reason)) e in omega arith
 
--- strict reading refuses with no 16 of its own
+-- strict reading by itself never refuses with 16
 strict-not-full : (s : List ℕ) → strict s ≡ bad (nowhere NoRoom) → ⊥
 strict-not-full s =
     strict-by s (λ o. o ≡ bad (nowhere NoRoom) → ⊥) (λ e. let q : nowhere TooLong ≡ nowhere NoRoom = cc in not-sixteen q (omega arith))
@@ -121,6 +118,6 @@ strict-not-full s =
 pub refusals : Refusals
 refusals =
     record {
-      reads = λ s b b′ f r. out-fault s f (strict s) (length b) refl (r .answer);
+      reads = λ s b b′ f r. ⊎-elim (strict-fault s f) (λ q. subst (ReadFault s) q full) (own-or-full (strict s) (length b) f (r .answer));
       no-room = λ s. sixteen (strict s) (strict-not-full s) (Read s) (λ b b′ r p. p .answer) (λ b. record { answer = refl; rows = refl });
     }

@@ -1,6 +1,6 @@
--- The steps of strict reading: the length of the text, its UTF-8, and then the grammar. And the proof of specs/Steps.antt: `steps`.
---     strict-valid, strict-ill, strict-is     a text inside the limit, by its UTF-8
---     strict-short, strict-ok     what an accepted text is
+-- The proof of specs/Steps.antt: `steps`. Strict reading asks the length of the text, its UTF-8, and then the grammar.
+--     strict-valid, strict-ill, strict-is     strict reading of a text inside the limit, by whether it is UTF-8
+--     strict-short, strict-ok     an accepted text is inside the limit, UTF-8, and accepted by the grammar
 --     strict-file                 where strict reading does not refuse, it is the grammar's reading
 --     strict-bad                  a text inside the limit is refused with 2 or more
 --     strict-spans                the spans of an accepted text's rows lie in it

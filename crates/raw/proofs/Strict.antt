@@ -1,5 +1,5 @@
 -- The proof of specs/Strict.antt: `strict-reading`.
---     file-turn       a file is its first item, and then the file
+--     file-turn       a file is its first item and then a file
 --     file-ends       an accepted text is read to its end
 -- Assumes nothing.
 use Prim.Native.Nat.{ℕ, zero, suc, _≤_, _<_, max}
@@ -39,7 +39,7 @@ use Rattle.raw.proofs.grammar.Readers.{from-start, white-laws, comment-
 use Rattle.raw.proofs.grammar.Entries.{entry-kept}
 use Rattle.raw.proofs.grammar.Files.{file-turn-kept, file-turn-laws, file-laws, file-rules, file-few, file-early}
 
--- ---- no fuel
+-- ---- the loop of the file, without its fuel
 
 file-any : (a : ℕ) (s : List ℕ) (p : ℕ) → many fileTurn a s p ≡ file s p
 unfolding fileTurn file
@@ -53,10 +53,10 @@ file-turn s p = sym (file-any 0 s p) ∙ many-turn file-turn-kept 0 s p ∙ by (
     by (again q rs a) = ap (more rs) (file-any a s q)
     by (bad f) = refl
 
--- ---- to the end
+-- ---- an accepted text is read to its end
 
 module _ (s : List ℕ) where
-  -- an answer is no turn, and if it accepts, then at the end of the text
+  -- an answer that accepts does so at the end of the text; and an answer of the whole loop (`Done`) is no turn
   abbrev Ends : Out → Type 0
   Ends (ok q rs) = length s ≤ q
   Ends (again q rs a) = Unit {0}
@@ -155,7 +155,7 @@ file-refuses s f e =
       early = file-early s 0 f e;
     }
 
--- by what strict reading is: a text too long, one that is not UTF-8, or the file
+-- P holds of strict reading if it holds of the refusals of a text that is too long or not UTF-8, and of what the grammar reads
 module _ (s : List ℕ) (P : Out → Type 0) (long : P (bad (nowhere TooLong))) (ill : (n : ℕ) → n < length s → P (bad (faultAt NotUtf8 n)))
     (read : Octets s → P (file s 0)) where
   checked-by : (v : Validity) → validityOf s ≡ v → P (checked s v)
@@ -176,7 +176,7 @@ accepts s q rs =
     (λ e. let z : _≡_ {A = ℕ} 0 1 = cc in absurd (omega arith)) (λ n h e. let z : _≡_ {A = ℕ} 0 1 = cc in absurd (omega arith))
     (file-accepts s q rs)
 
--- before a text is read
+-- a refusal with 1 or 2, before the grammar is asked
 unread : (s : List ℕ) (reason : Reason) (p : ℕ) → (1 ≤ numberOf reason) × (numberOf reason ≤ 2) → p ≤ length s
     → Refusal s (faultAt reason p)
 unread s reason p k h =

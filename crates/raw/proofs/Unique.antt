@@ -1,5 +1,5 @@
--- What the public contracts settle: any two outcomes that one allows are the same. Stated of each contract as the check reads it off the
--- source, so that a contract which said less would fail here.
+-- Each public contract allows one outcome only. This is said of the contract as the check reads it off the source, so that a contract
+-- which said less would fail here.
 --     the same answer and the same rows       `read`
 --     the same answer                         the readers without rows: the tokens, `string`, and `refused`
 -- The readers with rows (`parse`, `entry`, `fields`, `abbr_field`) are left out: after a refusal they say nothing of the lent numbers,
@@ -62,7 +62,7 @@ one-ident κs a x y s t p q = p .0 ∙ sym (q .0)
 pub one-string : One 1 string-kinds.ps string-kinds.r string.Post
 one-string κs a x y s t p q = p .0 ∙ sym (q .0)
 
--- a place is that of one step
+-- equal steps have equal places
 same-place : {p q : ℕ} → step.At p ≡ step.At q → p ≡ q
 same-place e = cc
 

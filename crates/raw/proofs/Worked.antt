@@ -2,6 +2,7 @@
 -- Assumes nothing.
 use mathlib.Core.Path.{refl}
 use Rattle.text.specs.Walk.{walkFrom}
+use Rattle.text.specs.Strings.{utf8}
 use Rattle.text.specs.Utf8.{alternatives, begins, widthBy, gather, value, octets, lookValid, validityOf}
 use Rattle.text.specs.Class.{whiteSpace, control, isWhitespace, isControl, isKey, isIdContinue, isIdStart, holdsOf}
 use Rattle.text.specs.Scan.{code, seeFrom}
@@ -12,7 +13,7 @@ use Rattle.raw.specs.Grammar.{number, bracedTurn, inBraces, braced, iden
 use Rattle.raw.specs.Grammar.{field, fieldEnd, fieldsTurn, fields, key, spells, formOf, lead, rest, atSign, strings, preamble}
 use Rattle.raw.specs.Grammar.{commented, body, entry, fileTurn, file}
 use Rattle.raw.specs.Read.{strict}
-use Rattle.raw.specs.Worked.{utf8, table, Worked}
+use Rattle.raw.specs.Worked.{table, Worked}
 
 pub worked : Worked
 unfolding

@@ -2,15 +2,15 @@
 
 -- the order of rows that 01's rules ask
 pub mod RowOrder
--- where a reader refuses by 3, no value begins
+-- where a reader refuses with 3, no value begins
 pub mod Early
--- all laws of a reader in one record, closed under the ways to make readers
+-- all laws of a reader in one record, which the ways to make readers preserve
 pub mod Laws
--- readers that refuse by `UnexpectedEof`
+-- readers that refuse with `UnexpectedEof`
 pub mod UnexpectedEof
 -- the laws of each reader, in the grammar's order
 pub mod Readers
--- readers without rows, by the step that the code tells of them
+-- readers without rows: their answer, by the step that the code answers
 pub mod Rowless
 -- the word that an entry's type spells
 pub mod Spells

@@ -1,6 +1,6 @@
 -- Laws of readers and of the ways to make them (specs/Reader.antt), lowest first.
 
--- what every reader keeps: it goes on, stays inside, and answers the same on a text that shows the same
+-- what every reader keeps to: it goes forward, stays inside the text, and answers the same on a text that shows the same
 pub mod Kept
 -- one reader after another, and a row over what is read
 pub mod Then
@@ -10,9 +10,9 @@ pub mod Trace
 pub mod Spans
 -- loops: the fuel never runs out, and a loop keeps what its turns keep
 pub mod Loop
--- behind another text a reader answers what it answers without it, moved
+-- behind another text a reader gives the same answer, with its places moved
 pub mod Shifts
--- points of a reading: what was eaten, what pays the rows, and which rows may come
+-- points of a reading: how many bytes were eaten, which of them pay for rows, and which rows may come
 pub mod Points
--- a scan of the grammar is the scanner's
+-- a scan of the grammar ends where the scanner's `skip` does
 pub mod Scans

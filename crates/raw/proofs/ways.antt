@@ -1,6 +1,6 @@
--- One law for each way through a function, over what its calls told. The proofs of the functions supply the paths.
+-- One law for each way through a function, over what its calls answered. The proofs of the functions supply the paths.
 
--- loops that go by bytes, against turns that go by characters: only ASCII decides
+-- loops of the code go by bytes, and turns of the grammar by characters: they agree, because only ASCII decides
 pub mod ByteLoops
 -- the turns of `quoted`, `number` and `in_braces`, byte by byte
 pub mod ByteTurns
@@ -8,7 +8,7 @@ pub mod ByteTurns
 pub mod BlockLoops
 -- readers that look at one character, by what the code saw of it
 pub mod OneCharacter
--- the functions of src/token.rt, by what the scanner told
+-- the functions of src/token.rt, by what the scanner answered
 pub mod TokenWays
 -- a literal between two delimiters: `string_literal` and `braced`
 pub mod DelimitedLiteral

@@ -1,15 +1,15 @@
 -- Which refusals strict reading can answer [01:Numbers a caller can get], and their places. The proofs are
--- `sixteen` and `refusals` of proofs/Refusals.antt.
+-- `own-or-full`, `sixteen` and `refusals` of proofs/Refusals.antt.
 -- Assumes nothing.
 use Prim.Native.Nat.{ℕ, _/_, _≤_, _<_}
 use mathlib.Core.Path.{_≡_}
-use mathlib.Core.Logic.{_↔_}
+use mathlib.Core.Logic.{_↔_, _⊎_}
 use mathlib.Core.List.{List}
 use lib.ListN.{length}
 use Rattle.row.specs.declared.fault.Reason.{Reason}
 use Rattle.row.specs.declared.fault.Reason.the-variants.{TooLong, NoRoom}
 use Rattle.row.specs.declared.fault.Fault.{Fault}
-use Rattle.row.specs.Fault.{numberOf, faultAt, nowhere}
+use Rattle.row.specs.Fault.{numberOf, faultAt, nowhere, Answered}
 use Rattle.raw.specs.declared.answer.Reading.{Reading}
 use Rattle.raw.specs.declared.answer.Reading.the-variants.{Rows, Refused}
 use Rattle.raw.specs.Reader.{Out, bad}
@@ -21,13 +21,13 @@ pub data ReadFault (s : List ℕ) : Fault → Type 0 where
   met : (reason : Reason) (p : ℕ) → 2 ≤ numberOf reason → numberOf reason ≤ 10 → p ≤ length s → ReadFault s (faultAt reason p)
   full : ReadFault s (nowhere NoRoom)
 
--- of a call, over whatever is lent for the rows: there is an answer of n rows
-abbrev pub Answered : (List ℕ → Reading → List ℕ → Type 0) → ℕ → Type 0
-Answered call n = (c : List ℕ) × (c′ : List ℕ) × call c (Rows n) c′
+-- a refusal that is answered for a reading is the reading's own, or 16
+abbrev pub OwnOrFull : Type 0
+OwnOrFull = (o : Out) (size : ℕ) (f : Fault) → Refused f ≡ readingOut o size → (o ≡ bad f) ⊎ (nowhere NoRoom ≡ f)
 
 -- "then 16 exactly if an answer exists and needs more rows or bytes than a lent output has"
 abbrev pub Full : (List ℕ → Reading → List ℕ → Type 0) → Type 0
-Full call = (b b′ : List ℕ) (r : Reading) → call b r b′ → (r ≡ Refused (nowhere NoRoom)) ↔ ((n : ℕ) × Answered call n × (length b / 4 < n))
+Full call = (b b′ : List ℕ) (r : Reading) → call b r b′ → (r ≡ Refused (nowhere NoRoom)) ↔ ((n : ℕ) × Answered call (Rows n) × (length b / 4 < n))
 
 -- a call whose answer and rows are those of a reading which by itself never refuses with 16 answers 16 exactly then
 abbrev pub Sixteen : Type 1

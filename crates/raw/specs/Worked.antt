@@ -2,20 +2,14 @@
 --     table, Worked       the proof of `Worked` is `worked` of proofs/Worked.antt
 -- Assumes nothing.
 use Prim.Native.Nat.{ℕ}
-use Prim.Native.Char.{code}
-use Prim.Native.String.{String, [] as none, _∷_ as _and_}
+use Prim.Native.String.{String}
 use mathlib.Core.Path.{_≡_}
-use mathlib.Core.List.{List, [], _∷_, _++_, map}
-use Rattle.text.specs.Utf8.{octets}
+use mathlib.Core.List.{List, [], _∷_, map}
+use Rattle.text.specs.Strings.{utf8}
 use Rattle.row.specs.Row.{Row}
 use Rattle.row.specs.Fault.{numberOf}
 use Rattle.raw.specs.Reader.{Out, ok, again, bad}
 use Rattle.raw.specs.Read.{strict}
-
--- the file that holds a text
-unfoldable pub utf8 : String → List ℕ
-utf8 none = []
-utf8 (c and s) = octets (code c) ++ utf8 s
 
 -- what comes out: rows, or a number and its place
 pub data Outcome : Type 0 where

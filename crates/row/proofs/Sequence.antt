@@ -1,5 +1,5 @@
--- The proof of specs/Sequence.antt: `check`. A sequence of the grammar passes the check part by part; of rows that pass, what the check
--- awaits after the first of them says how the rest goes on (`Rest`), and the grammar's sequence is put together from the end.
+-- The proof of specs/Sequence.antt: `check`. A sequence of the grammar passes the check, part by part. Conversely, where rows pass, what
+-- the check awaits says what they are (`Rest`), and the grammar's sequence is put together from the last row to the first.
 -- Assumes nothing.
 use Prim.Native.Nat.{ℕ, _≤_}
 use native.Mathlib.Omega.{arith}
@@ -17,7 +17,7 @@ use Rattle.row.specs.Rules.{isKind, only, orChunk, begun, next, isDetail
 use Rattle.row.specs.Sequence.{Plain, Cause, Element, literal, name, Elements, one, more, Named, named, Fields, field, Part}
 use Rattle.row.specs.Sequence.{Sequence, Check, entry, definition, preamble, damage}
 use Rattle.row.specs.Sequence as grammar
-use Rattle.row.proofs.rules.Append.{run-append, rows-append}
+use Rattle.row.proofs.rules.Append.{run-append, run-wrong, rows-append}
 
 -- ---- a sequence of the grammar passes
 
@@ -42,7 +42,7 @@ unfolding next
 named-on k f a e h (named {n} {v} {rs} p q x) =
     row-on k a (v ∷ rs) e p ∙ ap (λ (b : Await). run b (v ∷ rs)) h ∙ row-on kind.Value (value f) rs refl q ∙ elements-on f (chunk f) refl refl x
 
--- a field may come
+-- a field may come: right after the key, or after a field's value
 data Open : Await → Type 0 where
   bare : Open (part true)
   filled : Open (chunks true)
@@ -78,7 +78,7 @@ sequence-on (grammar.Sequence.part {p} {rs} x y) = rows-append p rs (part-on x) 
 
 -- ---- rows that pass are a sequence
 
--- fields, and then a sequence
+-- the rows are fields, and then a sequence
 record Fielded (rs : List Row) : Type 0 where
   fs : List Row
   parts : List Row
@@ -114,7 +114,7 @@ data Typed : List Row → Type 0 where
 data Caused : List Row → Type 0 where
   caused : {c : Row} {rs : List Row} → Cause c → Sequence rs → Caused (c ∷ rs)
 
--- how rows go on that are accepted where a is awaited
+-- how rows are made up that pass where a is awaited
 abbrev Rest : Await → List Row → Type 0
 Rest (part f) rs = After f rs
 Rest type rs = Typed rs
@@ -125,7 +125,7 @@ Rest (chunks f) rs = Further f rs
 Rest cause rs = Caused rs
 Rest wrong rs = ⊥
 
--- no field, and a sequence
+-- a sequence without a field before it may follow a value
 later : (f : Bool) {rs : List Row} → Sequence rs → After f rs
 later true x = record { fs = []; parts = _; fields = grammar.Fields.none; sequence = x; same = refl }
 later false x = x
@@ -164,16 +164,7 @@ element-first f {r} {rs} x (over a) = record { es = r ∷ []; others = rs; eleme
 no : {A : Type 0} → false ≡ true → A
 no e = let z : _≡_ {A = ℕ} 0 1 = cc in absurd (omega arith)
 
-run-wrong : (rs : List Row) → run wrong rs ≡ wrong
-unfolding run next
-run-wrong [] = refl
-run-wrong (r ∷ rs) = by (isDetail (r .kind) (r .detail)) (run-wrong rs)
-  where
-    by : (b : Bool) → run wrong rs ≡ wrong → run (cond b wrong wrong) rs ≡ wrong
-    by true e = e
-    by false e = e
-
--- a test decides between an await and none
+-- a test that fails breaks the rules; so where the rows pass, it did not fail
 passes : (b : Bool) (a : Await) (rs : List Row) → whole (run (cond b a wrong) rs) ≡ true → (b ≡ true) × (whole (run a rs) ≡ true)
 passes true a rs h = (refl, h)
 passes false a rs h = no (sym (ap whole (run-wrong rs)) ∙ h)
@@ -192,7 +183,7 @@ cause-of r x d =
     record { is = is; least = leb-true 2 (r .detail) (y .0); most = leb-true (r .detail) 10 (y .1) }
 
 module _ (r : Row) (rs : List Row) (d : isDetail (r .kind) (r .detail) ≡ true) (go : (a : Await) → whole (run a rs) ≡ true → Rest a rs) where
-  -- a part begins, or a field where f says so
+  -- the row begins a part, or a field where f allows one
   begun-rest : (f : Bool) → whole (run (begun f (r .kind)) rs) ≡ true → After f (r ∷ rs)
   begun-rest f = by (isKind kind.Entry (r .kind)) (isKind kind.FieldName (r .kind) && f) (isKind kind.DefinitionName (r .kind)) (isKind kind.Preamble (r .kind)) refl refl refl refl
     where
@@ -210,7 +201,7 @@ module _ (r : Row) (rs : List Row) (d : isDetail (r .kind) (r .detail) ≡ true)
           let t = passes (isKind kind.Damage (r .kind)) cause rs h in
           later f (damage-first (plain kind.Damage r refl (t .0) d) (go cause (t .1)))
 
-  -- a literal or a name, or what else may come
+  -- the row is a literal or a name, or what else may come
   element-rest : (f : Bool) (a : Await) (P : Type 0) → (Elemented f (r ∷ rs) → P) → (whole (run a rs) ≡ true → P) →
       whole (run (orChunk f a (r .kind)) rs) ≡ true → P
   element-rest f a P on off = by (isKind kind.Literal (r .kind)) (isKind kind.Name (r .kind)) refl refl
@@ -231,7 +222,7 @@ module _ (r : Row) (rs : List Row) (d : isDetail (r .kind) (r .detail) ≡ true)
   next-rest cause h = let t = passes _ (part false) rs h in caused (cause-of r (t .0) d) (go (part false) (t .1))
   next-rest wrong h = go wrong h
 
--- at the end
+-- where no row is left
 end-rest : (a : Await) → whole a ≡ true → Rest a []
 end-rest (part f) h = later f grammar.Sequence.none
 end-rest type h = no h

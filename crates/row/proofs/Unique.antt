@@ -1,12 +1,10 @@
--- What the public contracts settle: any two outcomes that one allows are the same. Stated of each contract as the check reads it off the
--- source, so that a contract which said less would fail here.
+-- Each public contract allows one outcome only. This is said of the contract as the check reads it off the source, so that a contract
+-- which said less would fail here.
 -- Assumes nothing.
 use mathlib.Core.Path.{_≡_, sym, _∙_}
 use Rattle.text.proofs.general.Outcomes.{One}
 use Rattle.row.proofs.fault.number.Kinds as number-kinds
 use Rattle.row.proofs.fault.number.Reads as number
-use Rattle.row.proofs.form.kind_number.Kinds as kind-number-kinds
-use Rattle.row.proofs.form.kind_number.Reads as kind-number
 use Rattle.row.proofs.check.is_detail.Kinds as is-detail-kinds
 use Rattle.row.proofs.check.is_detail.Reads as is-detail
 use Rattle.row.proofs.check.check.Kinds as check-kinds
@@ -20,9 +18,6 @@ use Rattle.row.proofs.mask.is_whole.Reads as is-whole
 
 pub one-number : One 0 number-kinds.ps number-kinds.r number.Post
 one-number κs a x y s t p q = p ∙ sym q
-
-pub one-kind-number : One 0 kind-number-kinds.ps kind-number-kinds.r kind-number.Post
-one-kind-number κs a x y s t p q = p ∙ sym q
 
 pub one-is-detail : One 0 is-detail-kinds.ps is-detail-kinds.r is-detail.Post
 one-is-detail κs a x y s t p q = p ∙ sym q

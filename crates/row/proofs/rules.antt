@@ -1,6 +1,6 @@
 -- The row rules.
 
--- rows put together, and rows moved on, keep the rules; whether damage is among them
+-- rows that keep the rules keep them when put together or moved on; and whether damage is among them
 pub mod Append
 -- rows that keep the rules have kinds and details of at most 10
 pub mod SmallKinds

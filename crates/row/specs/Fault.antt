@@ -2,9 +2,11 @@
 --     numberOf        01's table
 --     faultAt         a refusal at an empty place
 --     nowhere         a refusal without a place of its own, which is at 0..0
+--     Answered        the call gives an answer over some lent output
 -- Which of them a call can answer is a theorem beside the call's contract: `Refusals.antt` of the crates above.
 -- Assumes nothing.
 use Prim.Native.Nat.{ℕ}
+use mathlib.Core.List.{List}
 use Rattle.row.specs.declared.fault.Reason.{Reason}
 use Rattle.row.specs.declared.fault.Reason.the-variants.{TooLong, NotUtf8, UnexpectedEof, ExpectedIdentifier}
 use Rattle.row.specs.declared.fault.Reason.the-variants.{ExpectedOpeningBrace, ExpectedClosingBrace, ExpectedComma}
@@ -37,3 +39,7 @@ faultAt reason p = record { reason = reason; start = p; end = p }
 
 abbrev pub nowhere : Reason → Fault
 nowhere reason = faultAt reason 0
+
+-- over some lent output b, the call answers a and leaves b′
+abbrev pub Answered : {A : Type 0} → (List ℕ → A → List ℕ → Type 0) → A → Type 0
+Answered call a = (b : List ℕ) × (b′ : List ℕ) × call b a b′

@@ -19,7 +19,7 @@ pub enum Kind {
     Cause,
 }
 
-pub fn kind_number(kind: Kind) -> u32
+fn kind_number(kind: Kind) -> u32
     ensures { λ r. ⌜ r ≡ kindOf kind ⌝ }
 {
     match kind {

@@ -2,6 +2,7 @@
 -- Assumes nothing.
 use mathlib.Core.Path.{refl}
 use Rattle.text.specs.Walk.{walkFrom}
+use Rattle.text.specs.Strings.{utf8}
 use Rattle.text.specs.Utf8.{alternatives, begins, widthBy, gather, value, octets, lookValid, validityOf}
 use Rattle.text.specs.Class.{whiteSpace, control, isWhitespace, isControl, isKey, isIdContinue, isIdStart, holdsOf}
 use Rattle.text.specs.Scan.{code, seeFrom}
@@ -13,7 +14,6 @@ use Rattle.raw.specs.Grammar.{field, fieldEnd, fieldsTurn, fields, key, spells,
 use Rattle.raw.specs.Grammar.{preamble, commented, body, entry, fileTurn, file}
 use Rattle.raw.specs.Read.{strict}
 use Rattle.row.specs.Row.{moved}
-use Rattle.raw.specs.Worked.{utf8}
 use Rattle.salvage.specs.Salvage.{head, cut, pieces, salvageOf}
 use Rattle.salvage.specs.Worked.{Worked}
 

@@ -2,7 +2,7 @@
 
 -- the pieces of two texts put together, and salvage of them
 pub mod PiecesAppend
--- the UTF-8 of a text is that of its pieces
+-- the pieces of a text that is UTF-8 are UTF-8
 pub mod Utf8OfPieces
 -- where a scan of white space or of a comment ends
 pub mod ScanEnd
@@ -12,5 +12,5 @@ pub mod TurnBeforeCut
 pub mod ReadingAcrossCut
 -- the first piece of a text and the rest; boundaries; what strict reading opens at them
 pub mod Boundaries
--- the pieces begin at the boundaries, and there only
+-- pieces begin at the boundaries and nowhere else
 pub mod PiecesAtBoundaries

@@ -1,4 +1,4 @@
--- The ways through the functions of the code, each as a law over what its calls told.
+-- One law for each way through the functions of the code, over what their calls answered.
 
 -- where a piece ends
 pub mod PieceEnd

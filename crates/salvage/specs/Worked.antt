@@ -4,10 +4,11 @@
 use Prim.Native.String.{String}
 use mathlib.Core.Path.{_≡_}
 use mathlib.Core.List.{[], _∷_}
+use Rattle.text.specs.Strings.{utf8}
 use Rattle.row.specs.Row.{Row}
 use Rattle.raw.specs.Reader.{ok}
 use Rattle.raw.specs.Read.{strict}
-use Rattle.raw.specs.Worked.{utf8, _at_to_}
+use Rattle.raw.specs.Worked.{_at_to_}
 use Rattle.salvage.specs.Salvage.{salvageOf}
 
 -- `@a{`, newline, `@b{k,}`

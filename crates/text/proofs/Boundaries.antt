@@ -1,4 +1,4 @@
--- The proof of specs/Boundaries.antt, by the laws of Boundary.
+-- The proof of specs/Boundaries.antt, by the laws of sequences/CutPlaces.antt.
 --     boundaries
 -- Assumes nothing.
 use Rattle.text.specs.Boundaries.{Boundaries}

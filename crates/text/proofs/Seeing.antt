@@ -1,4 +1,4 @@
--- The proof of specs/Seeing.antt, by the laws of the scanner.
+-- The proof of specs/Seeing.antt, by the laws of scanning/.
 --     seeing
 -- Assumes nothing.
 use Rattle.text.specs.Seeing.{Seeing}

@@ -1,4 +1,4 @@
--- The proof of specs/Shapes.antt, by the laws of sequences.
+-- The proof of specs/Shapes.antt, by the laws of sequences/.
 --     shapes
 -- Assumes nothing.
 use Rattle.text.specs.Shapes.{Shapes}

@@ -1,12 +1,10 @@
--- What the public contracts settle: any two outcomes that one allows are the same. Stated of each contract as the check reads it off the
--- source, so that a contract which said less would fail here.
+-- Each public contract allows one outcome only. This is said of the contract as the check reads it off the source, so that a contract
+-- which said less would fail here.
 -- Assumes nothing.
 use mathlib.Core.Path.{_≡_, sym, _∙_}
 use denote.Ref.{now}
 use Rattle.text.proofs.general.Outcomes.{Both, One}
 use Rattle.text.proofs.scanning.Blocks.{found-once}
-use Rattle.text.proofs.utf8.sequence_length.Kinds as sequence-length-kinds
-use Rattle.text.proofs.utf8.sequence_length.Reads as sequence-length
 use Rattle.text.proofs.utf8.validate.Kinds as validate-kinds
 use Rattle.text.proofs.utf8.validate.Reads as validate
 use Rattle.text.proofs.utf8.validate_short.Kinds as validate-short-kinds
@@ -23,16 +21,12 @@ use Rattle.text.proofs.class.is_control.Kinds as is-control-kinds
 use Rattle.text.proofs.class.is_control.Reads as is-control
 use Rattle.text.proofs.class.holds.Kinds as holds-kinds
 use Rattle.text.proofs.class.holds.Reads as holds
-use Rattle.text.proofs.scanner.done.Kinds as done-kinds
-use Rattle.text.proofs.scanner.done.Reads as done
 use Rattle.text.proofs.scanner.peek.Kinds as peek-kinds
 use Rattle.text.proofs.scanner.peek.Reads as peek
 use Rattle.text.proofs.scanner.eat.Kinds as eat-kinds
 use Rattle.text.proofs.scanner.eat.Reads as eat
 use Rattle.text.proofs.scanner.eat_if.Kinds as eat-if-kinds
 use Rattle.text.proofs.scanner.eat_if.Reads as eat-if
-use Rattle.text.proofs.scanner.eat_while.Kinds as eat-while-kinds
-use Rattle.text.proofs.scanner.eat_while.Reads as eat-while
 use Rattle.text.proofs.scanner.eat_until.Kinds as eat-until-kinds
 use Rattle.text.proofs.scanner.eat_until.Reads as eat-until
 use Rattle.text.proofs.scanner.eat_whitespace.Kinds as eat-whitespace-kinds
@@ -53,9 +47,6 @@ use Rattle.text.proofs.block.find.Kinds as find-kinds
 use Rattle.text.proofs.block.find.Reads as find
 use Rattle.text.proofs.scanner.from.Kinds as from-kinds
 use Rattle.text.proofs.scanner.from.Reads as from
-
-pub one-sequence-length : One 0 sequence-length-kinds.ps sequence-length-kinds.r sequence-length.Post
-one-sequence-length κs a x y s t p q = p ∙ sym q
 
 pub one-validate : One 1 validate-kinds.ps validate-kinds.r validate.Post
 one-validate κs a x y s t p q = p ∙ sym q
@@ -82,9 +73,6 @@ one-is-control κs a x y s t p q = p ∙ sym q
 pub one-holds : One 0 holds-kinds.ps holds-kinds.r holds.Post
 one-holds κs a x y s t p q = p ∙ sym q
 
-pub one-done : One 1 done-kinds.ps done-kinds.r done.Post
-one-done κs a x y s t p q = p ∙ sym q
-
 pub one-peek : One 1 peek-kinds.ps peek-kinds.r peek.Post
 one-peek κs a x y s t p q = p .0 ∙ sym (q .0)
 
@@ -93,9 +81,6 @@ one-eat κs a x y s t p q = p .0 ∙ sym (q .0)
 
 pub one-eat-if : One 1 eat-if-kinds.ps eat-if-kinds.r eat-if.Post
 one-eat-if κs a x y s t p q = p .0 ∙ sym (q .0)
-
-pub one-eat-while : One 1 eat-while-kinds.ps eat-while-kinds.r eat-while.Post
-one-eat-while κs a x y s t p q = p .0 ∙ sym (q .0)
 
 pub one-eat-until : One 1 eat-until-kinds.ps eat-until-kinds.r eat-until.Post
 one-eat-until κs a x y s t p q = p .0 ∙ sym (q .0)

@@ -1,6 +1,7 @@
 pub mod Range
 pub mod Walk
 pub mod Utf8
+pub mod Strings
 pub mod Class
 pub mod Scan
 pub mod Rfc3629

@@ -8,7 +8,6 @@ use crate::utf8::Decoded;
 ghost use mathlib.Core.Path.{_≡_};
 ghost use Prim.Native.Nat.{ℕ, _+_, _-_, _≤_, _<_, min};
 ghost use lib.ListN.{length};
-ghost use lib.Dec.{leb};
 ghost use Rattle.text.specs.Class.{isWhitespace, isKey, isIdStart, isIdContinue, holdsOf};
 ghost use Rattle.text.specs.Scan.{see, nextOf, pastOne, single, skip, fails, part, Ahead, Inside};
 ghost use Rattle.text.specs.Inner.{wants, AsciiRun, letterOf, Letters};
@@ -17,12 +16,6 @@ ghost use Rattle.text.specs.Inner.{wants, AsciiRun, letterOf, Letters};
 pub enum Seen {
     End,
     Char { code: u32, next: usize },
-}
-
-pub fn done(s: &[u8], at: usize) -> bool
-    ensures { λ r. ⌜ r ≡ leb (length (now (s .entry))) at ⌝ }
-{
-    s.len() <= at
 }
 
 // What is not ASCII, mostly: out of the way of the callers' loops.
@@ -182,12 +175,6 @@ pub fn eat_byte(s: &[u8], at: usize, x: u8) -> usize
         return at + 1;
     }
     at
-}
-
-pub fn eat_while(s: &[u8], at: usize, t: Test) -> usize
-    ensures { λ r. ⌜ (r ≡ skip (holdsOf t) (now (s .entry)) at) × Ahead (now (s .entry)) at r ⌝ }
-{
-    eat_run(s, at, t, true)
 }
 
 pub fn eat_until(s: &[u8], at: usize, t: Test) -> usize

@@ -36,7 +36,7 @@ fn wide(b: u8) -> u32
 }
 
 // The number of leading one bits of the first byte, none meaning one.
-pub fn sequence_length(b: u8) -> usize
+fn sequence_length(b: u8) -> usize
     ensures { λ r. ⌜ r ≡ sequenceLength b ⌝ }
 {
     let ones = u8::leading_zeros(!b);

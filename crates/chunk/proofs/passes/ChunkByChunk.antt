@@ -1,4 +1,4 @@
--- Chunks one at a time: a text that is formatted chunk by chunk is what `formatVerbatim` makes of all.
+-- A text that is formatted chunk by chunk is what `formatVerbatim` makes of all chunks.
 --     format-on, white-on       one chunk more is formatted behind the others
 -- Assumes nothing.
 use Prim.Native.Nat.{ℕ}

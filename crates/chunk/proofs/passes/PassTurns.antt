@@ -1,4 +1,4 @@
--- The turns of both writers' passes, over `Passing`.
+-- The turns of both writers' passes, whose invariant is `Passing`.
 --     Row, row-of                                               a row as the code reads it
 --     format-start, format-turn, format-more, format-done       `format_all`
 --     write-start, write-turn, write-more, close-more, write-done      `write_all`
@@ -30,7 +30,7 @@ pub record Row (l : List ℕ) (i : ℕ) (kind : Kind) (k f e : ℕ) : Type 0 whe
 pub row-of : {l : List ℕ} {i : ℕ} {kind : Kind} {k f e : ℕ} → kind ≡ kindFrom k → Stores l i k f e → Row l i kind k f e
 row-of p s = record { known = p; stores = s }
 
--- whatever is made of them
+-- what the code makes of a row is what can be made of the row's numbers
 row-is : {A : Type 0} {l : List ℕ} {i : ℕ} {kind : Kind} {k f e : ℕ} (g : Kind → ℕ → ℕ → A) → Row l i kind k f e →
     g kind f e ≡ g (kindFrom (getD l i 0)) (getD l (i + 1) 0) (getD l (i + 2) 0)
 row-is {l = l} {i} {e = e} g r =
@@ -68,7 +68,7 @@ module _ {t l o₀ o : List ℕ} {b : Bool} {n i : ℕ} (g : Formatting t l o₀
 
 -- ---- `write_all`
 
--- behind the first brace, which leads to n₀
+-- the invariant of `write_all`: its first brace is put already, and ends at the place n₀
 abbrev pub Writes : Bool → List ℕ → List ℕ → List ℕ → ℕ → List ℕ → Bool → ℕ → ℕ → Type 0
 Writes verb t l o₀ n₀ o b n i = Passing (biblatexFrom verb) (biblatexFrom verb false (chunksOf t l)) t l o₀ n₀ o b n i
 
@@ -91,7 +91,7 @@ module _ (verb : Bool) {t l o₀ : List ℕ} {n₀ : ℕ} {o : List ℕ} {b : Bo
     pub write-more : {room : ℕ} → room < n → Fills (toBiblatexString verb (chunksOf t l)) room u total.More o
     write-more h = fills-more (biblatexFrom verb b (rest t l i)) (ap (λ (w : List ℕ). 0x7B ∷ w) (g .same)) (puts-on first (g .puts)) h
 
-    -- and what closes
+    -- after the last row, when what closes is put
     module _ (sound : areChunks t l ≡ true) (h : length l ≤ i) {r : ℕ} {o′ : List ℕ} (y : Puts o n (closing b) r o′) where
       whole : 0x7B ∷ (g .text ++ closing b) ≡ toBiblatexString verb (chunksOf t l)
       unfolding biblatexFrom

@@ -1,5 +1,5 @@
--- A pass over chunk rows, for both writers: `from` is what a writer makes of chunks where its flag is as given.
---     Passing, passed, at-end      the loop: its turn, and its end
+-- A pass over chunk rows, for both writers: `from b cs` is what a writer makes of the chunks cs where its flag is b.
+--     Passing, passed, at-end      the loop: its invariant, its turn, and its end
 --     row-here                     a row that passed the check has a range of the text
 --     fills-more, fills-bytes      what the pass answers
 -- Assumes nothing.
@@ -38,7 +38,7 @@ row-sound t r e =
 abbrev pub rest : List ℕ → List ℕ → ℕ → List Chunk
 rest t l i = map (chunkOf t) (chunkRows (drop i l))
 
--- of the whole text w, what the rows before number i come to is put from n₀ on, and leads to the place n and to the flag b
+-- the writer's whole text is w. What the rows before number i come to is put from the place n₀ on; the place is now n, and the flag b
 pub record Passing (from : Bool → List Chunk → List ℕ) (w t l o₀ : List ℕ) (n₀ : ℕ) (o : List ℕ) (b : Bool) (n i : ℕ) : Type 0 where
   pub text : List ℕ
   pub puts : Puts o₀ n₀ text n o

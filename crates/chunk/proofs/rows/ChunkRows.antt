@@ -1,7 +1,7 @@
 -- Laws of kinds by number, and of a chunk row that is put into lent numbers.
---     kind-rest                        a number that is neither 0 nor 1
+--     kind-rest                        a number that is neither 0 nor 1 means `Math`
 --     rows-flat                        the numbers of rows are read back as these rows
---     length-put, put-sets, put-out    the length stays; the code's five stores; a row that does not fit
+--     length-put, put-sets, put-out    putting a row keeps the length, is the code's five stores, and does nothing where the row does not fit
 -- Assumes nothing.
 use Prim.Native.Nat.{ℕ, zero, suc, _+_, _*_, _/_, _≤_, _<_}
 use mathlib.Core.Path.{_≡_, refl, ap}

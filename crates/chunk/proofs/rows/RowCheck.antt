@@ -1,8 +1,8 @@
 -- The check of chunk rows.
---     rows-open, rows-end          the row from a number on, and no row at the end
---     told                         a row's numbers as the code reads them
---     check-turn, check-stop       a row that is a chunk's, and one that is none
---     check-count, check-done      numbers that are no whole count of rows; the check's end
+--     rows-open, rows-end          the rows from a number on: the next and those behind it, or none
+--     told                         the test of a row, by the numbers that the code reads
+--     check-turn, check-stop       at a row that is a chunk's; at one that is not
+--     check-count, check-done      where the numbers are no whole number of rows; where the check ends
 -- Assumes nothing.
 use Prim.Native.Nat.{ℕ, _+_, _-_, _%_, _≤_, _<_}
 use native.Mathlib.Omega.{arith}
@@ -30,7 +30,7 @@ pub rows-end : (l : List ℕ) (i : ℕ) → length l ≤ i → chunkRows (drop i
 unfolding chunkRows
 rows-end l i h = ap chunkRows (drop-of-length-le l h)
 
--- a test of a row, of its numbers as the code reads them
+-- the test answers the same for the row at i and for the numbers that the code reads
 pub told : (t l : List ℕ) {i k a e : ℕ} {x : Bool} → Stores l i k a e → isChunk t (chunkRow k a e 0 0) ≡ x → isChunk t (rowAt l i) ≡ x
 told t l {i} {k} {a} {e} r h =
     let two = ap₂ (λ (x y : ℕ). isChunk t (chunkRow x y e 0 0)) (r .kind) (r .from) in

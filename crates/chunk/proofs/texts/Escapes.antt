@@ -1,7 +1,7 @@
 -- Characters that are escaped.
 --     in-a-row                     the code's tests, joined as `mark` joins them
 --     escape-some, escape-none     a character that is escaped, and one that is not
---     escaped-append               one text after another
+--     escaped-append               escaping two texts, one after the other
 --     escaped-start, escaped-on, escaped-all      the loop: where it begins, its turn, and its end
 -- Assumes nothing.
 use Prim.Native.Nat.{ℕ, _+_, _≤_, _<_}
@@ -28,7 +28,7 @@ pub escape-none : (verb : Bool) (b : ℕ) → isEscapable b verb false ≡ false
 unfolding escaped
 escape-none verb b e = rw e
 
--- a character, and what follows it
+-- the character b, with a backslash where it is escaped, before the text that follows
 abbrev behind : Bool → ℕ → List ℕ → List ℕ
 behind x b t = cond x (0x5C ∷ b ∷ t) (b ∷ t)
 

@@ -1,8 +1,8 @@
 -- The last character of a text, sought from its end.
---     last-pass, last-found, last-none      a tail is passed; anything else is the last character; nothing but tails
---     last-less                             the last character of some text lies in it
+--     last-pass, last-found, last-none      going back: a tail is passed; any other octet begins the last character; only tails are left
+--     last-less                             the last character of a text that is not empty begins inside it
 --     last-char                             behind any octets, the last character is the last sequence
---     code-seen                             the code point at a place
+--     code-seen                             the code point of the character at a place
 --     white-none, white-last                whether a text ends in white space
 -- Assumes nothing.
 use Prim.Native.Nat.{ℕ, suc, _+_, _-_, _≤_, _<_, min}
@@ -23,7 +23,7 @@ use Rattle.text.proofs.Shapes.{shapes}
 use Rattle.chunk.specs.Format.{lastFrom, lastAt, lastCode, endsWhite}
 use Rattle.text.proofs.general.Parts.{part-none, part-more, length-part, drop-take, drop-part}
 
--- ---- its place
+-- ---- the place of the last character
 
 last-snoc : (t : List ℕ) (best i b : ℕ) → lastFrom best i (t ++ b ∷ []) ≡ cond (within tail b) (lastFrom best i t) (i + length t)
 unfolding lastFrom
@@ -75,7 +75,7 @@ last-less t a e at h l q =
     let n = length-part t a e (omega arith) l in
     let k = last-below (part t a e) 0 0 (length (part t a e) - 1) (omega arith) (omega (arith, n)) in omega (arith, k, n)
 
--- ---- behind any octets, it is the last sequence
+-- ---- behind any octets, the last character is the last sequence
 
 last-append : (u w : List ℕ) (best i : ℕ) → lastFrom best i (u ++ w) ≡ lastFrom (lastFrom best i u) (i + length u) w
 unfolding lastFrom
@@ -101,7 +101,7 @@ last-char u w e = last-append u w 0 0 ∙ last-one w (lastAt u) (0 + length u) e
     none : (n : ℕ) → 0 + n ≡ n
     none n = omega arith
 
--- ---- its code point
+-- ---- the code point of the last character
 
 abbrev codeIn : Seen → ℕ
 codeIn End = 0

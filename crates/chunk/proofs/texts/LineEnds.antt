@@ -1,7 +1,7 @@
 -- A Normal text, run by run between its line ends.
 --     plain-start, plain-on, stops-at, stops-end    how far a run goes
---     Lining, lining, runs, passes, blanks          the loop that writes it: where it begins, and its three turns
---     finished                                      where it ends
+--     Lining, lining, runs, passes, blanks          the loop that writes the text: its invariant, where it begins, and its three turns
+--     finished                                      where the loop ends
 -- Assumes nothing.
 use Prim.Native.Nat.{ℕ, _+_, _-_, _≤_, _<_}
 use native.Mathlib.Omega.{arith}
@@ -88,11 +88,11 @@ lining t a e w o n h = record { text = []; puts = puts-none o n; same = refl; ro
 
 module _ {t : List ℕ} {a e : ℕ} {w₀ : Bool} {o₀ : List ℕ} {n : ℕ} {o : List ℕ} {w : Bool} {i j : ℕ}
     (g : Lining t a e w₀ o₀ n o w i j) (l : e ≤ length t) where
-  -- the loop's text, and then what is left of the definition's
+  -- what the loop has written, then v, and then what is left of the definition's text
   on : (v : List ℕ) (x : Written) → before (g .text ++ v) x ≡ before (g .text) (before v x)
   on v x = ap (λ (y : List ℕ). written y (x .white)) (append-assoc (g .text) v (x .text))
 
-  -- a run to k
+  -- after a run that ends at k
   pub runs : {k r : ℕ} {o′ : List ℕ} {w′ : Bool} → i < k → k ≤ e → plain (part t i k) ≡ true → stops (part t k e) ≡ true →
       w′ ≡ endsWhite (part t i k) → Puts o j (part t i k) r o′ → length o′ ≡ length o → Lining t a e w₀ o₀ n o′ w′ k r
   runs {k} h m p s q y z = record {
@@ -141,7 +141,7 @@ module _ {t : List ℕ} {a e : ℕ} {w₀ : Bool} {o₀ : List ℕ} {n : ℕ} {o
       long = g .long;
     }
 
-    -- and after anything else
+    -- a line end after anything else
     pub blanks : {r : ℕ} {o′ : List ℕ} → w ≡ false → Puts o j (0x20 ∷ []) r o′ → length o′ ≡ length o → Lining t a e w₀ o₀ n o′ true (i + 1) r
     blanks q y z = record {
       text = g .text ++ 0x20 ∷ [];

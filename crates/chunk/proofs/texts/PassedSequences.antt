@@ -1,7 +1,7 @@
--- Sequences that the writers pass as they are.
---     ascii                        a character of ASCII
+-- Sequences that the writers write unchanged.
+--     ascii                        a character of ASCII is a sequence
 --     Kept, kept                   a sequence is a character of ASCII, or has no octet of ASCII
---     high-plain, high-escaped     octets above ASCII are no line ends, and nothing to escape
+--     high-plain, high-escaped     octets above ASCII are no line ends, and are not escaped
 -- Assumes nothing.
 use Prim.Native.Nat.{ℕ, _+_, _*_, _%_, _≤_}
 use native.Mathlib.Omega.{arith}
@@ -25,11 +25,11 @@ ascii b h = shapes .shape-char (one h)
 pub ascii-text : (b : ℕ) → b ≤ 0x7F → Octets (b ∷ [])
 ascii-text b h = shapes .octets-char (b ∷ []) (ascii b h)
 
--- octets above ASCII are no line ends, and nothing to escape
+-- octets above ASCII are no line ends, and are not escaped
 pub high-line : (b : ℕ) → 0x80 ≤ b → isLineEnd b ≡ false
 high-line b h = rw (ne-eqb b 0x0A (λ e. omega arith), ne-eqb b 0x0D (λ e. omega arith))
 
--- each is a mark of ASCII
+-- all marks of the list are ASCII
 abbrev low-marks : List ℕ → Bool
 low-marks [] = true
 low-marks (m ∷ ms) = leb m 0x7F && low-marks ms
@@ -85,7 +85,7 @@ unfolding escaped
 high-escaped verb end = refl
 high-escaped verb (on {b} {w} h k) = rw (high-escape verb b h) (ap (λ (x : List ℕ). b ∷ x) (high-escaped verb k))
 
--- of a character above ASCII
+-- no octet of a character above ASCII is ASCII
 pub code-high : (c : ℕ) → isScalar c ≡ true → 0x80 ≤ c → High (octets c)
 unfolding value gather
 code-high c e l = by (kept (shapes .char-shape (octets c) (rfc3629 .writes c e))) refl

@@ -1,7 +1,7 @@
 -- Octets put into lent bytes.
---     puts-none, puts-one, puts-past    nothing; one octet, where it fits or not; octets past the end
---     puts-on, puts-as                  one text after another; an equal text
---     sets-fits                         a text that fits stands in front
+--     puts-none, puts-one, puts-past    putting nothing; one octet, where it fits or not; octets past the end of the lent bytes
+--     puts-on, puts-as                  putting one text after another; putting an equal text
+--     sets-fits                         a text that fits stands in front of the lent bytes
 -- Assumes nothing.
 use Prim.Native.Nat.{ℕ, suc, _+_, _≤_}
 use native.Mathlib.Omega.{arith}

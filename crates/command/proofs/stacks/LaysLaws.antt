@@ -1,5 +1,5 @@
 -- Laws of `Lays`, and of the functions of src/stack.rt.
---     lays-none, lays-on, lays-as, lays-still       nothing; one text after another; an equal text; what stands there already
+--     lays-none, lays-on, lays-as, lays-still       laying nothing; one text after another; an equal text; a text that stands there already
 --     copy-on, copied, pushed, coded, wipe-on       for `copy`, `push`, `put_code`, `wipe`
 --     octets-few, octets-one, ..                    how many octets a character has
 -- Assumes nothing.
@@ -21,7 +21,7 @@ use Rattle.text.proofs.general.Parts.{part-more, length-part, drop-take}
 use Rattle.command.specs.Stack.{Lays}
 use Rattle.command.proofs.stacks.MoreParts.{take-part}
 
--- ---- any texts
+-- ---- laying texts
 
 pub lays-none : (n : ℕ) (o : List ℕ) → Lays n [] o n o
 lays-none n o = record { end = omega arith; text = sym (append-nil (take n o)) }
@@ -55,7 +55,7 @@ lays-still o a e h l = record {
 
 -- ---- `copy` and `push`
 
--- one octet more
+-- after one octet more
 pub copy-on : (s o₀ o : List ℕ) (a i j n x : ℕ) → a ≤ i → i < length s → j < length o → x ≡ getD s i 0
     → take j o ≡ take n o₀ ++ part s a i → take (j + 1) (set o j x) ≡ take n o₀ ++ part s a (i + 1)
 copy-on s o₀ o a i j n x h l k e q =
@@ -91,7 +91,7 @@ wipe-all o i n e k q = sym (take-length o) ∙ ap (λ (m : ℕ). take m o) (sym 
 
 -- ---- `put_code`
 
--- what was written, and one more, so that a refusal counts as nothing
+-- the number of octets written and one more; so a refusal is 0
 abbrev pub wroteOf : Encoded → ℕ
 wroteOf (encoded.Wrote n) = suc n
 wroteOf encoded.NotScalar = 0
@@ -175,13 +175,13 @@ octets-three c h = rw (le-leb c 0xFFFF h) (by (leb c 0x7F) (leb c 0x7FF))
 
 -- ---- two texts, one behind the other
 
--- what is below a text's end is as it was
+-- what stands below the text that was laid is as it was
 pub lays-below : (n : ℕ) (w o : List ℕ) (r : ℕ) (o′ : List ℕ) → Lays n w o r o′ → n ≤ length o → take n o′ ≡ take n o
 lays-below n w o r o′ h l =
     sym (take-take n r o′ (omega (arith, h .end))) ∙ ap (take n) (h .text)
     ∙ take-at (take n o) w n (length-take-le n o l)
 
--- and what was laid stands there
+-- the text that was laid stands from n to r
 pub lays-part : (n : ℕ) (w o : List ℕ) (r : ℕ) (o′ : List ℕ) → Lays n w o r o′ → n ≤ length o → r ≤ length o′ → part o′ n r ≡ w
 lays-part n w o r o′ h l k =
     ap (λ (m : ℕ). take (m - n) (drop n o′)) (least r (length o′) k) ∙ sym (drop-take n r o′) ∙ ap (drop n) (h .text)
@@ -193,7 +193,7 @@ lays-part n w o r o′ h l k =
 pub lays-over : (n : ℕ) (w o o₁ : List ℕ) (r : ℕ) (o′ : List ℕ) → take n o₁ ≡ take n o → Lays n w o₁ r o′ → Lays n w o r o′
 lays-over n w o o₁ r o′ e h = record { end = h .end; text = h .text ∙ ap (λ (t : List ℕ). t ++ w) e }
 
--- w and then v: the part of each, and what is below them
+-- where w was laid and then v, each stands in its part, and what is below them is as it was
 module _ (n : ℕ) (w o : List ℕ) (f : ℕ) (o₁ v : List ℕ) (e : ℕ) (o₂ : List ℕ) (x : Lays n w o f o₁) (y : Lays f v o₁ e o₂)
     (l : n ≤ length o) (k : f ≤ length o₁) (m : e ≤ length o₂) where
   pub both-first : part o₂ n f ≡ w

@@ -1,8 +1,8 @@
--- What comes of a command: for the functions of src/execute.rt.
+-- What a command writes: for the functions of src/execute.rt.
 --     leads                                      what `execute_before` writes
 --     runs-as, as-from, copyright, unknown       the ways through `execute_command`
 --     bare-as, bare-unknown                      the ways through `execute_bare`
---     meaning-sane                               what they ask of a meaning holds of every meaning of the list
+--     meaning-sane                               what these functions require of a meaning holds of every meaning in the list
 -- Assumes nothing.
 use Prim.Native.Nat.{ℕ, _≤_}
 use native.Mathlib.Omega.{arith}
@@ -18,7 +18,7 @@ use Rattle.text.proofs.general.Tests.{both-true}
 use Rattle.command.specs.declared.meaning.Meaning.{Meaning}
 use Rattle.command.specs.declared.meaning.Meaning.the-variants.{Itself, Letter, Accent, Slash, Copyright, Hyphenation, Unknown}
 use Rattle.command.specs.Stack.{Lays}
-use Rattle.chunk.specs.Worked.{utf8}
+use Rattle.text.specs.Strings.{utf8}
 use Rattle.text.proofs.general.Parts.{length-part}
 use Rattle.command.specs.Commands.{Named, commands, meaningIn, meaningOf, same}
 use Rattle.command.specs.Execute.{executed, given, absent, leading, Sane}

@@ -1,7 +1,7 @@
--- A mark onto the last character of an argument: for `last_char_combine`.
---     composed-fine, dotted-fine, bare-fine      the characters that are written are of Unicode, and short
+-- A mark put onto the last character of an argument: for `last_char_combine`.
+--     composed-fine, dotted-fine, bare-fine      the characters that are written are scalar values of few octets
 --     empty, composes, behind, dots              the four ways through `last_char_combine`
---     char-room, bare-room, dot-room             there is room for them
+--     char-room, bare-room, dot-room             there is room for these characters
 -- Assumes nothing.
 use Prim.Native.Nat.{ℕ, zero, suc, _+_, _-_, _≤_, _<_}
 use native.Mathlib.Omega.{arith}
@@ -32,7 +32,7 @@ use Rattle.command.proofs.stacks.LaysLaws.{lays-as, lays-on, octets-few
 
 -- ---- the characters that are written
 
--- of a row of the composition table: the composed character is one of Unicode, and has three octets at most unless its letter has four
+-- a row of the composition table: the composed character is a scalar value, and has at most three octets unless its letter has four
 abbrev fine : Row → Bool
 fine r = isScalar (r .char) && (leb (r .char) 0xFFFF || leb 0x10000 (r .letter))
 
@@ -114,13 +114,13 @@ module _ (o : List ℕ) (a e : ℕ) (ae : a ≤ e) (eo : e ≤ length o) where
         at-last : (w : List ℕ) (r : ℕ) (o′ : List ℕ) → Lays at w o r o′ → Lays a (front t ++ w) o r o′
         at-last w r o′ l = edit (lastAt t) w r o′ last-inside (subst (λ (n : ℕ). Lays n w o r o′) p l)
 
-        -- they compose
+        -- the character and the mark compose
         pub composes : (x r : ℕ) (o′ : List ℕ) → lookup composites (dotted c) m ≡ composed.Char x → Lays at (octets x) o r o′
             → Lays a (lastCharCombine (given t) m) o r o′
         composes x r o′ f l =
             lays-as a (front t ++ octets x) _ o r o′ (sym (combined ∙ to-c ∙ ap (withMark t c m) f)) (at-last (octets x) r o′ l)
 
-        -- they do not, and there is no dot to put
+        -- they do not compose, and the character is no dotless letter
         pub behind : (r : ℕ) (o′ : List ℕ) → lookup composites (dotted c) m ≡ composed.Nothing → dotted c ≡ c → Lays e (octets m) o r o′
             → Lays a (lastCharCombine (given t) m) o r o′
         behind r o′ f g l =
@@ -132,7 +132,7 @@ module _ (o : List ℕ) (a e : ℕ) (ae : a ≤ e) (eo : e ≤ length o) where
             all : (n : ℕ) (t : List ℕ) → length t ≡ n → take n t ≡ t
             all n t q = take-all n t (omega arith)
 
-        -- they do not, and there is
+        -- they do not compose, and the character is a dotless letter, which gets its dot
         pub dots : (r₁ : ℕ) (o₁ : List ℕ) (r : ℕ) (o′ : List ℕ) → lookup composites (dotted c) m ≡ composed.Nothing → (dotted c ≡ c → ⊥)
             → Lays at (octets (dotted c)) o r₁ o₁ → Lays r₁ (octets m) o₁ r o′ → Lays a (lastCharCombine (given t) m) o r o′
         dots r₁ o₁ r o′ f g l₁ l₂ =
@@ -147,9 +147,9 @@ pub looked : (t : List ℕ) (d m c : ℕ) (r x : Composed) → r ≡ halved t d 
 looked t d m c r x h e q f =
     sym (composition .halves (dotted c) m) ∙ sym (ap₂ (λ (s : List ℕ) (n : ℕ). halved s n m) e q) ∙ sym h ∙ f
 
--- ---- rooms
+-- ---- there is room for what is written
 
--- a single octet is no character of four
+-- a single octet is no character of four octets
 short-code : (s : List ℕ) → length s ≡ 1 → code s ≤ 0xFFFF
 unfolding code value gather
 short-code [] h = absurd (omega arith)

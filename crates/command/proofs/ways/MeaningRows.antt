@@ -1,5 +1,5 @@
--- The list of commands and the rows of bytes that src/names.rt has of it: for src/meaning.rt.
---     other, at-key                      names of one octet: the list's, as the checker computes them
+-- The list of commands, and the rows of bytes in which src/names.rt has it: for src/meaning.rt.
+--     other, at-key                      names of one octet, which the checker computes from the list
 --     left-on, left-off, other-length    two ranges of bytes, compared octet by octet
 --     Going, is-here, missed, found, ended, room       the search, one row after another
 -- Assumes nothing.
@@ -17,7 +17,7 @@ use Rattle.text.specs.Class.{mark}
 use Rattle.text.specs.Scan.{part}
 use Rattle.command.specs.declared.meaning.Meaning.{Meaning}
 use Rattle.command.specs.declared.meaning.Meaning.the-variants.{Unknown}
-use Rattle.chunk.specs.Worked.{utf8}
+use Rattle.text.specs.Strings.{utf8}
 use Rattle.text.proofs.general.Parts.{part-head, length-part}
 use Rattle.command.specs.Commands.{Named, same, commands, meaningIn, meaningOf}
 use Rattle.command.specs.Names.{Row, codeOf, decoded, flat, meaningBy, rowOf, rowsOf, long, names}

@@ -1,7 +1,7 @@
 -- A chunk's text formatted in place: for src/settle.rt.
 --     Moving, moving, moved, moved-all         `shift`: what is moved down, and what still stands behind it
---     Lining, lining, runs, passes, blanks     the loop of `lines`: where it begins, and its three turns
---     finished, finished-white                 where it ends
+--     Lining, lining, runs, passes, blanks     the loop of `lines`: its invariant, where it begins, and its three turns
+--     finished, finished-white                 where the loop ends
 --     settle-normal, settle-verbatim           the two ways through `settle`
 -- Assumes nothing.
 use Prim.Native.Nat.{ℕ, zero, suc, _+_, _-_, _≤_, _<_, min}
@@ -20,7 +20,7 @@ use Rattle.chunk.proofs.texts.LineEnds.{run-turn, end-white, end-blank}
 use Rattle.command.specs.Stack.{Lays, defaultChunk}
 use Rattle.command.proofs.stacks.LaysLaws.{lays-as, lays-on, lays-still, pushed}
 
--- ---- what still stands
+-- ---- what still stands as it was lent
 
 part-of : (o o₀ : List ℕ) (i e : ℕ) → length o ≡ length o₀ → drop i o ≡ drop i o₀ → part o i e ≡ part o₀ i e
 part-of o o₀ i e l d = ap₂ (λ (n : ℕ) (t : List ℕ). take (min e n - i) t) l d
@@ -114,7 +114,7 @@ module _ (o₀ : List ℕ) (a e : ℕ) (w₀ : Bool) (o : List ℕ) (w : Bool) (
   here : (n : ℕ) → part o i n ≡ part o₀ i n
   here n = part-of o o₀ i n (g .long) (g .rest)
 
-  -- a run to n, moved down to j
+  -- after a run that ends at n and is moved down to j
   pub runs : (n r : ℕ) (o′ : List ℕ) (w′ : Bool) → i < n → n ≤ e → plain (part o i n) ≡ true → stops (part o n e) ≡ true → w′ ≡ endsWhite (part o i n)
       → Lays j (part o i n) o r o′ → drop n o′ ≡ drop n o → length o′ ≡ length o → Lining o₀ a e w₀ o′ w′ n r
   runs n r o′ w′ l m p s q y d z = record {

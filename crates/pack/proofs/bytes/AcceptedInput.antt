@@ -1,10 +1,11 @@
--- What is accepted: packable numbers, and unpackable bytes.
---     Packable, packable                a packable list of numbers
---     AllInSeven, packable-seven        its rows are held by seven bytes each
---     seven-next                        the next of them
---     Unpackable, unpackable            an unpackable list of bytes
+-- What is accepted: packable numbers and unpackable bytes.
+--     Packable, packable                what is known of packable numbers
+--     AllInSeven, packable-seven        seven bytes hold each row of packable numbers
+--     seven-next                        where seven bytes hold each row, they hold the next row and the rows behind it
+--     Unpackable, unpackable            what is known of unpackable bytes
 --     spans-fit                         spans that lie in a file pass the test of packing
---     ends-of-spans, spans-of-ends      the tests of packing and of unpacking come to the same on what each accepts
+--     ends-of-spans                     rows that pass the test of packing pass that of unpacking
+--     spans-of-ends                     rows that were unpacked, and pass the test of unpacking, pass that of packing
 --     flat-packable                     the numbers of rows that keep the rules, with spans of a file, are packable
 -- Assumes nothing.
 use Prim.Native.Nat.{ℕ, _+_, _%_, _≤_}
@@ -93,7 +94,7 @@ ends-of-spans (r ∷ rs) e =
     let x = both-true (spanFits r) (every spanFits rs) e in
     rw (both-true (endFits r) (leb (r .start) (r .end)) (x .0) .0) (ends-of-spans rs (x .1))
 
--- an unpacked end is a start and a length, so that no start passes it
+-- an unpacked end is a start plus a length, so no start is greater than its end
 pub spans-of-ends : (s : List ℕ) → every endFits (unpacking s) ≡ true → every spanFits (unpacking s) ≡ true
 unfolding every unpacking
 spans-of-ends [] h = refl

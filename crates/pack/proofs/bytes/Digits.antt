@@ -1,4 +1,4 @@
--- A number and its digits in a base come back from each other. One law for every base and every width.
+-- A number comes back from its digits in a base, and digits come back from their number. One law for every base and every number of digits.
 --     of-digits     a number that w digits hold comes back from them
 --     digits-of     digits come back from their number
 -- Assumes nothing.
@@ -12,7 +12,7 @@ use lib.Arith.{lt-one, digits-div, digits-mod}
 use Rattle.pack.specs.Digits.{digits, ofDigits, AllBelow}
 
 module _ (base : ℕ) where
-  -- one digit more
+  -- the number that has one digit more
   of-more : (l : List ℕ) (a d : ℕ) → ofDigits base a (l ++ (d ∷ [])) ≡ ofDigits base a l * base + d
   unfolding ofDigits
   of-more [] a d = refl
@@ -27,7 +27,7 @@ module _ (base : ℕ) where
       ∙ ap (λ (k : ℕ). k * base + n % base) (of-digits w (n / base) p less)
       ∙ div-add-mod' n base
 
-  -- the digits l, after those of a
+  -- the digits l behind those of a
   digits-on : (l : List ℕ) (w a : ℕ) → AllBelow base l → digits base (w + length l) (ofDigits base a l) ≡ digits base w a ++ l
   unfolding digits ofDigits AllBelow
   digits-on [] w a h = let e : w + 0 ≡ w = omega arith in ap (λ (k : ℕ). digits base k a) e ∙ sym (append-nil (digits base w a))

@@ -1,6 +1,6 @@
 -- Packing and unpacking undo each other.
---     packing-length, packs-back        rows that seven bytes hold, packed and unpacked
---     unpacks-back                      bytes, a whole count of sevens, unpacked and packed
+--     packing-length, packs-back        rows that seven bytes hold come back when they are packed and unpacked
+--     unpacks-back                      bytes whose number is a multiple of seven come back when they are unpacked and packed
 -- Assumes nothing.
 use Prim.Native.Nat.{ℕ, _+_, _-_, _*_, _/_, _%_, _≤_}
 use native.Mathlib.Omega.{arith}
@@ -14,7 +14,7 @@ use Rattle.pack.specs.Seven.{packRow, packing, unpackRow, unpacking, InS
 use Rattle.pack.proofs.bytes.Digits.{of-digits, digits-of}
 use Rattle.pack.proofs.bytes.AcceptedInput.{AllInSeven}
 
--- ---- rows, through bytes
+-- ---- from rows to bytes and back
 
 of-three : (n : ℕ) → n ≤ mostBytes → ofBytes (threeBytes n) ≡ n
 of-three n h = of-digits 256 3 n (omega arith) (omega arith)
@@ -39,7 +39,7 @@ unfolding packing digits
 packing-length [] = refl
 packing-length (r ∷ rs) = let e = packing-length rs in omega arith
 
--- ---- bytes, through rows
+-- ---- from bytes to rows and back
 
 less : (x y : ℕ) → x + y - x ≡ y
 less x y = omega arith

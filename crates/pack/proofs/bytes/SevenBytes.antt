@@ -1,6 +1,6 @@
 -- Bytes taken as rows, seven to a row.
---     sevens-next, sevens-end     the row at a byte, and that no row is left there
---     unpacking-length            how many rows bytes are
+--     sevens-next, sevens-end     the rows from a byte on: the next row and those behind it, or none
+--     unpacking-length            how many rows a list of bytes is
 --     seven-is                    the seven bytes of a row, one by one
 -- Assumes nothing.
 use Prim.Native.Nat.{ℕ, _+_, _-_, _*_, _/_, _%_, _≤_, _<_}

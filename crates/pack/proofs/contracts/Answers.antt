@@ -1,6 +1,6 @@
--- The ways through `pack` and `unpack`, each with what it answers and leaves.
+-- The ways through `pack` and `unpack`, each with its answer and with what is left in the lent list.
 --     pack-done, pack-full, pack-bad            the bytes are written; too few are lent; the rows are refused
---     unpack-done, unpack-full, unpack-bad      the same of `unpack`
+--     unpack-done, unpack-full, unpack-bad      the rows are written; too few numbers are lent; the bytes are refused
 -- Assumes nothing.
 use Prim.Native.Nat.{ℕ, _*_, _/_, _≤_, _<_}
 use mathlib.Core.Path.{_≡_}

@@ -1,6 +1,6 @@
--- What the contracts of `pack` and `unpack` say where the answer is a number.
---     pack-told, unpack-told       what holds where the answer is known to be a number
---     pack-gives, unpack-gives     where it must be a number, and which
+-- What the contracts of `pack` and `unpack` say where the answer is a count.
+--     pack-told, unpack-told       what is known where the answer is a count
+--     pack-gives, unpack-gives     where the answer must be a count, and which
 -- Assumes nothing.
 use Prim.Native.Nat.{ℕ, _*_, _/_, _≤_}
 use native.Mathlib.Omega.{arith}

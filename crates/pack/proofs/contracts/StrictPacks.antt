@@ -1,7 +1,7 @@
--- Rows that keep the row rules, with spans that lie in a file of at most 16,777,215 bytes, pack without refusal. So does what strict reading
--- gives: all this is known of its rows by theorems of `raw`.
---     fitting                of rows
---     strictly, readings     of the definition, and of the contract of `read`
+-- Rows that keep the row rules, with spans that lie in a file of at most 16,777,215 bytes, pack without refusal. So do the rows that strict
+-- reading gives, because theorems of `raw` say all this of them.
+--     fitting                rows with these properties
+--     strictly, readings     the rows of strict reading, by its definition; and by the contract of `read`
 -- Assumes nothing.
 use Prim.Native.Nat.{ℕ, _*_, _≤_}
 use native.Mathlib.Omega.{arith}
@@ -33,7 +33,7 @@ pub strictly : (s : List ℕ) (q : ℕ) (rs : List Row) → strict s ≡ ok q rs
 strictly s q rs e =
     fitting (length s) rs (steps .strict-ok s q rs e .0) (strict-reading .accepts s q rs e .rules) (steps .strict-spans s q rs e)
 
--- rows that stand in front of the lent numbers
+-- rows that stand in front of the numbers c
 front-packs : (rs : List Row) (c b b′ : List ℕ) (r : Outcome) → isPackable (flat rs) ≡ true
     → Pack (take (length rs * 4) (flat rs ++ drop (length rs * 4) c)) b r b′ → length rs * 7 ≤ length b → r ≡ Count (length rs * 7)
 front-packs rs c b b′ r k p h =

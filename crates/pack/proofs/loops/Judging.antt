@@ -1,8 +1,8 @@
 -- The loops that judge rows by masks before anything is written: each row must keep the row rules and pass a test of its span.
---     Judging                          what holds at each turn
---     judge-row, judge-off, judge-end  one turn; a row whose span is refused; the end
---     four-count, four-start           how the loop over numbers begins, four to a row
---     seven-count, seven-start         how the loop over bytes begins, seven to a row
+--     Judging                          the loops' invariant
+--     judge-row, judge-off, judge-end  after a row; at a row whose span is refused; at the end
+--     four-count, four-start           the loop over numbers, four to a row: their number is refused, or the loop begins
+--     seven-count, seven-start         the loop over bytes, seven to a row: their number is refused, or the loop begins
 -- Assumes nothing.
 use Prim.Native.Nat.{ℕ, _%_}
 use mathlib.Core.Path.{_≡_, sym, ap, _∙_}

@@ -1,5 +1,5 @@
 -- A list that is written piece by piece into a lent one.
---     set-seven                    the seven stores of the code come to seven bytes in their place
+--     set-seven                    the seven stores of the code put seven bytes in their place
 --     Written                      the front of the list stands in the lent one, and the rest is still to come
 --     at-first, go-on, at-last     before the first piece, after one more, and after the last
 -- Assumes nothing.

@@ -1,6 +1,6 @@
--- One turn of the loops that write, by what their code does.
---     Packing, pack-turn, pack-end           rows into lent bytes: what holds at each turn, one turn, the end
---     Unpacking, unpack-turn, unpack-end     bytes into lent numbers: the same
+-- One turn of the loops that write, for each way through their code.
+--     Packing, pack-turn, pack-end           rows into lent bytes: the invariant, one turn, the end
+--     Unpacking, unpack-turn, unpack-end     bytes into lent numbers: the invariant, one turn, the end
 -- Assumes nothing.
 use Prim.Native.Nat.{ℕ, suc, _+_, _*_, _/_, _≤_, _<_}
 use native.Mathlib.Omega.{arith}

@@ -1,6 +1,6 @@
--- Bounds of a reader that follows another, from where that one began.
---     within-later     what `Within` says of its answer
---     ready-later      what it asks
+-- Bounds of a reader that follows another, counted from where the other began.
+--     within-later     what `Within` says of the second reader's answer
+--     ready-later      what the second reader requires
 -- Assumes nothing.
 use Prim.Native.Nat.{ℕ, _+_, _*_, _≤_, max}
 use native.Mathlib.Omega.{arith}

@@ -1,5 +1,5 @@
 -- Loops of readers with rows: what one turn tells of the loop.
---     Leads, leads                      what a loop keeps, and where it begins
+--     Leads, leads                      the invariant of a loop, and that it holds at the start
 --     loop-on, loop-done, loop-off      the turn goes on, is done, refuses
 -- Assumes nothing.
 use Prim.Native.Nat.{ℕ, zero, suc, _+_, _≤_, _<_}
@@ -10,13 +10,12 @@ use lib.ListN.{length}
 use Rattle.row.specs.declared.fault.Fault.{Fault}
 use Rattle.raw.specs.declared.answer.Answer.{Answer}
 use Rattle.raw.specs.declared.answer.Answer.the-variants as answer
-use Rattle.raw.specs.declared.answer.Turn.{Turn}
 use Rattle.raw.specs.declared.answer.Turn.the-variants as turn
 use Rattle.raw.specs.Reader.{Out, ok, again, bad, Reader, after, loop, many}
 use Rattle.raw.specs.Says.{turnOf, Room, Says, SaysTurn}
 use Rattle.raw.proofs.contracts.SaysLaws.{says-of, says-more, says-off, said-off}
 
--- ---- turns that differ
+-- ---- different answers are not equal
 
 again-not-done : {p m q k : ℕ} → turn.Again p m ≡ turn.Done q k → ⊥
 again-not-done h = let z : _≡_ {A = ℕ} 0 1 = cc in absurd (omega arith)
@@ -53,10 +52,10 @@ module _ (base n : ℕ) (b c : List ℕ) (o : Out) (g : ℕ → ℕ → Out) whe
           let e : p ≡ q = cc in let d : n + length rs ≡ m = cc in says-more rs d (sym h) (says-of (ap (g a) e ∙ same a) k)
       go (bad e) t h = absurd (again-not-refused t)
 
--- ---- loops. That a turn goes on is known from the code's bounds, where the code took it
+-- ---- loops. That a turn has gone forward is known from the bounds of the code's answer
 
 module _ (f : ℕ → Reader) (s : List ℕ) where
-  -- at p: whatever the loop says from here on, with fuel that lasts to the end of the text, o says from where it began
+  -- at p: what the loop says from here on, with fuel that lasts to the end of the text, is what o says from the loop's start
   abbrev pub Leads : ℕ → ℕ → ℕ → List ℕ → Out → ℕ → List ℕ → Type 0
   Leads base p m c o n b =
       (g : ℕ) × (length s ≤ p + g) × ((r : Answer) (b′ : List ℕ) → Says base (loop f (suc g) 0 s p) m c r b′ → Says base o n b r b′)
@@ -74,7 +73,7 @@ module _ (f : ℕ → Reader) (s : List ℕ) where
     unfolding loop
     loop-off k {e} h = said-off (k .2 (answer.Refused e) d (says-off (off-was m (f 0 s p) (λ a q. loop f (k .0) a s q) (h .told))))
 
-    -- turns that take no heed of their number
+    -- turns that do not depend on their number
     module _ (same : (a : ℕ) (s : List ℕ) (p : ℕ) → f a s p ≡ f 0 s p) where
       on-by : (g : ℕ) → length s ≤ p + g → ((r : Answer) (b′ : List ℕ) → Says base (loop f (suc g) 0 s p) m c r b′ → Says base o n b r b′) →
           {q l : ℕ} → p < q → q ≤ length s → SaysTurn base (f 0 s p) m c (turn.Again q l) d → Leads base q l d o n b

@@ -1,11 +1,11 @@
--- Laws of `Says` and `SaysTurn`: of a reader's answer and its rows, over each way to put readers together.
---     says-of, says-at                  by an equation of the reader, or of the answer
---     says-on, says-off                 done with no row; a refusal
---     said-off                          a refusal that was told: an equation of the reader (go on with `then-off` of Bare)
---     says-more, says-row, says-mark    rows in front that are put already: some, one, one over a reader without rows
---     says-then                         after a reader with rows (after one without: `then-on` of Bare)
---     says-under                        a row over the whole, put last
---     turn-of, turn-at, turn-done, turn-again, turn-off, turn-more, turn-then      likewise of one turn of a loop
+-- Laws of `Says` and `SaysTurn`: the answer and the rows of readers that are put together.
+--     says-of, says-at                  `Says` of an equal reader, and with an equal answer
+--     says-on, says-off                 a reader that is done with no row; one that refuses
+--     said-off                          a reader whose answer is a refusal refuses (go on with `then-off` of readers/Then.antt)
+--     says-more, says-row, says-mark    rows that were put in front before: several, one, one over a reader without rows
+--     says-then                         what follows a reader with rows (after one without: `then-on` of readers/Then.antt)
+--     says-under                        a row over all that a reader reads, put last
+--     turn-of, turn-at, turn-done, turn-again, turn-off, turn-more, turn-then      these laws for one turn of a loop
 -- Assumes nothing.
 use Prim.Native.Nat.{ℕ, suc, _+_}
 use mathlib.Core.Path.{_≡_, refl, sym, ap, _∙_, subst}
@@ -24,7 +24,7 @@ use Rattle.raw.specs.Reader.{Out, ok, again, bad, more, andThen, under}
 use Rattle.raw.specs.Says.{answerOf, turnOf, Room, Says, SaysTurn}
 use Rattle.row.proofs.Laid.{laid}
 
--- ---- answers that differ
+-- ---- different answers are not equal
 
 next-not-refused : {p m : ℕ} {f : Fault} → answer.Next p m ≡ answer.Refused f → ⊥
 next-not-refused h = let z : _≡_ {A = ℕ} 0 1 = cc in absurd (omega arith)
@@ -64,7 +64,7 @@ module _ {base : ℕ} {o : Out} (rs : List Row) {n m : ℕ} {b c b′ : List ℕ
   turn-more h =
       let g = rw (← e, ← d) at h in record { told = g .told ∙ turned-more base rs n o; room = room-more base rs n o b b′ (g .room) }
 
--- ---- a reader that was told to end at q, before row m
+-- ---- a reader that answered the place q, and m as the number of the next row
 
 -- its rows, whatever comes after it
 record Went (base : ℕ) (o : Out) (n : ℕ) (b : List ℕ) (q m : ℕ) (b′ : List ℕ) : Type 0 where
@@ -85,7 +85,7 @@ module _ {base n : ℕ} {b b′ : List ℕ} where
   went {o = again p rs a} h = went-rows rs (again p rs a) (h .told) (h .room) (λ g. refl)
   went {o = bad f} h = absurd (next-not-refused (h .told))
 
--- ---- by an equation
+-- ---- equal readers and equal answers
 
 module _ {base n : ℕ} {b b′ : List ℕ} where
   module _ {o o′ : Out} (e : o ≡ o′) where
@@ -110,7 +110,7 @@ module _ {base n : ℕ} {b b′ : List ℕ} where
     pub turn-off : {f : Fault} → o ≡ bad f → SaysTurn base o n b (turn.Refused f) b′
     turn-off {f} e = turn-of e (record { told = refl; room = tt })
 
-    -- a refusal that was told
+    -- a refusal that was answered
     pub said-off : {f : Fault} → Says base o n b (answer.Refused f) b′ → o ≡ bad f
     said-off {f} h = was o (h .told)
       where

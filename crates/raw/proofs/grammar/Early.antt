@@ -1,8 +1,8 @@
--- Where a reader refuses by 3, no value begins: the text ends there, or something else stands there. Only a value that must begin
--- refuses so before the end, and the fuel of a loop lasts to the end.
---     EarlyOut                            the word, of an answer
---     more-early, chain-early, under-early, loop-early
---     eaten-else, any-early, no-value     by what is not seen
+-- Where a reader refuses with 3, no value begins: the text ends there, or something else stands there. For before the end of the text a
+-- reader refuses so only where a value must begin, and the fuel of a loop lasts to the end.
+--     EarlyOut                            the definition, of an answer
+--     more-early, chain-early, under-early, loop-early     of answers that are put together
+--     eaten-else, any-early, no-value     where no character of a class is seen
 -- Assumes nothing.
 use Prim.Native.Nat.{ℕ, zero, suc, _+_, _≤_}
 use native.Mathlib.Omega.{arith}
@@ -24,7 +24,7 @@ use Rattle.raw.specs.Grammar.{is, any}
 use Rattle.raw.specs.Strict.{beginsValue}
 use Rattle.raw.proofs.readers.Kept.{Advances, Kept}
 
--- a refusal by 3 is where no value begins
+-- where the answer is a refusal with 3, no value begins at its place
 abbrev pub EarlyOut : List ℕ → Out → Type 0
 EarlyOut s (ok q rs) = Unit {0}
 EarlyOut s (again q rs a) = Unit {0}
@@ -55,7 +55,7 @@ abbrev pub hits : (ℕ → Bool) → Seen → Bool
 hits t End = false
 hits t (Char c n) = t c
 
--- of two ways, o only where none is seen
+-- P holds of `eaten t x f o` if it holds of what f answers, and of o where no character of class t is seen
 pub eaten-else : (P : Out → Type 0) (t : ℕ → Bool) (x : Seen) (f : ℕ → Out) (o : Out) → ((n : ℕ) → P (f n)) → (hits t x ≡ false → P o)
     → P (eaten t x f o)
 eaten-else P t End f o F G = G refl
@@ -77,7 +77,7 @@ no-value (Char c n) d i b q = rw (d, i, b, q)
 pub any-early : (s : List ℕ) (p : ℕ) (f : ℕ → Out) → ((n : ℕ) → EarlyOut s (f n)) → EarlyOut s (eaten any (see s p) f (bad (faultAt UnexpectedEof p)))
 any-early s p f F = eaten-else (EarlyOut s) any (see s p) f (bad (faultAt UnexpectedEof p)) F (λ e x. none-begins (see s p) e)
 
--- turns that go on: the fuel n lasts to the end of the text
+-- turns that go forward; the fuel n lasts to the end of the text
 module _ {w l : ℕ} {f : ℕ → Reader} (K : (a : ℕ) → Kept 1 w l (f a)) (F : (a : ℕ) (s : List ℕ) (p : ℕ) → EarlyOut s (f a s p)) where
   after-early : (s : List ℕ) (p n : ℕ) (o : Out) (g : ℕ → ℕ → Out) → Advances 1 w p (length s) o → EarlyOut s o → length s ≤ p + suc n
       → ((b q : ℕ) → length s ≤ q + n → EarlyOut s (g b q)) → EarlyOut s (after o g)

@@ -1,6 +1,6 @@
--- The laws of an entry. What follows its type is told places of the text, and moves with them.
+-- The laws of an entry. What follows an entry's type is given places of the text, and moves with them.
 --     named, typed                an entry from behind its type on, and from its type on
---     entry-kept, entry-laws      an entry is told by what it ate, because its last character closes it
+--     entry-kept, entry-laws      an entry's own text decides what is read of it, because its last character closes it
 -- Assumes nothing.
 use Prim.Native.Nat.{ℕ, suc, _+_}
 use native.Mathlib.Omega.{arith}
@@ -33,7 +33,7 @@ use Rattle.raw.proofs.grammar.Readers.{preamble-laws, commented-laws, b
 
 -- ---- after an entry's type
 
--- two bytes before it pay the rows of an entry and of its type
+-- two bytes eaten before pay for the rows of an entry and of its type
 module _ {e n : ℕ} {α : Point rules} where
   strings-rest : Laws (awaiting e (suc (suc n)) Free) α (awaiting e n Free) (lead then strings)
   strings-rest = less-laws (lead-laws then-laws strings-laws) (fewer (omega arith))
@@ -54,7 +54,7 @@ module _ {e n : ℕ} {α : Point rules} where
   rest-core Comments p a b = commented-rest .core
   rest-core Other p a b = from-core entry-takes p (then-core (put-core type-takes a b) (body-rest .core))
 
--- the last from some point
+-- `body-rest` from some point, where it does not matter which
 body-start : Laws (awaiting 0 0 (Is awaits.key)) start (awaiting 0 0 Free) (lead then body)
 body-start = body-rest
 
@@ -72,7 +72,7 @@ named p a s e = (rest (formOf s a e) p a e then white then closing) s e
 abbrev pub typed : ℕ → Reader
 typed p s a = andThen (ident s a) (named p a s)
 
--- ---- what an entry keeps: it is told by what it ate, because its last character closes it
+-- ---- an entry answers the same on a text that shows the same up to its end, because its last character closes it
 
 closing-kept : Kept 1 1 0 closing
 unfolding closing
@@ -154,7 +154,7 @@ typed-traced s p a x =
 
 -- ---- an entry
 
--- what an entry owes is paid by its "@", its type and its closing delimiter
+-- the "@", the type and the closing delimiter pay for the rows of an entry
 pub entry-laws : {e n : ℕ} {α : Point rules} → Laws (awaiting e n Free) α (awaiting (suc e) n Free) entry
 unfolding entry
 entry-laws {e} {n} {α} =

@@ -1,7 +1,7 @@
 -- The laws of the file, and what they say of an accepted file's rows and of a refusal.
---     file-turn-laws, file-laws, file-turn-kept
+--     file-turn-laws, file-laws, file-turn-kept      the laws of a turn and of the file
 --     file-rules, file-few        the rows pass the row rules, and are at most as many as the bytes
---     file-early                  where a file is refused by 3, no value begins
+--     file-early                  where a file is refused with 3, no value begins
 -- Assumes nothing.
 use Prim.Native.Nat.{ℕ, suc, _+_, _≤_}
 use native.Mathlib.Omega.{arith}
@@ -33,7 +33,7 @@ use Rattle.raw.proofs.grammar.Readers.{from-start, white-laws}
 
 -- ---- the laws
 
--- a reader that is seen to begin with a character of class c eats it
+-- a reader that eats a character of class c, if one stands there, eats it where one is seen
 seen-eaten : (c : ℕ → Bool) (f g h k : Reader) (s : List ℕ) (p : ℕ) → when c (f then h) k s p ≡ sees c (when c f g then h) k s p
 seen-eaten c f g h k s p = by (see s p)
   where
@@ -46,7 +46,7 @@ seen-eaten c f g h k s p = by (see s p)
         on false = refl
 
 module _ {e n : ℕ} where
-  -- a comment at its "%" eats it
+  -- a comment that stands at its "%" eats it
   comment-turn-laws : {ω : Point rules} {k : Reader} → Laws (awaiting e n Free) (awaiting (suc e) n Free) ω k
       → Laws (awaiting e n Free) (awaiting (suc e) n Free) ω (sees (holdsOf test.Percent) (comment then turn 0) k)
   unfolding comment
@@ -68,7 +68,7 @@ module _ {e n : ℕ} where
 pub file-turn-kept : (a : ℕ) → Kept 1 0 1 (fileTurn a)
 file-turn-kept a = going (file-turn-laws {e = 0} {n = 0} a)
 
--- ---- what an accepted file's rows are, and where one is refused
+-- ---- the rows of an accepted file, and the place of a refusal
 
 module _ (s : List ℕ) (p q : ℕ) (rs : List Row) (e : file s p ≡ ok q rs) where
   file-route : Route (awaiting 0 0 Free) (awaiting 0 0 Free) p q rs
@@ -77,12 +77,12 @@ module _ (s : List ℕ) (p q : ℕ) (rs : List Row) (e : file s p ≡ ok q rs) w
       by : RouteOut (awaiting 0 0 Free) start (awaiting 0 0 Free) p (ok q rs) → Route (awaiting 0 0 Free) (awaiting 0 0 Free) p q rs
       by (done x) = x
 
-  -- they pass the row rules
+  -- the rows pass the row rules
   pub file-rules : isRows rs ≡ true
   unfolding isRows
   file-rules = ruled .free-whole _ (file-route .follows (part false) (none false))
 
-  -- and are at most as many as the bytes
+  -- the rows are at most as many as the bytes
   pub file-few : length rs + p ≤ q
   file-few = omega (arith, file-route .pays)
 

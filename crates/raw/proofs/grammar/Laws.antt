@@ -1,12 +1,12 @@
--- All laws of a reader in one record, closed under the ways to make readers. A reader's laws are proved by saying its definition
--- once more, with these laws in the place of the combinators.
---     Core        the laws that also hold of a reader that is told places of the text, as `put` and `overFrom` are
---     Laws        with those of a reader that is told none: its rows stand over what it ate, and it moves with its text
---     put-core, from-core, then-core, less-core
+-- All laws of a reader in one record, which the ways to make readers preserve. A reader's laws are proved by writing its definition once
+-- more, with these laws in place of the combinators.
+--     Core        the laws that also hold of a reader that is given places of the text, as `put` and `overFrom` are
+--     Laws        these, and two more of a reader that is given none: its rows stand over what it ate, and it moves with its text
+--     put-core, from-core, then-core, less-core      `Core` of readers that are given places
 --     stop-laws, turn-laws, refuse-laws, when-laws, sees-laws, _then-laws_, over-laws, many-laws, need-laws, scan-laws
---     less-laws, same-laws        to a point that asks less; of a reader that answers the same
---     going                       a turn that goes on eats
--- Readers that refuse by `UnexpectedEof` are in UnexpectedEof.antt.
+--     less-laws, same-laws        `Laws` to a point that asks less; of a reader that answers the same
+--     going                       a turn that says `again` has eaten
+-- Readers that refuse with `UnexpectedEof` are in UnexpectedEof.antt.
 -- Assumes nothing.
 use Prim.Native.Nat.{ℕ, suc, _+_, _≤_}
 use native.Mathlib.Omega.{arith}
@@ -34,9 +34,9 @@ use Rattle.raw.proofs.readers.Points.{eat-route}
 use Rattle.raw.proofs.readers.Points.{chain-route, less-route, loop-route, under-route, put-route}
 use Rattle.raw.proofs.grammar.Early.{EarlyOut, chain-early, under-early, loop-early}
 
--- ---- the words
+-- ---- the definitions
 
--- from the point σ, by `again` to α, else to ω
+-- the reader leads from the point σ to α where it says `again`, and to ω where it is done
 pub record Core {O : Order Row} (σ α ω : Point O) (f : Reader) : Type 0 where
   pub kept : Kept 0 0 1 f
   pub route : (s : List ℕ) (p : ℕ) → RouteOut σ α ω p (f s p)
@@ -47,7 +47,7 @@ pub record Laws {O : Order Row} (σ α ω : Point O) (f : Reader) : Type 0 where
   pub traced : (s : List ℕ) (p : ℕ) → Traced s p (f s p)
   pub shift : (x : List ℕ) → Shifts x f f
 
--- ---- readers that are told places
+-- ---- readers that are given places of the text
 
 module _ {O : Order Row} where
   pub then-core : {σ τ α ω : Point O} {f g : Reader} → Core σ τ τ f → Core τ α ω g → Core σ α ω (f then g)
@@ -73,9 +73,9 @@ module _ {O : Order Row} where
   pub less-core : {σ α ω ω′ : Point O} {f : Reader} → Core σ α ω f → AtLeast ω ω′ → Core σ α ω′ f
   less-core F h = record { kept = F .kept; route = λ s p. less-route h (F .route s p); early = F .early }
 
--- ---- readers without parts
+-- ---- readers that are not made of others
 
--- a reason that the readers meet by name: 01's numbers 4 to 10
+-- a reason that readers give where something else stands: 01's numbers 4 to 10
 abbrev pub Met : Reason → Type 0
 Met reason = (4 ≤ numberOf reason) × (numberOf reason ≤ 10)
 
@@ -104,7 +104,7 @@ module _ {O : Order Row} {σ α ω : Point O} where
         shift = λ x. refuse-shifts reason;
       }
 
-  -- ---- readers that look
+  -- ---- readers that look at a character
 
   pub when-laws : (t : ℕ → Bool) {f g : Reader} → Laws (ate σ) α ω f → Laws σ α ω g → Laws σ α ω (when t f g)
   when-laws t {f} {g} F G =
@@ -132,9 +132,9 @@ module _ {O : Order Row} {σ α ω : Point O} where
         shift = λ x. sees-shifts x t (F .shift x) (G .shift x);
       }
 
--- ---- readers of several
+-- ---- readers made of others
 
--- a turn that goes on eats
+-- a turn that says `again` has eaten
 module _ {O : Order Row} {σ ω : Point O} where
   turn-advances : {p : ℕ} (n : ℕ) {o : Out} → RouteOut σ (onward σ) ω p o → Advances 0 0 p n o → Advances 1 0 p n o
   turn-advances n (done x) y = y

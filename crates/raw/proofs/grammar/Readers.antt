@@ -1,6 +1,6 @@
--- The laws of every reader of the grammar, in the order of specs/Grammar.antt: x-laws is of the reader x. A new reader is entered
--- here once. Its points say which bytes pay for its rows, and which rows may come before and after it. A reader without rows leads
--- from any point σ to the same point, or to `ate σ` if it must eat a character. Entries.antt and Files.antt go on.
+-- The laws of every reader of the grammar, in the order of specs/Grammar.antt: `x-laws` is of the reader x. A new reader is entered here
+-- once. Its points say which bytes pay for its rows, and which rows may come before and after it. A reader without rows leads from any
+-- point σ to the same point, or to `ate σ` if it must eat a character. The laws of entries and files are in Entries.antt and Files.antt.
 --     from-start                                      the laws of a reader, where it does not matter from which point
 --     quoted-turn-kept, number-turn-kept, braced-turn-kept        what the turns of the loops over bytes keep
 -- Assumes nothing.
@@ -69,7 +69,7 @@ module _ {O : Order Row} {σ α : Point O} where
 
 -- ---- values: f says whether they are a field's
 
--- an element's row takes a byte that was eaten before
+-- a byte that was eaten before pays for an element's row
 abbrev Element : Bool → ℕ → ℕ → Point rules → Reader → Type 0
 Element f e n α = Laws (awaiting e (suc n) (Chunk f)) α (awaiting e n (Is (chunks f)))
 
@@ -143,7 +143,7 @@ abbr-element-laws f =
     (braced-laws f)
     (string-literal-laws f)
 
--- a "#" pays for the next row
+-- a "#" pays for the row of the next element
 abbr-turn-laws : (f : Bool) {e n : ℕ} (a : ℕ)
     → Laws (awaiting e (suc n) (Chunk f)) (awaiting (suc e) (suc n) (Chunk f)) (awaiting e n (Is (chunks f))) (abbrTurn a)
 unfolding abbrTurn
@@ -170,7 +170,7 @@ field-end-laws =
     (sees-laws (is 0x7D) stop-laws
     (refuse-laws ExpectedComma (omega arith)))
 
--- their names, of kind k, may come where P is awaited. A field has three rows: its name's first character pays for one, its "="
+-- field names are of kind k, and may come where P is awaited. A field has three rows: its name's first character pays for one, its "="
 -- for another, and the comma before it for the third
 module _ {P : Await → Type 0} (k : Kind) (f : Bool) (d : eqb (kindOf k) 9 ≡ false) (t : Takes rules (plain k) P (Is (value f)))
     (again : P (chunks f)) {e n : ℕ} where

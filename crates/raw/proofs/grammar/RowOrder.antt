@@ -1,4 +1,4 @@
--- The order of rows that 01's rules ask: what may be awaited, and what a row of each kind leads to.
+-- The order of rows that 01's rules ask for: what may be awaited, and what a row of each kind leads to.
 --     rules, awaiting, start      the order, and its points
 --     Is, Chunk, Part             what is awaited
 --     x-takes                     a row of the kind x, from what is awaited before it to what is awaited after it
@@ -33,7 +33,7 @@ start = awaiting 0 2 Free
 
 -- ---- what is awaited
 
--- exactly b
+-- b alone is awaited
 pub data Is (b : Await) : Await → Type 0 where
   is-it : Is b b
 

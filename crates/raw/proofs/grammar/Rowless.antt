@@ -1,8 +1,8 @@
 -- Readers without rows: the code answers a `Step` for them, and these laws recover what the reader answers.
 --     Rowless                       an answer that is done with no row, or a refusal
---     rowless-at, rowless-off       the answer, by the step that was told
---     rowless                       a reader that has the laws from any point answers so
---     x-rowless                     the readers that the code tells of by a step
+--     rowless-at, rowless-off       the answer, by the step that the code answered
+--     rowless                       a reader that has the laws from any point has such an answer
+--     x-rowless                     the readers for which the code answers a step
 -- Assumes nothing.
 use Prim.Native.Nat.{ℕ}
 use mathlib.Core.Path.{_≡_, refl, sym, ap, _∙_, subst}
@@ -24,7 +24,7 @@ pub data Rowless : Out → Type 0 where
   rowless-ok : {q : ℕ} → Rowless (ok q [])
   rowless-bad : {f : Fault} → Rowless (bad f)
 
--- ---- by the step it told
+-- ---- by the step that the code answered
 
 at-not-refused : {q : ℕ} {f : Fault} → step.At q ≡ step.Refused f → ⊥
 at-not-refused h = let z : _≡_ {A = ℕ} 0 1 = cc in absurd (omega arith)
@@ -59,7 +59,7 @@ rowless-route (done {q} x) = subst (λ (rs : List Row). Rowless (ok q rs)) (sym 
 rowless-route (goes x) = absurd (x .follows [] refl)
 rowless-route refuses = rowless-bad
 
--- a reader that has the laws from any point puts no row, and is no turn
+-- a reader that has the laws from any point puts no row, and is no turn of a loop
 pub rowless : {e n : ℕ} {f : Reader} → Laws (unrowed 0 0) never (unrowed e n) f → (s : List ℕ) (p : ℕ) → Rowless (f s p)
 rowless F s p = rowless-route (F .core .route s p)
 

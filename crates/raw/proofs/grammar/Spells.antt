@@ -1,6 +1,6 @@
--- The word that a type spells: told by what the text shows there, and moving with it.
+-- The word that an entry's type spells. Only what the text shows there decides it, and it moves with the text.
 --     form-same     two texts that show the same from a to e have the same form there
---     form-up       a text behind another has its form, moved
+--     form-up       behind another text the form is the same, at places moved
 -- Assumes nothing.
 use Prim.Native.Nat.{ℕ, _+_}
 use native.Mathlib.Omega.{arith}
@@ -18,7 +18,7 @@ use Rattle.text.specs.Seeing.{seenUp}
 use Rattle.raw.specs.Grammar.{lower, spells, formOf}
 use Rattle.raw.specs.Strict.{Same}
 
--- the first character is w, and f is asked from behind it on
+-- the character seen is w, and f passes at the place behind it
 abbrev led : ℕ → (ℕ → Bool) → Seen → Bool
 led w f End = false
 led w f (Char c n) = eqb (lower c) w && f n

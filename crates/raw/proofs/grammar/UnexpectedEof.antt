@@ -1,6 +1,6 @@
--- The laws of readers that refuse by `UnexpectedEof`: where no character is seen, or where no value begins.
---     when-any, sees-any      a character is eaten, or seen; or else the text ends
---     value-laws              a value begins; or else something else stands there
+-- The laws of readers that refuse with `UnexpectedEof`: where no character is seen, or where no value begins.
+--     when-any, sees-any      a reader that goes on at any character, which it eats or not, and refuses at the end of the text
+--     value-laws              a reader that goes on where a value begins, and refuses where none does
 -- Assumes nothing.
 use native.Mathlib.Omega.{arith}
 use Prim.Native.Nat.{ℕ}
@@ -58,13 +58,13 @@ module _ {O : Order Row} {σ α ω : Point O} where
         shift = λ x. sees-shifts x any (F .shift x) (refuse-shifts UnexpectedEof);
       }
 
--- the refusal stands behind all that a value may begin with
+-- the reader tries all that a value may begin with, and then refuses
 module _ {O : Order Row} {σ α ω : Point O} {f g h k : Reader}
     (F : Laws σ α ω f) (G : Laws σ α ω g) (H : Laws σ α ω h) (K : Laws σ α ω k) where
   abbrev begins : Reader
   begins = sees (holdsOf test.Digit) f (sees isIdStart g (sees (is 0x7B) h (sees (is 0x22) k (refuse UnexpectedEof))))
 
-  -- by what is seen, of four; else R of the refusal
+  -- R holds of the whole if it holds of each of the four readers, and of the refusal where no value begins
   value-by : (R : Out → Type 0) (s : List ℕ) (p : ℕ) → R (f s p) → R (g s p) → R (h s p) → R (k s p)
       → (beginsValue (see s p) ≡ false → R (bad (faultAt UnexpectedEof p))) → R (begins s p)
   value-by R s p x y z u w =

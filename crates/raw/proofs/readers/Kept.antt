@@ -1,10 +1,10 @@
--- What every reader keeps of the text: it goes on, stays inside, and answers the same on a text that shows the same. For parts of
--- any type.
---     Advances, Kept                  the words
---     stop-kept, turn-kept, refuse-kept, put-kept       readers without parts
---     kept-weaker                     smaller numbers
---     eaten-both, eaten-holds         by what is seen
---     when-kept, sees-kept            readers that look
+-- What every reader keeps to: it goes forward, stays inside the text, and answers the same on a text that shows the same.
+-- Of readers that emit parts of any type.
+--     Advances, Kept                  the definitions
+--     stop-kept, turn-kept, refuse-kept, put-kept       readers that are not made of others
+--     kept-weaker                     a reader that keeps to some numbers keeps to weaker ones
+--     eaten-both, eaten-holds         what holds of both cases of `eaten` holds of it
+--     when-kept, sees-kept            readers that look at a character
 -- Assumes nothing.
 use Prim.Native.Nat.{ℕ, suc, _+_, _≤_, _<_, max}
 use native.Mathlib.Omega.{arith}
@@ -21,9 +21,9 @@ use Rattle.row.specs.declared.fault.Reason.{Reason}
 use Rattle.raw.specs.Strict.{Same, Stops}
 use Rattle.raw.specs.Reader.{OutOf, ok, again, bad, ReaderOf, eaten, stop, turn, refuse, put, when, sees}
 
--- ---- the words
+-- ---- the definitions
 
--- from p a reader went on by w at least, one that says `again` by v at least, and not past n
+-- a reader that began at p went forward by at least w octets (v, where it says `again`), and not past n
 abbrev pub Advances : {P : Type 0} → ℕ → ℕ → ℕ → ℕ → OutOf P → Type 0
 Advances v w p n (ok q rs) = (p + w ≤ q) × (q ≤ max p n)
 Advances v w p n (again q rs a) = (p + v ≤ q) × (q ≤ max p n)
@@ -35,7 +35,7 @@ pub record Kept {P : Type 0} (v w l : ℕ) (f : ReaderOf P) : Type 0 where
   pub advances : (s : List ℕ) (p : ℕ) → Advances v w p (length s) (f s p)
   pub local : (s t : List ℕ) (p q : ℕ) → Stops (f s p) q → q ≤ length t → Same s t p (q + l) → f t p ≡ f s p
 
--- ---- readers without parts
+-- ---- readers that are not made of others
 
 module _ {P : Type 0} where
   pub stop-kept : {v l : ℕ} → Kept {P = P} v 0 l stop
@@ -50,7 +50,7 @@ module _ {P : Type 0} where
 pub put-kept : {v l : ℕ} (m : Mark) (a e : ℕ) → Kept v 0 l (put m a e)
 put-kept m a e = record { advances = λ s p. omega arith; local = λ s t p q h i e. refl }
 
--- ---- smaller numbers
+-- ---- weaker numbers
 
 advances-less : {P : Type 0} (v w v′ w′ p n : ℕ) (o : OutOf P) → Advances v w p n o → v′ ≤ v → w′ ≤ w → Advances v′ w′ p n o
 advances-less v w v′ w′ p n (ok q rs) x a b = omega arith
@@ -66,7 +66,7 @@ kept-weaker {v = v} {w} {v′ = v′} {w′} {f = f} F m =
 
 -- ---- by what is seen
 
--- what holds of both ways holds
+-- R holds of `eaten` if it holds in both cases, where a character of class c is seen and where none is
 pub eaten-both : {P : Type 0} (R : OutOf P → OutOf P → Type 0) (c : ℕ → Bool) (x : Seen) (f f′ : ℕ → OutOf P) (o o′ : OutOf P)
     → ((k n : ℕ) → x ≡ Char k n → R (f n) (f′ n)) → R o o′
     → R (eaten c x f o) (eaten c x f′ o′)
@@ -81,7 +81,7 @@ pub eaten-holds : {P : Type 0} (R : OutOf P → Type 0) (c : ℕ → Bool) (x : 
     → ((k n : ℕ) → x ≡ Char k n → R (f n)) → R o → R (eaten c x f o)
 eaten-holds R c x f o h i = eaten-both (λ o o′. R o) c x f f o o h i
 
--- where an answer that advances stands at least
+-- the least place of an answer that advances
 least : {P : Type 0} (v w p n q : ℕ) (o : OutOf P) → Advances v w p n o → Stops o q → (l : ℕ) → 1 ≤ v + l → 1 ≤ w + l → p < q + l
 least v w p n q (ok q′ rs) x e l a b = omega arith
 least v w p n q (again q′ rs a) x e l b c = omega arith
@@ -93,7 +93,7 @@ advances-later v w v′ w′ p m n (ok q rs) a b c d x = omega arith
 advances-later v w v′ w′ p m n (again q rs z) a b c d x = omega arith
 advances-later v w v′ w′ p m n (bad f) a b c d x = tt
 
--- f follows a character that was eaten, g stands in its place: v, w and l are the whole's
+-- `when c f g`: f goes on behind the character that was eaten, and g at its place. The numbers v, w and l are those of the whole
 module _ {P : Type 0} {v w l v₁ w₁ : ℕ} (c : ℕ → Bool) {f g : ReaderOf P} (F : Kept v₁ w₁ l f) (G : Kept v w l g)
     (m : (v ≤ suc v₁) × (w ≤ suc w₁) × (1 ≤ v + l) × (1 ≤ w + l)) where
   when-advances : (s : List ℕ) (p : ℕ) → Advances v w p (length s) (when c f g s p)
@@ -112,7 +112,7 @@ module _ {P : Type 0} {v w l v₁ w₁ : ℕ} (c : ℕ → Bool) {f g : ReaderOf
   pub when-kept : Kept v w l (when c f g)
   when-kept = record { advances = when-advances; local = when-local }
 
--- f and g stand where it is looked
+-- `sees c f g`: both f and g go on at the place that was looked at
 module _ {P : Type 0} {v w l : ℕ} (c : ℕ → Bool) {f g : ReaderOf P} (F : Kept v w l f) (G : Kept v w l g) (m : (1 ≤ v + l) × (1 ≤ w + l)) where
   sees-advances : (s : List ℕ) (p : ℕ) → Advances v w p (length s) (sees c f g s p)
   sees-advances s p = eaten-holds (Advances v w p (length s)) c (see s p) (λ n. f s p) (g s p) (λ k n x. F .advances s p) (G .advances s p)

@@ -1,8 +1,8 @@
--- Loops: enough fuel is as good as more, and a loop of turns that go on keeps what they keep.
---     loop-fuel     any two fuels that last to the end of the text answer the same, refusals too
---     loop-more     any fuel that lasts to the answer's place answers the same
---     many-turn     a loop is its first turn and then the loop: after this no fuel is seen; `advancing-turn` asks less
---     many-kept, loop-traced
+-- Loops: more fuel than enough changes nothing, and a loop keeps to what its turns keep to.
+--     loop-fuel     any two amounts of fuel that last to the end of the text give the same answer, refusals included
+--     loop-more     any amount of fuel that lasts to the place of the answer gives the same answer
+--     many-turn     a loop is its first turn and then the loop, so that other laws need not speak of fuel; `advancing-turn` asks less of the turns
+--     many-kept, loop-traced     a loop keeps to what its turns keep to, and its rows stand over what it ate
 -- Assumes nothing.
 use Prim.Native.Nat.{ℕ, zero, suc, _+_, _≤_, _<_}
 use native.Mathlib.Omega.{arith}
@@ -19,7 +19,7 @@ use Rattle.raw.proofs.readers.Then.{more-stops, more-advances, advances
 abbrev on : {P : Type 0} → (ℕ → ReaderOf P) → ℕ → List ℕ → ℕ → ℕ → OutOf P
 on f n s = λ b q. loop f n b s q
 
--- every `again` of a turn goes on, and not past the end
+-- every turn that says `again` has gone forward, and not past the end
 module _ {P : Type 0} (w : ℕ) (f : ℕ → ReaderOf P) (F : (a : ℕ) (s : List ℕ) (p : ℕ) → Advances 1 w p (length s) (f a s p)) where
   fuel-after : (s : List ℕ) (p n m : ℕ) (o : OutOf P) → Advances 1 w p (length s) o → length s ≤ p + n → length s ≤ p + m
       → ((b q : ℕ) → p < q → q ≤ length s → loop f n b s q ≡ loop f m b s q) → after o (on f n s) ≡ after o (on f m s)
@@ -46,7 +46,7 @@ module _ {P : Type 0} (w : ℕ) (f : ℕ → ReaderOf P) (F : (a : ℕ) (s : Lis
   unfolding many loop
   advancing-turn a s p = turn-after s p (length s) (f a s p) refl (F a s p)
 
--- the same of turns that answer the same on a text that shows the same
+-- turns that also answer the same on a text that shows the same
 module _ {P : Type 0} {w l : ℕ} {f : ℕ → ReaderOf P} (F : (a : ℕ) → Kept 1 w l (f a)) where
   pub loop-fuel : (n m a : ℕ) (s : List ℕ) (p : ℕ) → length s ≤ p + n → length s ≤ p + m → loop f (suc n) a s p ≡ loop f (suc m) a s p
   loop-fuel = advancing-fuel w f (λ a. F a .advances)
@@ -111,7 +111,7 @@ module _ {P : Type 0} {w l : ℕ} {f : ℕ → ReaderOf P} (F : (a : ℕ) → Ke
   unfolding many
   many-kept {v} a = record { advances = λ s p. loop-advances v (suc (length s)) a s p; local = many-local a }
 
--- ---- of rows
+-- ---- the rows of a loop
 
 pub loop-traced : (f : ℕ → Reader) → ((a : ℕ) (s : List ℕ) (p : ℕ) → Traced s p (f a s p)) → (s : List ℕ) (n a p : ℕ) → Traced s p (loop f n a s p)
 unfolding loop

@@ -1,10 +1,10 @@
 -- Points of a reading. A point says how many bytes were eaten, how many of these no row has taken yet, and which rows may come next.
 -- A reader leads from one point to another, as a program does from what it requires to what it ensures; so the laws of readers that
--- follow each other compose, and nothing is added up. Every row takes a byte: a text has no more rows than bytes. For parts of any type.
---     Order, Point, at, ate, onward       the words
+-- follow each other compose, and nothing is added up. Every row takes a byte: a text has no more rows than bytes. Of parts of any type.
+--     Order, Point, at, ate, onward       the definitions
 --     AtLeast                             one point offers what another asks: `same`, `back`, `past`, `far`, `fewer`, `wider`
---     Route, RouteOut                     from a point at a place to another point at another, with these parts; of an answer
---     Takes                               a row leads from what is awaited to what is awaited then
+--     Route, RouteOut                     a way from one point at a place to another point at another place, with these parts; and of an answer
+--     Takes                               a row leads from what is awaited before it to what is awaited after it
 -- Assumes nothing.
 use Prim.Native.Nat.{ℕ, zero, suc, _+_, _≤_, _<_}
 use native.Mathlib.Omega.{arith}
@@ -15,7 +15,7 @@ use Rattle.row.specs.declared.fault.Fault.{Fault}
 use Rattle.row.specs.Row.{Row, Mark, marked}
 use Rattle.raw.specs.Reader.{OutOf, ok, again, bad, ReaderOf, Out, more, andThen, after, under, loop}
 
--- ---- the words
+-- ---- the definitions
 
 -- which parts may follow each other: a state, and the state after a list of parts
 pub record Order (T : Type 0) : Type 1 where
@@ -34,7 +34,7 @@ module _ {T : Type 0} {O : Order T} where
   abbrev pub at : ℕ → ℕ → (O .State → Type 0) → Point O
   at e n P = record { eaten = e; spare = n; awaits = P }
 
-  -- a byte further; and a byte further that a row has taken
+  -- `ate` is a byte further, which no row has taken yet; `onward` is a byte further, which a row has taken
   abbrev pub ate : Point O → Point O
   ate σ = at (suc (σ .eaten)) (suc (σ .spare)) (σ .awaits)
 
@@ -53,13 +53,13 @@ module _ {T : Type 0} {O : Order T} where
     pub pays : length rs + p + ω .spare ≤ q + σ .spare
     pub follows : (a : O .State) → σ .awaits a → ω .awaits (O .run a rs)
 
-  -- of an answer: one that says `again` stands at α, one that is done at ω
+  -- an answer that says `again` leads to α, and one that is done leads to ω
   pub data RouteOut (σ α ω : Point O) (p : ℕ) : OutOf T → Type 0 where
     done : {q : ℕ} {rs : List T} → Route σ ω p q rs → RouteOut σ α ω p (ok q rs)
     goes : {q a : ℕ} {rs : List T} → Route σ α p q rs → RouteOut σ α ω p (again q rs a)
     refuses : {f : Fault} → RouteOut σ α ω p (bad f)
 
-  -- ---- at least
+  -- ---- points that offer at least what others ask
 
   pub wider : {e e′ n n′ : ℕ} {P P′ : O .State → Type 0} → (e′ ≤ e) × (n′ ≤ n) → ((a : O .State) → P a → P′ a)
       → AtLeast (at e n P) (at e′ n′ P′)
@@ -80,7 +80,7 @@ module _ {T : Type 0} {O : Order T} where
   pub far : {σ : Point O} → AtLeast (ate (ate σ)) (onward σ)
   far = fewer (omega arith)
 
-  -- ---- the ways
+  -- ---- routes
 
   pub stay : {σ τ : Point O} (p : ℕ) → AtLeast σ τ → Route σ τ p p []
   stay {σ} {τ} p h =
@@ -106,11 +106,11 @@ module _ {T : Type 0} {O : Order T} where
         follows = λ a y. h .awaits _ (x .follows a y);
       }
 
-  -- behind a byte
+  -- a route from behind a byte is one from before it
   byte : {σ ω : Point O} {p n q : ℕ} {rs : List T} → p < n → Route (ate σ) ω n q rs → Route σ ω p q rs
   byte h x = record { eats = omega (arith, x .eats); pays = omega (arith, x .pays); follows = x .follows }
 
-  -- ---- of answers
+  -- ---- routes of answers
 
   module _ {α ω : Point O} where
     pub eat-route : {σ : Point O} {p n : ℕ} {o : OutOf T} → p < n → RouteOut (ate σ) α ω n o → RouteOut σ α ω p o

@@ -1,4 +1,4 @@
--- A scan of the grammar is the scanner's: `scan-skip`.
+-- A scan of the grammar ends where the scanner's `skip` does: `scan-skip`.
 -- Assumes nothing.
 use Prim.Native.Nat.{ℕ, zero, suc, _+_, _≤_, _<_}
 use native.Mathlib.Omega.{arith}
@@ -29,7 +29,7 @@ module _ {P : Type 0} (t : ℕ → Bool) (s : List ℕ) where
       → many {P = P} (scanTurn t) a s n ≡ ok (skip t s n) [] → many {P = P} (scanTurn t) a s p ≡ ok (skip t s p) []
   scan-eats a p n h q d e = many-turn (scan-turn-kept t) a s p ∙ rw (seeing .see-at s p h, q, d, e, seeing .skip-on t s p h q, d)
 
-  -- with k octets at most to go
+  -- by induction on k, where at most k octets are left
   scan-by : (k a p : ℕ) → length s ≤ p + k → many {P = P} (scanTurn t) a s p ≡ ok (skip t s p) []
   scan-by zero a p h = scan-end a p (omega arith)
   scan-by (suc k) a p h = by (ltb p (length s)) (t (code (drop p s))) refl refl (λ n l. scan-by k a n l)

@@ -1,7 +1,7 @@
--- A reader of rows moves with its text: behind another text it answers what it answers without it, moved.
---     Shifts                                              the word: of two readers, because one that is told places is told others
---     stop-shifts, turn-shifts, refuse-shifts, put-shifts
---     when-shifts, sees-shifts, then-shifts, over-shifts, from-shifts, many-shifts
+-- A reader of rows moves with its text: behind another text it gives the same answer, with its places moved.
+--     Shifts      the definition. It relates two readers, because one that is given places of the text is given others behind another text
+--     stop-shifts, turn-shifts, refuse-shifts, put-shifts                              readers that are not made of others
+--     when-shifts, sees-shifts, then-shifts, over-shifts, from-shifts, many-shifts     readers that are
 -- Assumes nothing.
 use Prim.Native.Nat.{ℕ, zero, suc, _+_}
 use native.Mathlib.Omega.{arith}
@@ -23,11 +23,11 @@ use Rattle.raw.specs.Strict.{shifted}
 use Rattle.raw.proofs.readers.Kept.{Kept}
 use Rattle.raw.proofs.readers.Loop.{loop-fuel}
 
--- g behind the text a answers what f answers without it, moved
+-- behind the text a, g gives the answer that f gives without it, with its places moved
 pub record Shifts (a : List ℕ) (f g : Reader) : Type 0 where
   pub moves : (s : List ℕ) (p : ℕ) → g (a ++ s) (p + length a) ≡ shifted (length a) (f s p)
 
--- ---- readers without parts
+-- ---- readers that are not made of others
 
 module _ {x : List ℕ} where
   pub stop-shifts : Shifts x stop stop
@@ -90,7 +90,7 @@ pub then-shifts : {a : List ℕ} {f f′ g g′ : Reader} → Shifts a f f′ �
 then-shifts {a} {f} {f′} {g} {g′} F G =
     record { moves = λ s p. rw (F .moves s p) (chain-up (length a) (g s) (g′ (a ++ s)) (f s p) (G .moves s)) }
 
--- ---- a row over it
+-- ---- a row over what is read
 
 under-up : (m : Mark) (p d : ℕ) (o : Out) → under (marked m (p + d)) (shifted d o) ≡ shifted d (under (marked m p) o)
 unfolding moved

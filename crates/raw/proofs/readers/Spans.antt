@@ -1,7 +1,7 @@
 -- What a trace tells of places and rows.
---     rising-less                                     starts that never fall, from an earlier place on
---     reach-order, reach-inside, reach-boundary       of the place that is reached
---     trace-rising, trace-spans, trace-clean          of the rows
+--     rising-less                                     rows that rise from a place on rise from every earlier place on
+--     reach-order, reach-inside, reach-boundary       the place that is reached is not before the first, in the text, and a boundary
+--     trace-rising, trace-spans, trace-clean          the rows rise, have spans in the text, and none of them is damage
 -- Assumes nothing.
 use Prim.Native.Nat.{ℕ, _≤_}
 use native.Mathlib.Omega.{arith}
@@ -18,7 +18,7 @@ use Rattle.row.proofs.Ruled.{ruled}
 use Rattle.raw.specs.Strict.{Rising, Spans}
 use Rattle.raw.proofs.readers.Trace.{Reach, here, on, Trace, none, eats, joins, lays, trace-reach}
 
--- ---- of rows
+-- ---- rows
 
 pub rising-less : (n m : ℕ) (rs : List Row) → n ≤ m → Rising m rs → Rising n rs
 unfolding Rising
@@ -33,7 +33,7 @@ spans-append s (r ∷ rs) ss x y = (x .0, spans-append s rs ss (x .1) y)
 clean-append : (rs ss : List Row) → clean rs ≡ true → clean ss ≡ true → clean (rs ++ ss) ≡ true
 clean-append rs ss h k = ruled .clean-append rs ss ∙ rw (h, k)
 
--- ---- of a trace
+-- ---- traces
 
 module _ {s : List ℕ} where
   pub reach-order : {p q : ℕ} → Reach s p q → p ≤ q
@@ -48,7 +48,7 @@ module _ {s : List ℕ} where
   reach-boundary o here b = b
   reach-boundary {p} o (on {n = n} {c = c} e x) b = reach-boundary o x (boundaries .sees s p c n o b e .1)
 
-  -- followed by rows that start from q on
+  -- a trace to q, and then rows that start from q on
   rising-on : {p q : ℕ} {rs : List Row} (n : ℕ) (ss : List Row) → Trace s p rs q → n ≤ p → Rising q ss → Rising n (rs ++ ss)
   unfolding Rising
   rising-on {p} n ss none h x = rising-less n p ss h x

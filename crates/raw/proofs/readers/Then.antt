@@ -1,7 +1,7 @@
--- One reader after another, and rows over what is read: what they keep.
---     chain-advances, chain-local        of what follows, given as a function of the place
---     then-kept, over-kept, from-kept
---     more-none, then-on, then-off, bad-is        of answers
+-- What one reader after another keeps to, and a reader with a row over what it reads.
+--     chain-advances, chain-local        a reader and what follows it, which is given as a function of the place
+--     then-kept, over-kept, from-kept    two readers; a row over a reader, from its own beginning or from an earlier place
+--     more-none, then-on, then-off, bad-is        answers: without rows in front; after a reader whose answer is known; equal refusals
 -- Assumes nothing.
 use Prim.Native.Nat.{ℕ, _+_, _≤_, max}
 use native.Mathlib.Omega.{arith}
@@ -21,11 +21,11 @@ more-none (ok q ss) = refl
 more-none (again q ss a) = refl
 more-none (bad f) = refl
 
--- two refusals that are the same answer are the same
+-- equal answers that refuse have equal refusals
 pub bad-is : {P : Type 0} {f g : Fault} → _≡_ {A = OutOf P} (bad f) (bad g) → f ≡ g
 bad-is e = cc
 
--- after a reader of which the answer is known
+-- what follows a reader whose answer is known
 module _ {P : Type 0} {o : OutOf P} (g : ℕ → OutOf P) where
   pub then-on : {q : ℕ} → o ≡ ok q [] → andThen o g ≡ g q
   then-on {q} e = ap (λ (x : OutOf P). andThen x g) e ∙ more-none (g q)
@@ -52,13 +52,13 @@ advances-from v w v′ w′ w₁ p q n (ok q′ ss) a b c d x = omega arith
 advances-from v w v′ w′ w₁ p q n (again q′ ss z) a b c d x = omega arith
 advances-from v w v′ w′ w₁ p q n (bad f) a b c d x = tt
 
--- how far an answer that advances stands at least
+-- the least distance from p of an answer that advances
 pub least-from : {P : Type 0} (v w p n q : ℕ) (o : OutOf P) → Advances v w p n o → Stops o q → (l m : ℕ) → m ≤ v + l → m ≤ w + l → p + m ≤ q + l
 least-from v w p n q (ok q′ rs) x e l m a b = omega arith
 least-from v w p n q (again q′ rs a) x e l m b c = omega arith
 least-from v w p n q (bad f) x e l m a b = absurd e
 
--- ---- f, and from its place r on what g answers
+-- ---- f, and then what g answers at the place r where f is done
 
 module _ {P : Type 0} {w₁ m : ℕ} {f : ReaderOf P} (F : Kept w₁ w₁ m f) (s : List ℕ) (p : ℕ) (g : ℕ → OutOf P) where
   module _ (v w v′ w′ : ℕ) (G : (r : ℕ) → Advances v w r (length s) (g r)) (k : (v′ ≤ w₁ + v) × (w′ ≤ w₁ + w)) where
@@ -74,7 +74,7 @@ module _ {P : Type 0} {w₁ m : ℕ} {f : ReaderOf P} (F : Kept w₁ w₁ m f) (
     pub chain-advances : Advances v′ w′ p (length s) (andThen (f s p) g)
     chain-advances = out-advances (f s p) (F .advances s p)
 
-  -- where what follows answers the same on t, all does
+  -- where what follows answers the same on t, so do both together
   module _ (v w l : ℕ) (t : List ℕ) (q : ℕ) (h : ℕ → OutOf P)
       (G : (r : ℕ) → Advances v w r (length s) (g r))
       (H : (r : ℕ) → p ≤ r → r ≤ q → Stops (g r) q → h r ≡ g r)
@@ -108,7 +108,7 @@ then-kept {v = v} {w = w} {l = l} {v′ = v′} {w′ = w′} {g = g} F G k =
           chain-local F s p (g s) v w l t q (g t) (G .advances s) (λ r a b u. G .local s t r q u i (λ j x y. e j (omega arith) y)) i e (k .0, k .1) h;
     }
 
--- ---- a row over it
+-- ---- a row over what is read
 
 module _ (mk : ℕ → Row) where
   under-stops : (o : Out) (q : ℕ) → Stops (under mk o) q → Stops o q
@@ -122,7 +122,7 @@ module _ (mk : ℕ → Row) where
   under-advances v w p n (bad f) x = tt
 
 module _ {v w l : ℕ} (m : Mark) {f : Reader} where
-  -- from a place before it
+  -- from an earlier place
   pub from-kept : (a : ℕ) → Kept v w l f → Kept v w l (overFrom m a f)
   from-kept a F =
       record {
@@ -130,6 +130,6 @@ module _ {v w l : ℕ} (m : Mark) {f : Reader} where
         local = λ s t p q h i e. ap (under (marked m a)) (F .local s t p q (under-stops (marked m a) (f s p) q h) i e);
       }
 
-  -- from its own
+  -- from where the reader begins
   pub over-kept : Kept v w l f → Kept v w l (over m f)
   over-kept F = record { advances = λ s p. from-kept p F .advances s p; local = λ s t p q h i e. from-kept p F .local s t p q h i e }

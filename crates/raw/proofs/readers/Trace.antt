@@ -1,7 +1,7 @@
 -- How a reader goes through a text: what it reads it eats character by character, and its rows stand over what it ate.
---     Reach, Trace, Refused, Traced       the words: by characters from p to q; with these rows; of an answer
---     reach-on, trace-reach, reach-trace, joined      one after the other
---     eat-traced, back-traced, lay-traced             after a character, or some; a row over it
+--     Reach, Trace, Refused, Traced       the definitions: by characters from p to q; with these rows; a refusal; an answer
+--     reach-on, trace-reach, reach-trace, joined      one way after another
+--     eat-traced, back-traced, lay-traced             an answer after a character, or after several; a row over what was read
 -- Assumes nothing.
 use Prim.Native.Nat.{ℕ, _≤_}
 use mathlib.Core.Path.{_≡_}
@@ -15,14 +15,14 @@ use Rattle.row.specs.Fault.{numberOf}
 use Rattle.row.specs.Row.{Row, Mark, marked, kindOf}
 use Rattle.raw.specs.Reader.{Out, ok, again, bad, more, andThen, under, after}
 
--- ---- the words
+-- ---- the definitions
 
 -- by whole characters from p to q
 pub data Reach (s : List ℕ) : ℕ → ℕ → Type 0 where
   here : {p : ℕ} → Reach s p p
   on : {p n q c : ℕ} → see s p ≡ Char c n → Reach s n q → Reach s p q
 
--- and with these rows, none a damage row: each from where its reading began to where it ended
+-- by whole characters from p to q with these rows: none is a damage row, and each goes from where its reading began to where it ended
 pub data Trace (s : List ℕ) : ℕ → List Row → ℕ → Type 0 where
   none : {p : ℕ} → Trace s p [] p
   eats : {p n q c : ℕ} {rs : List Row} → see s p ≡ Char c n → Trace s n rs q → Trace s p rs q
@@ -72,7 +72,7 @@ module _ (s : List ℕ) (p : ℕ) where
   eat-traced c n (again q rs a) e t = eats e t
   eat-traced c n (bad f) e t = refused-from (on e here) t
 
-  -- from a place before
+  -- from an earlier place
   pub back-traced : (q : ℕ) (o : Out) → Reach s p q → Traced s q o → Traced s p o
   back-traced q (ok r rs) x t = joins (reach-trace x) t
   back-traced q (again r rs a) x t = joins (reach-trace x) t

@@ -1,8 +1,8 @@
 -- The loops of `in_braces` and `quoted` over blocks of bytes.
---     pass-clear                  any such loop over a stretch without a byte that decides
---     braces-clear, quoted-clear  the two loops
---     braces-far, quoted-far      past a backslash and the byte after it
---     braces-eof                  a backslash at the end of the text
+--     pass-clear                  a loop passes a stretch without a byte that it looks for
+--     braces-clear, quoted-clear  the two loops pass such a stretch
+--     braces-far, quoted-far      they pass a backslash and the byte after it
+--     braces-eof                  a backslash at the end of the text is refused
 --     quoted-rest                 what the loop over blocks leaves to the loop over bytes
 -- Assumes nothing.
 use Prim.Native.Nat.{ℕ, zero, suc, _+_, _-_, _≤_, _<_, max}
@@ -26,7 +26,7 @@ use Rattle.raw.specs.Grammar.{quotedTurn, quoted, bracedTurn, inBraces}
 use Rattle.raw.proofs.ways.ByteLoops.{Reached}
 use Rattle.raw.proofs.ways.ByteTurns.{quoted-plain, quoted-escape, braces-plain, braces-escape, braces-cut, braces-end}
 
--- the loop of the turns t reached k, and the byte there is not of the set: it reaches k + 1
+-- where the loop of the turns t has reached k, and the byte there is not in the set, it reaches k + 1
 abbrev Passes : (ℕ → Reader) → Set → List ℕ → ℕ → ℕ → Type 0
 Passes t x s at d = (k : ℕ) → Reached t s at d k → k < length s → inSet x (getD s k 0) ≡ false → Reached t s at d (k + 1)
 

@@ -1,11 +1,11 @@
--- Loops that go by bytes, against turns that go by characters: only ASCII decides.
+-- Loops of the code go by bytes, and turns of the grammar by characters: they agree, because only ASCII decides.
 --     seen-key, seen-other     what is seen at a byte: one that the code asks for, or none of them
 --     Narrow                   a class of ASCII characters
 --     Unrolls                  a loop is its first turn and then the loop
 --     Wide                     a turn passes every character that is not ASCII
---     Reached                  the loop's invariant: what reads on from here reads what the whole loop reads
+--     Reached                  the loop's invariant: from here on the loop answers what the whole loop answers
 --     reached                  it holds at the start
---     on-turn, on-char         a turn, to the place after the character; and to the place after its first byte
+--     on-turn, on-char         after a turn the loop has reached the place after the character, and so the place after its first byte
 --     on-escape, on-cut        a turn that passes a backslash and the character after it, and one at the end of the text
 --     at-stop, at-bad          the loop's answers
 -- Assumes nothing.
@@ -41,7 +41,7 @@ module _ (s : List ℕ) (i : ℕ) (h : i < length s) where
   pub seen-key : (k : ℕ) → getD s i 0 ≡ k → k < 0x80 → see s i ≡ Char k (i + 1)
   seen-key k e l = seeing .see-ascii s i h (omega arith) ∙ ap (λ (c : ℕ). Char c (i + 1)) e
 
-  -- the character at a byte is of no class of ASCII characters that the byte is not of
+  -- a class of ASCII characters that does not have the byte does not have the character that begins with it
   pub seen-other : (c : ℕ) × (n : ℕ) × (see s i ≡ Char c n) × ((p : ℕ → Bool) → Narrow p → p (getD s i 0) ≡ false → p c ≡ false)
   seen-other = go (ltb (getD s i 0) 0x80) refl
     where
@@ -86,7 +86,7 @@ module _ (f : ℕ → Reader) (un : Unrolls f) (s : List ℕ) where
         ∙ many-tails k (j + 1) (omega arith) (λ m l. e (j + suc m) (j + 1 + m) (omega arith) (t (suc m) (omega arith)))
         ∙ ap (many f a s) (omega arith)
 
-    -- after a character it is as after its first byte
+    -- from behind a character the loop answers what it answers from behind its first byte
     many-char : (i : ℕ) {c n : ℕ} → see s i ≡ Char c n → many f a s n ≡ many f a s (i + 1)
     unfolding rest
     many-char i {c} {n} e =

@@ -29,7 +29,7 @@ use Rattle.raw.proofs.grammar.Readers.{quoted-turn-kept, number-turn-ke
 use Rattle.text.proofs.general.Tests.{narrow-is, within-true}
 use Rattle.raw.proofs.ways.ByteLoops.{Narrow, seen-key, seen-other, Unrolls, Wide, Reached, on-turn, on-char, on-cut, on-escape, at-stop, at-bad}
 
--- what a reader without rows is to answer
+-- r is the step that the code must answer for the reader f, with its bounds
 abbrev Answers : Reader → List ℕ → ℕ → Step → Type 0
 Answers f s at r = (r ≡ stepOf (f s at)) × Onward (length s) 0 at r
 
@@ -76,7 +76,7 @@ module _ {s : List ℕ} {at i : ℕ} (r : Reached quotedTurn s at 0 i) where
 number-un : Unrolls numberTurn
 number-un = many-turn number-turn-kept
 
--- the loop's number, before the point and after it
+-- the number that the loop carries: 0 before the point, and 1 after it
 abbrev pub dotted : Bool → ℕ
 dotted d = cond d 1 0
 

@@ -1,4 +1,4 @@
--- The element of an abbreviation that begins with a brace or a quote.
+-- An element of a value that begins with a brace or a quote.
 --     element-braced, element-quoted
 -- Assumes nothing.
 use Prim.Native.Nat.{ℕ, _<_}

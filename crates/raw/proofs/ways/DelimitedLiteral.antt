@@ -14,9 +14,8 @@ use Rattle.raw.specs.Reader.{Out, ok, bad, Reader, more, _then_, over}
 use Rattle.raw.specs.Grammar.{quote, quoted, string}
 use Rattle.raw.specs.Says.{stepOf, Onward, Within, Says}
 use Rattle.raw.specs.Inner.{literalOf}
-use Rattle.raw.proofs.grammar.Rowless.{Rowless, rowless-ok, rowless-bad, rowless-at, rowless-off}
+use Rattle.raw.proofs.grammar.Rowless.{Rowless, rowless-ok, rowless-bad, rowless-at, rowless-off, quote-rowless, quoted-rowless}
 use Rattle.raw.proofs.readers.Then.{then-on, then-off}
-use Rattle.raw.proofs.grammar.Rowless.{quote-rowless, quoted-rowless}
 
 -- f opens, g reads the inside, h closes
 module _ (f g h : Reader) (s : List ℕ) (i : ℕ) (F : Rowless (f s i)) (G : (p : ℕ) → Rowless (g s p)) (H : (p : ℕ) → Rowless (h s p)) where
@@ -41,13 +40,13 @@ module _ (f g h : Reader) (s : List ℕ) (i : ℕ) (F : Rowless (f s i)) (G : (p
           by (ok q rs) rowless-ok r k = rw k
           by (bad f) rowless-bad r k = rw k
 
--- a literal's answer is two places on at least: one for each delimiter
+-- a literal goes forward by at least two bytes, one for each delimiter
 pub literal-within : (len p a e base n : ℕ) (r : Step) {b b′ : List ℕ} {x : Answer} →
     p + 1 ≤ e → e ≤ len → Onward len 1 e r → Says base (literalOf a e r) n b x b′ → Within len 2 p n x
 literal-within len p a e base n (step.At q) k l h y = rw (y .told) (omega arith, omega arith, omega arith)
 literal-within len p a e base n (step.Refused f) k l h y = rw (y .told) tt
 
--- a string, with no row
+-- `string`, which puts no row
 module _ (s : List ℕ) (i : ℕ) {r₁ : Step} (e₁ : r₁ ≡ stepOf (quote s i)) where
   pub string-first-off : {x : Fault} → r₁ ≡ step.Refused x → string s i ≡ bad x
   unfolding string

@@ -67,7 +67,7 @@ module _ (s : List ℕ) (i : ℕ) where
       go true e = let h = ltb-true _ _ e in single-off h (u .no-brace h) (u .no-quote h)
       go false e = single-end (ltb-false _ _ e)
 
--- ---- `abbr_element`, by what `eat_if` told
+-- ---- `abbr_element`, by what `eat_if` answered
 
 module _ (s : List ℕ) (i : ℕ) {r : ℕ} (e : r ≡ pastOne (holdsOf test.Digit) i (see s i)) where
   abbrev nameOr : Out
@@ -77,7 +77,7 @@ module _ (s : List ℕ) (i : ℕ) {r : ℕ} (e : r ≡ pastOne (holdsOf test.Dig
   unfolding abbrElement
   element-number h = eaten-on (holdsOf test.Digit) s i (λ n. under (row kind.Literal i) (number s i)) nameOr e h
 
-  -- a number takes its first digit
+  -- a number goes past its first digit
   pub number-past : (r ≡ i → ⊥) → {q : ℕ} → number s i ≡ ok q [] → r ≤ q
   unfolding number numberTurn
   number-past h {q} d =

@@ -1,4 +1,4 @@
--- The ways through the functions of src/entry.rt, over what their calls told.
+-- The ways through the functions of src/entry.rt, over what their calls answered.
 --     lead-off, lead-on                the opening delimiter with white space around it
 --     preamble-off, preamble-on        a preamble's string
 --     body-off, body-on                an entry's key, to its fields

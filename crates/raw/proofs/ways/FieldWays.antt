@@ -1,13 +1,13 @@
 -- The ways through `field`, `field_end` and `fields_turn`.
 -- Assumes nothing.
-use Prim.Native.Nat.{ℕ, _+_, _≤_, _<_}
+use Prim.Native.Nat.{ℕ, _+_, _*_, _≤_, _<_, max}
 use mathlib.Core.Path.{_≡_, sym, ap, _∙_}
 use mathlib.Core.List.{List, []}
 use native.Mathlib.Omega.{arith}
 use lib.ListN.{length, getD}
 use borrow.Author.Tests.{eq-eqb, ne-eqb}
 use Rattle.text.specs.Class.{isWhitespace, holdsOf}
-use Rattle.text.specs.Scan.{see, skip}
+use Rattle.text.specs.Scan.{see, skip, Ahead}
 use Rattle.text.proofs.Seeing.{seeing}
 use Rattle.row.specs.declared.form.Kind.{Kind}
 use Rattle.row.specs.declared.fault.Fault.{Fault}
@@ -22,13 +22,12 @@ use Rattle.raw.specs.declared.answer.Turn.the-variants as turned
 use Rattle.row.specs.Row.{row, putRow}
 use Rattle.raw.specs.Reader.{Out, ok, again, bad, under, eaten, sees, stop, turn, refuse, _then_}
 use Rattle.raw.specs.Grammar.{is, any, white, comma, ident, equals, abbrField, comment, field, fieldEnd, fieldsTurn}
-use Rattle.raw.specs.Says.{stepOf, Says, SaysTurn}
-use Rattle.raw.proofs.grammar.Rowless.{rowless-at, rowless-off}
+use Rattle.raw.specs.Says.{stepOf, Says, Within, SaysTurn}
+use Rattle.raw.proofs.grammar.Rowless.{rowless-at, rowless-off, ident-rowless, equals-rowless}
 use Rattle.raw.proofs.readers.Then.{then-on, then-off}
 use Rattle.raw.proofs.ways.OneCharacter.{byte-end, byte-on, byte-off}
 use Rattle.text.proofs.general.Tests.{narrow-is}
 use Rattle.raw.proofs.ways.TokenWays.{white-on, comment-on}
-use Rattle.raw.proofs.grammar.Rowless.{ident-rowless, equals-rowless}
 use Rattle.raw.proofs.contracts.SaysLaws.{says-of, says-at, says-on, says-off, says-then, says-mark, said-off, turn-of, turn-then, turn-off}
 
 -- ---- `field`
@@ -57,6 +56,12 @@ module _ (k : Kind) (s : List ℕ) (i : ℕ) {r₁ : Step} (e₁ : r₁ ≡ step
       pub value-on : {p₅ m p₆ p₇ : ℕ} → r ≡ answer.Next p₅ m → p₆ ≡ skip isWhitespace s p₅ → step.At p₇ ≡ stepOf (comment s p₆) →
           Says base (field k s i) n b (answer.Next p₇ m) b′
       value-on {p₅} {p₆ = p₆} e w₆ e₇ = to-value (says-then _ (says-at e h) (says-of (then-on _ (white-on s p₅ w₆)) (says-on (comment-on s p₆ e₇))))
+
+-- the bounds of a field that is read to its end
+pub value-within : {s : List ℕ} (i n m : ℕ) {p₁ p₂ p₃ p₄ p₅ p₆ p₇ : ℕ} → (i + 1 ≤ p₁) × (p₁ ≤ length s) → Ahead s p₁ p₂ →
+    (p₂ + 1 ≤ p₃) × (p₃ ≤ length s) → Ahead s p₃ p₄ → (p₄ + 1 ≤ p₅) × (p₅ ≤ length s) × (m + 8 * p₄ ≤ n + 1 + 1 + 8 * p₅) → Ahead s p₅ p₆ →
+    p₆ ≤ p₇ → p₇ ≤ max p₆ (length s) → Within (length s) 3 i n (answer.Next p₇ m)
+value-within i n m a b c d e f g h = (omega arith, omega arith, omega arith)
 
 -- ---- `field_end`
 
@@ -112,7 +117,7 @@ module _ (k : Kind) (s : List ℕ) (i : ℕ) where
     pub fields-brace : p < length s → getD s p 0 ≡ 0x7D → fieldsTurn k 0 s i ≡ ok p []
     fields-brace l e = at-field ∙ byte-on (is 0x7D) s p (λ n. ok p []) ((field k then fieldEnd) s p) (narrow-is 0x7D (omega arith)) l (eq-eqb _ _ e)
 
-    -- no brace that closes: another byte, or the end
+    -- no closing brace stands there: another byte does, or the text has ended
     pub fields-other : p < length s → (getD s p 0 ≡ 0x7D → ⊥) → fieldsTurn k 0 s i ≡ (field k then fieldEnd) s p
     fields-other l e =
         at-field ∙ byte-off (is 0x7D) s p (λ n. ok p []) ((field k then fieldEnd) s p) (narrow-is 0x7D (omega arith)) l (ne-eqb _ _ e)

@@ -1,6 +1,6 @@
--- The ways through the functions of src/file.rt, over what their calls told.
+-- The ways through the functions of src/file.rt, over what their calls answered.
 --     file-end, file-entry, file-comment, file-other     a turn of the file, by the byte it stands at
---     comment-further                                     a comment that stands there is passed
+--     comment-further                                     a comment goes past its percent sign
 --     bytes-ill, bytes-valid                              the answers of `parse_bytes`
 --     read-long, read-off, read-full, read-fits           the answers of `read`
 -- Assumes nothing.
@@ -66,7 +66,7 @@ module _ (s : List ℕ) (at : ℕ) {p : ℕ} (e : p ≡ skip isWhitespace s at) 
         let b = o .3 (is 0x25) (narrow-is 0x25 (omega arith)) (ne-eqb _ _ y) in
         (then-on _ (white-on s at e) ∙ rw (o .2, a, b, n), omega arith)
 
--- where a percent sign stands, it is passed
+-- a comment goes past its percent sign
 pub comment-further : (s : List ℕ) (p : ℕ) {r : ℕ} → p < length s → getD s p 0 ≡ 0x25 → step.At r ≡ stepOf (comment s p) → p < r
 unfolding comment holdsOf
 comment-further s p {r} h q d =
@@ -116,7 +116,7 @@ unfolding strict
 read-long s b h = let t = lt-leb (length s) mostBytes h in record { answer = rw t; rows = rw t }
 
 module _ (s b : List ℕ) {y y′ : List ℕ} {r : Answer} (w : Says 0 (strict s) 0 y r y′) where
-  -- by the reading that was counted first
+  -- by the first reading, which only counted the rows
   pub read-off : {f : Fault} → r ≡ answer.Refused f → Read s b (reading.Refused f) b
   read-off z =
       let t = sym (said-off (says-at z w)) in

@@ -1,5 +1,5 @@
 -- Readers that look at one character, by what the code saw of it.
---     eaten-off, eaten-on      by the place that `eat_if` told
+--     eaten-off, eaten-on      by the place that `eat_if` answered
 --     byte-on, byte-off, byte-end    by the byte, where only ASCII passes the test: `narrow-is`, `narrow-or`
 --     need-end, need-other, need-byte    the readers that want one character
 -- Assumes nothing.
@@ -23,7 +23,7 @@ use Rattle.raw.specs.Reader.{Out, ok, bad, eaten}
 use Rattle.raw.specs.Grammar.{need}
 use Rattle.raw.specs.Says.{stepOf, Onward}
 
--- ---- by the place after it
+-- ---- by the place that `eat_if` answered
 
 pub not-at : {i r : ℕ} → i ≤ r → (r ≡ i → ⊥) → i + 1 ≤ r
 not-at {i} {r} l h = go (eqb r i) refl

@@ -1,8 +1,8 @@
 -- The spelling of an entry's type, byte by byte: an ASCII word is spelled by ASCII characters only, one byte each.
 --     spells-length            a text whose length differs from the word's does not spell it
 --     spells-on, spells-off    a byte that spells the next letter, and one that does not
---     spells-done              after the last
---     ascii-word               a word of ASCII, by computing
+--     spells-done              after the last letter
+--     ascii-word               that a word is ASCII, by computing
 -- Assumes nothing.
 use Prim.Native.Nat.{ℕ, suc, _+_, _-_, _≤_, _<_}
 use native.Mathlib.Omega.{arith}

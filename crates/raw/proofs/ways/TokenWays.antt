@@ -1,5 +1,5 @@
--- The ways through the functions of src/token.rt, by what the scanner told.
---     scan-on, white-on, comment-on, key-on       scans, white space, a comment and a key, which are never refused
+-- The ways through the functions of src/token.rt, by what the scanner answered.
+--     scan-on, white-on, comment-on, key-on       scans, white space, a comment and a key, which never refuse
 --     key-told, comment-off, comment-line, ident-off, ident-line, ident-letters       the ways through `key`, `comment` and `ident`
 -- Assumes nothing.
 use Prim.Native.Nat.{ℕ, _+_, _≤_, _<_, max}
@@ -38,7 +38,7 @@ module _ (s : List ℕ) (i : ℕ) where
 -- ---- the ways through
 
 module _ (s : List ℕ) (i : ℕ) where
-  -- a reader that is never refused: by the place it told
+  -- readers that never refuse, by the place that the code answered
   pub comment-on : {r : ℕ} → step.At r ≡ stepOf (comment s i) → comment s i ≡ ok r []
   comment-on e = rowless-at (comment-rowless s i) e refl
 
@@ -74,7 +74,7 @@ module _ (s : List ℕ) (i : ℕ) where
         let name = eaten-on isIdStart s i (scan isIdContinue s) (bad (faultAt ExpectedIdentifier i)) e h in
         (sym (ap stepOf (name ∙ scan-on isIdContinue s r d)), (omega arith, omega arith))
 
-  -- by letters alone
+  -- an identifier of letters alone
   pub ident-letters : {r : ℕ} → Letters s i r → i < r → r < length s → (eqb (getD s r 0) 0x20 || eqb (getD s r 0) 0x3D) ≡ true
       → (step.At r ≡ stepOf (ident s i)) × Onward (length s) 1 i (step.At r)
   ident-letters {r} a p q t =

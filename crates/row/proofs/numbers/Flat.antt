@@ -1,8 +1,8 @@
 -- Rows and the list of their numbers.
---     flat-length, flat-append      the numbers of rows
+--     flat-length, flat-append      how many numbers a list of rows has; the numbers of two lists of rows
 --     rows-flat, flat-rows          from rows to numbers and back, and from numbers to rows and back
---     rows-length                   how many rows numbers are
---     rows-next, rows-end           the rows from a number on
+--     rows-length                   how many rows a list of numbers has
+--     rows-next, rows-end           the rows from the number i on: the first of them and the others, or none
 -- Assumes nothing.
 use Prim.Native.Nat.{ℕ, _+_, _*_, _/_, _%_, _≤_, _<_}
 use native.Mathlib.Omega.{arith}
@@ -17,7 +17,7 @@ use Rattle.row.specs.Laid.{rowAt}
 abbrev pub four : ℕ → ℕ → ℕ → ℕ → List ℕ → List ℕ
 four a b c d l = a ∷ b ∷ c ∷ d ∷ l
 
--- ---- there and back
+-- ---- from rows to numbers and back
 
 pub flat-length : (rs : List Row) → length (flat rs) ≡ length rs * 4
 unfolding flat

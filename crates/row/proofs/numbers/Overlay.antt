@@ -1,7 +1,7 @@
 -- Rows put into lent numbers, and rows moved on in a file.
---     length-put, put-sets, put-out    a row that is put: the length stays; the code's four stores; a row that does not fit
---     put-overlay, overlay-append      a row may be put before or after the rows behind it; two lists of rows, one after the other
---     overlay-length, overlay-fits     the length stays; rows that all fit stand in front
+--     length-put, put-sets, put-out    putting a row keeps the length, is the code's four stores, and does nothing where the row does not fit
+--     put-overlay, overlay-append      a row may be put before or after the rows that follow it; two lists of rows are put one after the other
+--     overlay-length, overlay-fits     putting rows keeps the length; rows that all fit stand in front
 --     moved-length, moved-append, moved-none, row-up      rows moved on in a file
 -- Assumes nothing.
 use Prim.Native.Nat.{ℕ, zero, suc, _+_, _*_, _/_, _≤_, _<_}
@@ -109,7 +109,7 @@ unfolding moved
 moved-append d [] ss = refl
 moved-append d (r ∷ rs) ss = ap (λ (l : List Row). rowUp d r ∷ l) (moved-append d rs ss)
 
--- the code adds the text's place in the file on the left
+-- the code adds the text's place on the left, and `rowUp` on the right
 pub row-up : (d : ℕ) (k : Kind) (a e : ℕ) → row k (d + a) (d + e) ≡ rowUp d (row k a e)
 row-up d k a e =
     ap₂ (λ (x y : ℕ). record { kind = kindOf k; detail = 0; start = x; end = y }) (same d a) (same d e)

@@ -1,7 +1,7 @@
 -- Laws of spans that lie in a file.
---     spans-more       in a longer file
---     spans-append     of rows put together
---     spans-moved      of rows moved on
+--     spans-more       spans that lie in a file lie in a longer one
+--     spans-append     where the spans of two lists of rows lie in a file, so do those of both lists put together
+--     spans-moved      the spans of rows moved on by d lie in a file that is longer by d
 -- Assumes nothing.
 use Prim.Native.Nat.{ℕ, _+_, _≤_}
 use native.Mathlib.Omega.{arith}

@@ -1,8 +1,8 @@
--- The row rules, and damage, of rows that are put together or moved on.
---     run-append, run-wrong         the rules over two lists; once broken, they stay broken
+-- Whether rows keep the row rules, and whether damage is among them, when they are put together or moved on.
+--     run-append, run-wrong         the rules go over one list and then over the next; once broken, they stay broken
 --     free-whole                    where a part of the sequence may begin, the sequence may end
---     rows-append, rows-moved       two lists that keep the rules keep them together; rows moved on keep them as before
---     clean-append, clean-moved     the same of damage
+--     rows-append, rows-moved       two lists that keep the rules keep them when put together; rows moved on keep them as before
+--     clean-append, clean-moved     two lists put together are clean if both are; rows moved on are clean as before
 -- Assumes nothing.
 use Prim.Native.Nat.{ℕ}
 use native.Mathlib.Omega.{arith}

@@ -1,9 +1,9 @@
--- The turns of the row check, by what its code does.
---     await-back, or-wrong      the code's words for what may come next
---     begun-else                a kind that begins nothing
---     turn, ended               after any row; after the last row
+-- A turn of the row check, for each way through its code.
+--     await-back, or-wrong      the code's states stand for what may come next
+--     begun-else                a kind that begins neither a part nor a field breaks the rules
+--     turn, ended               what is left to judge after a row; the answer after the last row
 --     named-value, named-other  after a field's or definition's name: a value row stands there, or something else
---     bad-rows, bad-count       what it refuses
+--     bad-rows, bad-count       rows that break the rules are refused, and numbers that are no whole number of rows
 -- Assumes nothing.
 use Prim.Native.Nat.{ℕ, _+_, _%_, _≤_}
 use native.Mathlib.Omega.{arith}
@@ -26,7 +26,7 @@ use Rattle.row.specs.Ruled.{afterRow}
 use Rattle.row.proofs.numbers.Flat.{rows-next, rows-end}
 use Rattle.row.proofs.rules.Append.{run-wrong}
 
--- ---- the code's words
+-- ---- the code's states
 
 pub await-back : (a : Await) → awaitOf (stateOf a) ≡ a
 await-back (part f) = refl

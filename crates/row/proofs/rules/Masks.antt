@@ -17,7 +17,7 @@ use Rattle.row.specs.Masks.{mayOf, moreOf, masks, masksOf, bit, takenOf,
 use Rattle.row.specs.Ruled.{afterRow}
 use Rattle.row.proofs.rules.SmallKinds.{next-large}
 
--- ---- a test of whatever may be awaited, which the checker computes
+-- ---- a test that the checker computes at everything that may be awaited
 
 -- the test t passes at each thing that may be awaited
 abbrev Each : (Await → Bool) → Type 0
@@ -69,7 +69,7 @@ pub bit-kept : (a : Await) (k : ℕ) → k < 11 → bit (mayOf a) k ≡ kept (ne
 unfolding next
 bit-kept a k h = beq-eq (bit (mayOf a) k) (kept (next a k)) (at-kind (λ a k. Bool·beq (bit (mayOf a) k) (kept (next a k))) passed a k h)
 
--- where a cause may come, nothing else may
+-- a cause may come exactly where its bit is the only one of the mask
 cause-kept : (a : Await) → eqb (mayOf a) 0x400 ≡ kept (next a 10)
 unfolding next
 cause-kept = agree (λ a. eqb (mayOf a) 0x400) (λ a. kept (next a 10)) passed

@@ -1,6 +1,6 @@
 -- Rows that keep the row rules have kinds and details of at most 10, so that half a byte holds each.
---     next-large                       after a kind above 10 nothing may come
---     rules-small                      rows that keep the rules are small
+--     next-large                       a row of a kind above 10 breaks the rules
+--     rules-small                      rows that keep the rules have kinds and details of at most 10
 -- Assumes nothing.
 use Prim.Native.Nat.{ℕ, _≤_, _<_}
 use native.Mathlib.Omega.{arith}

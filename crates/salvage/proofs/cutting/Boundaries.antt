@@ -1,10 +1,10 @@
 -- The first piece of a text and the rest, the boundaries of a text, and what strict reading opens there.
 --     Seam, Front, front                  the first piece of a text, and the rest
---     meet, parts                         a piece and the rest are two texts as in ReadingAcrossCut; so are the two parts at a boundary
+--     meet, parts                         a piece and the rest meet as in ReadingAcrossCut, and so do the two parts at a boundary
 --     head-opens, head-fresh              a text that begins with "@" is `fresh`, and continues no character of the text before it
---     seam-boundary, boundary-shift       where the parts meet is a boundary; the second part's boundaries are the whole's
---     opens-first, pass                   what is opened at the first byte; what is opened past a place that was opened
---     file-back, opens-back               a file, and what it opens, of the second part alone
+--     seam-boundary, boundary-shift       where two parts meet is a boundary; the boundaries of the second part are boundaries of the whole
+--     opens-first, pass                   an entry is opened at a first "@"; what is opened behind an opened place is opened from there on
+--     file-back, opens-back               what strict reading reads and opens in the second part of a text, it does in that part alone
 -- Assumes nothing.
 use Prim.Native.Nat.{ℕ, zero, suc, _+_, _≤_, _<_}
 use native.Mathlib.Omega.{arith}
@@ -35,7 +35,7 @@ use Rattle.salvage.proofs.cutting.ReadingAcrossCut.{Meet, opens-from}
 
 -- ---- the first piece
 
--- nothing follows w, or w ends in a newline and r begins with a head
+-- w is followed by nothing, or it ends in a newline and r begins with "@"
 abbrev pub Seam : List ℕ → List ℕ → Type 0
 Seam w r = (r ≡ []) ⊎ ((lined w ≡ true) × (head r ≡ true))
 
@@ -144,7 +144,7 @@ opens-first s h = let e = head-seen s h in here (white-stays s 0 (rw e refl)) e
 again-place : {q r : ℕ} {rs ss : List Row} {a b : ℕ} → again q rs a ≡ again r ss b → q ≡ r
 again-place e = cc
 
--- what is opened past an opened place is opened from there on
+-- what is opened behind an opened place is opened from there on
 pub pass : {s : List ℕ} {p m e : ℕ} → Opens s p m → Opens s p e → m < e → Opens s m e
 pass {s} {p} {m} {e} (here w x) (here w′ x′) h = let z : m ≡ e = ok-place (sym w ∙ w′) in absurd (omega arith)
 pass {s} {p} {m} {e} (here w x) (later t o) h =

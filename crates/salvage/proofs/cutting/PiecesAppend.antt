@@ -1,8 +1,8 @@
 -- The pieces of two texts put together, of which the first ends in a newline and the second begins with "@".
 --     head-append                        whether a text begins with "@" shows in its first byte
 --     cut-append                         the pieces are those of the first and those of the second
---     joined-cut, joined-append          the pieces make up the text; texts joined
---     pieces-move, pieces-append         the rows of pieces further on in a file, and of pieces behind others
+--     joined-cut, joined-append          the pieces of a text make it up; so do those of two texts
+--     pieces-move, pieces-append         the rows of pieces that stand further on in a file, and of pieces behind others
 --     salvage-append                     salvage of two texts put together
 -- Assumes nothing.
 use Prim.Native.Nat.{ℕ, _+_, _<_}
@@ -35,7 +35,7 @@ cut-some b s = by (newline b && head s)
     by true = omega arith
     by false = push-some b (cut s)
 
--- a text that begins with a head
+-- a text that is fresh and not empty begins with "@"
 fresh-head : (s : List ℕ) → fresh s ≡ true → 0 < length s → head s ≡ true
 unfolding fresh
 fresh-head [] h l = absurd (omega arith)
@@ -65,7 +65,7 @@ cut-append (b ∷ c ∷ a) s h k = rw (head-append c a s) (by (newline b && head
     by true e = ap (λ (l : Texts). (b ∷ []) ∷ l) e
     by false e = ap (push b) e ∙ push-append b (cut (c ∷ a)) (cut s) (cut-some c a)
 
--- ---- the text again
+-- ---- the pieces make up the text
 
 joined-push : (b : ℕ) (ws : Texts) → joined (push b ws) ≡ b ∷ joined ws
 unfolding joined
@@ -86,7 +86,7 @@ unfolding joined
 joined-append [] vs = refl
 joined-append (w ∷ ws) vs = ap (λ (l : List ℕ). w ++ l) (joined-append ws vs) ∙ sym (append-assoc w (joined ws) (joined vs))
 
--- ---- their rows
+-- ---- the rows of pieces
 
 moved-moved : (d e : ℕ) (rs : List Row) → moved (d + e) rs ≡ moved e (moved d rs)
 unfolding moved

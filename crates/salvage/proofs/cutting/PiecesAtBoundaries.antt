@@ -1,6 +1,6 @@
--- The pieces begin at the boundaries, and there only.
+-- Pieces begin at the boundaries and nowhere else.
 --     begins     a piece behind others begins at a boundary
---     cuts       at each boundary but the first byte, a piece begins
+--     cuts       at each boundary that is not the first byte a piece begins
 -- Assumes nothing.
 use Prim.Native.Nat.{ℕ, zero, suc, _+_, _≤_, _<_}
 use native.Mathlib.Omega.{arith}
@@ -21,7 +21,7 @@ shift : (a r : List ℕ) {n : ℕ} → Boundary r n → 0 < n → Boundary (a ++
 shift a r (first h) l = absurd (omega arith)
 shift a r (line e h k) l = subst (Boundary (a ++ r)) (omega arith) (boundary-shift a r e h k)
 
--- where another piece follows, a boundary stands behind the first
+-- where another piece follows the first, a boundary stands between them
 seam : (b : ℕ) (xs r w : List ℕ) (vs : Texts) → Seam (b ∷ xs) r → cut r ≡ w ∷ vs → Boundary ((b ∷ xs) ++ r) (suc (length xs))
 unfolding cut
 seam b xs r w vs (inr m) e = seam-boundary b xs r (m .0) (m .1)

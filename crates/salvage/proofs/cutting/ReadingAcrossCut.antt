@@ -1,9 +1,9 @@
--- Strict reading of two texts put together where a file is cut. It accepts the whole and opens an entry at the cut exactly if it accepts
--- both.
+-- Strict reading of two texts put together where a file is cut: it accepts the whole and opens an entry at the cut exactly if it accepts
+-- both texts.
 --     opens-from  an entry is opened no earlier than reading begins
 --     Meet        the first text ends in a newline, and the second begins with "@"
---     through     where the first is accepted, the whole is read as the first and then the second, and opens an entry at the cut
---     split       where the whole is accepted and opens an entry at the cut, the first is accepted, and so is the rest
+--     through     where the first text is accepted, the whole is read as the first and then the second, and opens an entry at the cut
+--     split       where the whole is accepted and opens an entry at the cut, the first text is accepted, and so is the rest
 -- Assumes nothing.
 use Prim.Native.Nat.{ℕ, zero, suc, _+_, _≤_, _<_}
 use native.Mathlib.Omega.{arith}
@@ -46,7 +46,7 @@ more-ok rs (ok p ss) q us e = (ss, ap (λ (n : ℕ). ok n ss) (ok-place e), sym 
 more-ok rs (again p ss a) q us e = again-not-ok q us p a (rs ++ ss) e
 more-ok rs (bad f) q us e = bad-not-ok q us f e
 
--- ---- a file, from the place after white space, or after a turn, on
+-- ---- a file is read from the place after white space, or after a turn, on
 
 file-here : (s : List ℕ) (p q : ℕ) → white s p ≡ ok q [] → file s p ≡ file s q
 file-here s p q e =
@@ -111,9 +111,9 @@ module _ (a s : List ℕ) (k : ℕ) (m : Meet a s k) where
         before = λ i c n e h. m .clear i c n (same i (omega arith) ∙ e) h;
       }
 
-  -- ---- the first is accepted
+  -- ---- the first text is accepted
 
-  -- from p on the whole is read as these rows, and then the second text
+  -- from p on the whole is read as these rows and then the second text
   abbrev Through : ℕ → List Row → Type 0
   Through p rs = (file (a ++ s) p ≡ more rs (file (a ++ s) (suc k))) × Opens (a ++ s) p (suc k)
 
@@ -163,7 +163,7 @@ module _ (a s : List ℕ) (k : ℕ) (m : Meet a s k) where
 
   -- ---- the whole is accepted
 
-  -- from p on the first is accepted with some rows, and the rest of the whole with others
+  -- from p on the first text is accepted with some rows, and the rest of the whole with the others
   abbrev Halves : ℕ → ℕ → List Row → Type 0
   Halves p q us = (rs : List Row) × (ss : List Row) × (file a p ≡ ok (suc k) rs) × (file (a ++ s) (suc k) ≡ ok q ss) × (us ≡ rs ++ ss)
 

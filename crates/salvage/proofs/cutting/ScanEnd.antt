@@ -1,9 +1,9 @@
 -- Where a scan of a class of characters ends.
---     Halts, Clear                what is seen stops the scan; no character goes over a place
+--     Halts, Clear                what is seen stops the scan; no character reaches over a place
 --     Scanned                     the scan ends at the first place that stops it
 --     scan-found, scan-stays      every scan ends; one that is stopped at once eats nothing
---     white-found, white-scanned, white-stays     the same of white space
---     true-not-false, ok-place    two equations that cannot both hold; the place of an answer
+--     white-found, white-scanned, white-stays     these laws for white space
+--     true-not-false, ok-place    a test is not both true and false; equal answers have equal places
 -- Assumes nothing.
 use Prim.Native.Nat.{ℕ, zero, suc, _+_, _≤_, _<_}
 use native.Mathlib.Omega.{arith}
@@ -26,11 +26,11 @@ abbrev pub Halts : (ℕ → Bool) → Seen → Type 0
 Halts t End = Unit {0}
 Halts t (Char c n) = t c ≡ false
 
--- no character of the text goes over the place j
+-- no character of the text reaches over the place j
 abbrev pub Clear : List ℕ → ℕ → Type 0
 Clear s j = (i c n : ℕ) → see s i ≡ Char c n → i < j → n ≤ j
 
--- the scan ends at a place that stops it, and no later than at any such place that no character goes over
+-- the scan ends at a place that stops it, and before or at every such place that no character reaches over
 pub record Scanned (t : ℕ → Bool) (s : List ℕ) (p q : ℕ) : Type 0 where
   pub found : scan {P = Row} t s p ≡ ok q []
   pub from : p ≤ q
@@ -58,7 +58,7 @@ module _ (t : ℕ → Bool) (s : List ℕ) where
   stayed : (p : ℕ) → Halts t (see s p) → (q : ℕ) × Scanned t s p q
   stayed p h = (p, record { found = scan-stays p h; from = omega arith; halts = h; least = λ j a l x. a })
 
-  -- a character of the class is passed
+  -- where the character at p is of the class, the scan goes past it
   module _ (p c m : ℕ) (d : see s p ≡ Char c m) (k : t c ≡ true) where
     beyond : (j : ℕ) → p ≤ j → Clear s j → Halts t (see s j) → m ≤ j
     beyond j a l h =

@@ -1,9 +1,9 @@
--- One turn of strict reading is white space, and then an item. Two texts may show the same up to and with a newline, where one of them is
--- cut. A turn that ends there or before answers the same on both.
+-- One turn of strict reading is white space and then an item. Two texts may show the same up to and including a newline, where one of them
+-- is cut. A turn that ends at the cut or before it answers the same on both.
 --     item, turn-white, item-ok     an item; a turn is the item after the white space; the last item is the end
---     item-ahead                    an item after which the file goes on ends inside the text
+--     item-ahead                    an item that says `again` ends inside the text
 --     Alike                         the two texts
---     white-cut, turn-cut           white space, and a turn, on both
+--     white-cut, turn-cut           white space, and a turn, are read the same on both
 -- Assumes nothing.
 use Prim.Native.Nat.{ℕ, suc, _+_, _≤_, _<_, max}
 use native.Mathlib.Omega.{arith}
@@ -51,7 +51,7 @@ turned-not-ok q a r (ok p ss) rs e = let z : _≡_ {A = ℕ} 0 1 = cc in absurd 
 turned-not-ok q a r (again p ss b) rs e = let z : _≡_ {A = ℕ} 0 1 = cc in absurd (omega arith)
 turned-not-ok q a r (bad f) rs e = let z : _≡_ {A = ℕ} 0 1 = cc in absurd (omega arith)
 
--- the last turn is at the end of the text
+-- a turn that ends the file stands at the end of the text
 pub item-ok : (s : List ℕ) (p q : ℕ) (rs : List Row) → item s p ≡ ok q rs → (see s p ≡ End) × (rs ≡ [])
 item-ok s p q rs = go (see s p)
   where
@@ -78,8 +78,8 @@ stops-at o q rs e r h = subst (λ (o : Out). Stops o r) e h
 ends : (o : Out) (i : ℕ) → o ≡ ok i [] → Stops o i
 ends o i e = subst (λ (o : Out). Stops o i) (sym e) refl
 
--- two texts that show the same up to and with a newline at k. After it the second text ends or shows no white space. No character goes
--- over the newline, or over the place after it
+-- two texts that show the same up to and including a newline at k. After it the second text ends or shows no white space. No character
+-- reaches over the newline, or over the place after it
 pub record Alike (s t : List ℕ) (k : ℕ) : Type 0 where
   pub same : (i : ℕ) → i < suc k → see s i ≡ see t i
   pub first : suc k ≤ length s

@@ -1,6 +1,6 @@
--- The UTF-8 of a text is that of its pieces.
---     octets-halves                  a valid text that is cut where a piece begins: both parts are valid
---     front-append, octets-piece     the front of a text up to a place, and a piece of it
+-- The pieces of a text that is UTF-8 are UTF-8.
+--     octets-halves                  where a valid text is cut at the beginning of a piece, both parts are valid
+--     front-append, octets-piece     a text is its front and what follows; a piece of a valid front is valid
 -- Assumes nothing.
 use Prim.Native.Nat.{ℕ, _+_, _-_, _≤_}
 use native.Mathlib.Omega.{arith}

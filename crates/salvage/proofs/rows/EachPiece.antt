@@ -1,7 +1,7 @@
--- What each piece gives, and calls of `salvage` that are not refused.
---     told-by              what holds of accepted rows, and of damage, holds of what a piece gives
---     each                 a piece of a file, behind some pieces and before others
---     calls                salvage of two texts, and of both together
+-- What each piece gives; and what calls of `salvage` give that are not refused.
+--     told-by              what holds of the rows of an accepted text, and of those of damage, holds of the rows of a piece
+--     each                 what a piece of a file gives, which stands behind some pieces and before others
+--     calls                what salvage gives for two texts, and for both together
 -- Assumes nothing.
 use Prim.Native.Nat.{ℕ, _+_, _/_, _≤_}
 use native.Mathlib.Omega.{arith}
@@ -32,7 +32,7 @@ use Rattle.salvage.proofs.cutting.PiecesAppend.{joined-cut, joined-appe
 
 -- ---- a piece
 
--- what holds of the rows of an accepted text, and of damage, holds of what a piece gives
+-- P holds of the rows of a piece if it holds of those of an accepted text, and of those of damage
 module _ (w : List ℕ) (P : List Row → Type 0) where
   pub told-by : ((q : ℕ) (rs : List Row) → strict w ≡ ok q rs → P rs) → ((f : Fault) → strict w ≡ bad f → P (damaged w f)) → P (told w (strict w))
   told-by accepted off = by (strict w) refl
@@ -103,7 +103,7 @@ rows-not-refused : {n : ℕ} {f : Fault} → reading.Rows n ≡ reading.Refused 
 rows-not-refused e = let z : _≡_ {A = ℕ} 0 1 = cc in absurd (omega arith)
 
 module _ (s b b′ : List ℕ) (n : ℕ) where
-  -- a call that answers rows was lent no file that is too long
+  -- a file for which rows are answered is not too long
   pub call-short : Salvage s b (reading.Rows n) b′ → length s ≤ mostBytes
   unfolding salvaged
   call-short c = by (leb (length s) mostBytes) refl (c .answer)
@@ -113,7 +113,7 @@ module _ (s b b′ : List ℕ) (n : ℕ) where
       by true e k = leb-true (length s) mostBytes e
       by false e k = absurd (rows-not-refused k)
 
-  -- its rows stand in front of what was lent
+  -- the rows stand in front of what was lent
   pub call-answered : length s ≤ mostBytes → Salvage s b (reading.Rows n) b′ → Holds (salvageOf s) b (reading.Rows n) b′
   call-answered h c = call-holds s b b′ (reading.Rows n) h c (call-room s b b′ (reading.Rows n) h c n refl .1)
 

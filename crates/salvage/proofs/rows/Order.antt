@@ -1,5 +1,5 @@
 -- The order of the rows that salvage gives.
---     pieces-rules      they keep the row rules
+--     pieces-rules      the rows keep the row rules
 --     pieces-spans      their spans lie in the file
 --     pieces-rising     their starts never fall
 -- Assumes nothing.
@@ -75,7 +75,7 @@ unfolding Rising moved
 rising-moved d n [] x = tt
 rising-moved d n (r ∷ rs) x = (omega (arith, x .0), rising-moved d (r .start) rs (x .1))
 
--- rows that lie before m, and then rows that start from m on
+-- rows that end at m or before, and then rows that start at m or after
 rising-append : (n m : ℕ) (rs ss : List Row) → n ≤ m → Rising n rs → SpansIn m rs → Rising m ss → Rising n (rs ++ ss)
 unfolding Rising SpansIn
 rising-append n m [] ss h x y z = steps .rising-less n m ss h z

@@ -1,5 +1,5 @@
--- The rows of salvage are at most one more than the bytes: `salvage-few`. Damage has two rows, so that only a piece of one byte could have
--- more rows than bytes. Where others follow it, it is a newline, which strict reading accepts.
+-- The rows of salvage are at most one more than the bytes: `salvage-few`. A damaged piece has two rows, so that only a piece of one byte can
+-- have more rows than bytes. Such a piece, unless it is the last, is a newline, which strict reading accepts.
 -- Assumes nothing.
 use Prim.Native.Nat.{ℕ, suc, _+_, _≤_}
 use native.Mathlib.Omega.{arith}
@@ -25,9 +25,9 @@ use Rattle.salvage.specs.Demand3.{joined}
 use Rattle.salvage.proofs.cutting.PiecesAppend.{joined-cut}
 use Rattle.salvage.proofs.rows.EachPiece.{told-by}
 
--- ---- pieces as they are cut
+-- ---- the pieces of a file, by their length
 
--- a piece that others follow: a newline, or two bytes and more
+-- a piece that is not the last: a newline, or at least two bytes
 data Line : List ℕ → Type 0 where
   bare : Line (0x0A ∷ [])
   long : (b c : ℕ) (w : List ℕ) → Line (b ∷ c ∷ w)
@@ -62,7 +62,7 @@ cut-lines (b ∷ s) = by (newline b && head s) refl (cut-lines s)
     by true e l = more (newline-line b (head s) e) l
     by false e l = lines-push b l
 
--- ---- their rows
+-- ---- the rows of the pieces
 
 -- strict reading accepts a newline, and gives no rows
 newline-strict : strict (0x0A ∷ []) ≡ ok 1 []

@@ -49,7 +49,7 @@ salvage-none : (r : List ℕ) (d : ℕ) → r ≡ [] → moved d (salvageOf r) �
 unfolding salvageOf pieces cut moved
 salvage-none r d e = ap (λ (l : List ℕ). moved d (salvageOf l)) e
 
--- reading two texts from the second on is reading the second, moved
+-- in two texts put together, reading from the second on is reading the second alone, moved
 rest : (a s : List ℕ) (k : ℕ) → length a ≡ suc k → file (a ++ s) (suc k) ≡ shifted (length a) (file s 0)
 rest a s k e = let x : suc k ≡ 0 + length a = omega arith in ap (file (a ++ s)) x ∙ strict-reading .moves a s 0
 
@@ -63,7 +63,7 @@ empty-rows q rs e = by (salvageOf []) (sym empty ∙ e)
     by : (ss : List Row) → ok 0 ss ≡ ok q rs → ss ≡ rs
     by ss d = cc
 
--- ---- no damage: strict reading accepts, with the same rows
+-- ---- where no damage shows, strict reading accepts, with the same rows
 
 abbrev Accepts : List ℕ → List Row → Type 0
 Accepts s rs = (q : ℕ) × (strict s ≡ ok q rs)
@@ -124,7 +124,7 @@ module _ (b : ℕ) (s : List ℕ) where
       by (inl e) = (o .0, strict-alone e ∙ o .1 ∙ ap (ok (o .0)) (sym (rows-alone e)))
       by (inr m) = both-accepted h m o (ih r shorter (sym (ruled .clean-moved (length w) (salvageOf r)) ∙ halves .1))
 
-  -- ---- the whole accepted
+  -- ---- where strict reading accepts the whole
 
   -- where the whole is accepted, and the rest gives the rows of strict reading, so does the whole
   both-same : (m : (lined w ≡ true) × (head r ≡ true)) (rs : List Row) → strict (b ∷ s) ≡ ok (length (b ∷ s)) rs
@@ -168,13 +168,13 @@ opened s l k (line e h g) =
     let t = through w r (length (p .1)) (meet (p .0) (p .1) r (p .5) (p .6)) (length w) (salvageOf w) (a .2) in
     subst₂ (λ (l : List ℕ) (n : ℕ). Opens l 0 (suc n)) (sym (p .3)) (p .4) (t .1)
 
--- ---- strict reading accepts the whole: so it does each piece, with the same rows
+-- ---- where strict reading accepts the whole, it accepts each piece, and the rows are the same
 
--- where the whole opens an entry at every boundary, so does the rest
 -- every boundary of a text opens one of its entries
 abbrev AllOpen : List ℕ → Type 0
 AllOpen s = (e : ℕ) → Boundary s e → Opens s 0 e
 
+-- where this holds of the whole, it holds of the rest behind the first piece
 module _ (b : ℕ) (xs r : List ℕ) (h : lined (b ∷ xs) ≡ true) (k : head r ≡ true) (all : AllOpen ((b ∷ xs) ++ r)) where
   there : Opens ((b ∷ xs) ++ r) 0 (suc (length xs))
   there = all (suc (length xs)) (seam-boundary b xs r h k)

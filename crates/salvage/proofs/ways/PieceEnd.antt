@@ -1,7 +1,7 @@
--- Where a piece ends: the ways through `begins`, `near_end` and `far_end`, over what their calls told.
+-- Where a piece ends: the ways through `begins`, `near_end` and `far_end`, over what their calls answered.
 --     begins-not, begins-is               `begins`, by whether "@" stands there
---     near-found, near-on                 `near_end`: a piece begins at the place, or none does
---     found-last, found-head, found-on    `far_end`: no "@" is left, one after a newline, any other
+--     near-found, near-on                 `near_end`: a piece begins at the place, or not
+--     found-last, found-head, found-on    `far_end`: no "@" is left; one stands after a newline; one stands elsewhere
 -- Assumes nothing.
 use Prim.Native.Nat.{ℕ, zero, suc, _+_, _-_, _≤_, _<_}
 use native.Mathlib.Omega.{arith}
@@ -20,7 +20,7 @@ use Rattle.salvage.specs.Inner.{Ends}
 use Rattle.salvage.proofs.cutting.Boundaries.{head-opens}
 
 module _ (s : List ℕ) where
-  -- a piece begins at i: after a newline, and with a head
+  -- a piece begins at i: after a newline, and with "@"
   abbrev pub Begun : ℕ → Bool
   Begun i = newline (getD s (i - 1) 0) && head (drop i s)
 
@@ -64,7 +64,7 @@ module _ (s : List ℕ) where
     unfolding cut
     ends-head x y = ends-here (rw (drop-next s i h, x, y) refl) (head-opens (drop (i + 1) s) y)
 
-    -- any other byte belongs to the piece that goes on
+    -- any other byte belongs to the piece of the byte behind it
     ends-on : (e : ℕ) → newline (getD s i 0) && head (drop (i + 1) s) ≡ false → Ends s (i + 1) e → Ends s i e
     unfolding cut
     ends-on e x y =
@@ -108,7 +108,7 @@ module _ (s : List ℕ) where
   pub ends-place : (e i j : ℕ) → i ≡ j → Ends s i e → Ends s j e
   ends-place e i j q x = subst (λ (m : ℕ). Ends s m e) q x
 
-  -- between two "@" no piece ends
+  -- no piece ends between two "@"
   ends-skip : (n i : ℕ) → i + n < length s → ((k : ℕ) → i + 1 ≤ k → k < i + 1 + n → getD s k 0 ≡ 0x40 → ⊥) → (e : ℕ) → Ends s (i + n) e → Ends s i e
   ends-skip zero i h a e x = ends-place e (i + 0) i (omega arith) x
   ends-skip (suc n) i h a e x =

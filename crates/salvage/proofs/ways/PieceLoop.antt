@@ -1,8 +1,8 @@
 -- The loop of `read_pieces`: the rows of the pieces that were read, and then those of the pieces that are left, are the rows of the file.
---     tally-sound, tally-damaged                  what a tally tells
+--     tally-sound, tally-damaged                  what the two tallies say of rows
 --     Going, going-start                          the invariant, and that it holds at the start
---     going-asks, going-sound, going-damaged      the next piece
---     gone-sound, gone-damaged                    after the last piece
+--     going-asks, going-sound, going-damaged      what reading the next piece requires; the invariant after a sound piece and a damaged one
+--     gone-sound, gone-damaged                    the answer after the last piece
 -- Assumes nothing.
 use Prim.Native.Nat.{ℕ, _+_, _-_, _*_, _≤_, min}
 use native.Mathlib.Omega.{arith}
@@ -64,7 +64,7 @@ module _ (rs : List Row) {t : Tally} (d : t ≡ tallyOf rs) {n : ℕ} where
 
 -- ---- the invariant
 
--- the numbers b₀ were lent and are b now; the pieces before p gave n rows
+-- the numbers b₀ were lent, and hold b now; the pieces before p gave n rows
 pub record Going (s b₀ b : List ℕ) (v p n : ℕ) (sound : Bool) : Type 0 where
   pub place : p ≤ length s
   pub most : n ≤ 8 * p
@@ -88,7 +88,7 @@ going-start s b v k =
 
 -- ---- the next piece
 
--- the front of the numbers, after the part from i on has come back as y
+-- the front of the numbers b, after the part of them from i on was lent and came back as y
 put-front : (b y : List ℕ) (i m : ℕ) → i ≤ length b → m ≤ length y
     → take (i + m) (putMid i (length b - i) b y) ≡ take i b ++ take m y
 put-front b y i m h l =
@@ -105,7 +105,7 @@ fresh-front [] t h = refl
 fresh-front (b ∷ u) t h = head-fresh (b ∷ u) (sym (head-append b u t) ∙ h)
 
 module _ (s b₀ b : List ℕ) (v p e n : ℕ) (sound : Bool) (c : Going s b₀ b v p n sound) (x : Ends s p e) where
-  -- its bytes, and its rows
+  -- the bytes of the piece, and its rows
   abbrev w : List ℕ
   w = take (e - p) (drop p s)
 

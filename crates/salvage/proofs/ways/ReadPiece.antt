@@ -1,4 +1,4 @@
--- The ways through the functions of src/piece.rt that read a piece, over what their calls told.
+-- The ways through the functions of src/piece.rt that read a piece, over what their calls answered.
 --     alone-known                             `read_alone` of a piece that is known to be valid
 --     damage-put                              `write_damage`
 --     piece-sound                             `read_piece`, where the piece is accepted
@@ -49,7 +49,7 @@ module _ (w : List ℕ) (base : ℕ) (b : List ℕ) (f : Fault) where
 
 -- ---- `read_piece`
 
--- rows that all fit stand in front of the numbers that they were laid over
+-- rows that all fit stand in front of the numbers over which they were laid
 overlay-front : (base : ℕ) (rs : List Row) (b : List ℕ) {b′ : List ℕ} → b′ ≡ overlay b 0 (moved base rs) → length rs * 4 ≤ length b
     → take (length rs * 4) b′ ≡ flat (moved base rs)
 overlay-front base rs b e h =

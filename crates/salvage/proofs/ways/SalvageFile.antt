@@ -1,4 +1,4 @@
--- The ways through the functions of src/file.rt, over what their calls told. The loop of `read_pieces` is in PieceLoop.antt.
+-- The ways through the functions of src/file.rt, over what their calls answered. The loop of `read_pieces` is in PieceLoop.antt.
 --     valid-all, valid-part       `valid_to`
 --     salvage-full, salvage-strictly, salvage-fills       `write_sound`, `write_damaged`
 --     salvage-long, counted-sound, counted-damaged        `salvage`
@@ -63,7 +63,7 @@ module _ (s b : List ℕ) {n : ℕ} (c : Counted s n) where
         let u = le-leb (length (salvageOf s)) (length b / 4) (omega (arith, c .rows)) in
         record { answer = rw (count-short, u, c .rows); rows = rw (count-short, u) d }
 
-  -- demand 3's third theorem: without damage the rows are those of strict reading
+  -- demand 3's third theorem: where no damage shows, the rows are those of strict reading
   pub salvage-strictly : clean (salvageOf s) ≡ true → n ≤ length b / 4 → {r : Answer} {b′ : List ℕ} → Says 0 (file s 0) 0 b r b′
       → Salvage s b (reading.Rows n) b′
   salvage-strictly k l {r} {b′} p =
@@ -72,7 +72,7 @@ module _ (s b : List ℕ) {n : ℕ} (c : Counted s n) where
       let o : b′ ≡ overlay b 0 (moved 0 rs) = subst (λ (o : Out). Room 0 o 0 b b′) e (p .room) in
       fits l (o ∙ ap (overlay b 0) (laid .moved-none rs) ∙ laid .overlay-fits rs b (omega (arith, c .rows)))
 
-  -- the pieces were lent just the numbers that the rows need
+  -- the pieces were lent exactly the numbers that their rows need
   pub salvage-fills : n ≤ length b / 4 → {r : Tally} {y : List ℕ} → Fills s (take (n * 4) b) r y
       → Salvage s b (reading.Rows n) (y ++ drop (n * 4) b)
   salvage-fills l {r} {y} p =

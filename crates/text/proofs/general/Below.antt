@@ -1,5 +1,5 @@
--- A fact of every number below a bound, by one test that the checker computes at each.
---     each        the test passes at each number below n
+-- A fact about every number below a bound, from one test that the checker computes at each of them.
+--     each        where `below f n` computes to true, f passes at every number below n
 -- Assumes nothing.
 use mathlib.Core.Path.{_≡_, sym, subst}
 use mathlib.Core.Bool.{Bool, true, false}

@@ -1,6 +1,9 @@
--- A text from a place to another.
---     part-none, part-more, part-head, part-join    nothing; one octet more at its end, or at its front; two parts
---     length-part, drop-take, drop-part             its length; what is left of it
+-- Parts of a text: `part s a e` is the text from the place a to the place e.
+--     part-none                a part that ends where it begins is empty
+--     part-more, part-head     a part with one octet more at its end; a part by its first octet
+--     part-join                two parts that meet make one part
+--     length-part              the length of a part
+--     drop-take, drop-part     a beginning, and a part, without their first octets
 -- Assumes nothing.
 use Prim.Native.Nat.{ℕ, zero, suc, _+_, _-_, _≤_, _<_, min}
 use native.Mathlib.Omega.{arith}

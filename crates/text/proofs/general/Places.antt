@@ -1,8 +1,8 @@
 -- A text from a place on, octet by octet.
---     drop-next, drop-more        it begins with the octet at the place
---     part-clamped                from a place to another
---     boundary-in, boundary-out   whether it is a boundary
---     value-one, .. value-four    the code point of so many octets there
+--     drop-next, drop-more        the text from a place on begins with the octet at that place
+--     part-clamped                a part, cut out at places that were first moved into the text
+--     boundary-in, boundary-out   whether a place is a boundary: inside the text, and from its end on
+--     value-one, .. value-four    the code point of the one to four octets at a place
 -- Assumes nothing.
 use mathlib.Core.Path.{_≡_, refl, sym, ap, _∙_}
 use mathlib.Core.List.{List, [], _∷_}
@@ -28,7 +28,7 @@ drop-more s i k j h e = drop-next s (i + k) h ∙ ap (λ (n : ℕ). getD s (i + 
     same : k + 1 ≡ j → i + k + 1 ≡ i + j
     same e = omega arith
 
--- inside a list no default is read
+-- inside a list it does not matter which default `getD` is given
 getD-any : (s : List ℕ) (i d e : ℕ) → i < length s → getD s i d ≡ getD s i e
 getD-any [] i d e h = absurd (omega arith)
 getD-any (b ∷ s) zero d e h = refl

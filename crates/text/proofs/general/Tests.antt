@@ -1,10 +1,10 @@
--- What tests say: of two, of a range, of two numbers; and tests that only ASCII passes.
---     both-true       a test of two holds, and so does each
---     beq-eq          tests that compare as equal are
+-- What follows from a test that passes, and tests that only ASCII passes.
+--     both-true       where `a && b` passes, a passes and b passes
+--     beq-eq          two tests that compare as equal are equal
 --     within-true     a number that passes the test of a range lies in it
---     told-apart      numbers of which one passes a test and one does not are two
---     narrow-is       no character behind ASCII is a given one of ASCII
---     narrow-or       two tests that only ASCII passes, taken together
+--     told-apart      where one number passes a test and another does not, the two numbers differ
+--     narrow-is       a character that is not ASCII is not equal to one that is
+--     narrow-or       where only ASCII passes each of two tests, only ASCII passes their "or"
 -- Assumes nothing.
 use Prim.Native.Nat.{ℕ, _≤_, _<_}
 use native.Mathlib.Omega.{arith}

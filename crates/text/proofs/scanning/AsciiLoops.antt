@@ -1,9 +1,9 @@
 -- The loops that go over bytes of ASCII by comparisons: `eat_whitespace`, `eat_gap`, `eat_id`, `eat_start`, `eat_letters`, `eat_key`.
---     implied                                     a test that implies another at each number below a bound, by one computed test
---     space-on, tab-on, solid-stop, gap-over      white space
---     letter-on, letter-start, id-stop            identifiers
---     letters-none, letters-more, letters-id      letters, and an identifier of letters alone
---     key-on, key-stop                            keys
+--     implied                                     where computing shows that p implies q below n, q passes wherever p does
+--     space-on, tab-on, solid-stop, gap-over      white space: a blank is passed, a solid byte stops the scan, a run of blanks is passed
+--     letter-on, letter-start, id-stop            identifiers: a letter is passed, a letter begins one, a space or "=" ends one
+--     letters-none, letters-more, letters-id      runs of letters: the empty one, one more letter, a run that is an identifier
+--     key-on, key-stop                            keys: a byte that is passed, and a byte that ends one
 -- Assumes nothing.
 use mathlib.Core.Path.{_≡_, refl, sym, ap, _∙_, subst}
 use mathlib.Core.Bool.{Bool, true, false, cond, not, _&&_, _||_, or-true}
@@ -40,7 +40,7 @@ implied p q n t b h e = go (p b) (q b) e (each (λ b. not (p b) || q b) n t b h)
     go true false e t = absurd t
     go false y e t = let z : _≡_ {A = ℕ} 0 1 = cc in absurd (omega arith)
 
--- one of two characters of ASCII is ASCII
+-- a byte that equals one of two characters of ASCII is ASCII
 one-of : (b x y : ℕ) → x < 0x80 → y < 0x80 → (eqb b x || eqb b y) ≡ true → b < 0x80
 one-of b x y p q t = go (eqb b x) refl
   where
@@ -113,7 +113,7 @@ goes-on : Implies letterOf isIdContinue 128
 unfolding whiteSpace control isWhitespace isControl isIdContinue
 goes-on = tt
 
--- what ends most identifiers
+-- a space and "=", which end most identifiers, do not continue one
 ends : Implies (λ b. eqb b 0x20 || eqb b 0x3D) (λ b. not (isIdContinue b)) 128
 unfolding whiteSpace control isWhitespace isControl isIdContinue
 ends = tt
@@ -146,7 +146,7 @@ letters-more {s} {i} {j} a h e =
     go k p q true d = subst (λ (n : ℕ). letterOf (getD s n 0) ≡ true) (sym (eqb-true k j d)) e
     go k p q false d = a .letters k p (omega (arith, eqb-false k j d))
 
--- an identifier of letters alone, with what ends most identifiers behind it
+-- letters with a space or "=" behind them are a whole identifier
 pub letters-id : {s : List ℕ} {i r : ℕ} → Letters s i r → i < r → r < length s → (eqb (getD s r 0) 0x20 || eqb (getD s r 0) 0x3D) ≡ true →
     (i + 1 ≡ pastOne isIdStart i (see s i)) × (r ≡ skip isIdContinue s (i + 1))
 letters-id {s} {i} {r} a l h t = (

@@ -1,10 +1,10 @@
--- Texts that have none of a set of bytes, and where a byte stands first: the laws under src/block.rt.
---     distance-none                       a byte that is apart from each interval is not in the set
---     clear-none, clear-join, clear-block, clear-as   no bytes at all, and one stretch behind another
+-- Stretches of text without a byte of a set, and the first place of a byte: the laws for src/block.rt.
+--     distance-none                       a byte at a distance from each interval of a set is not in the set
+--     clear-none, clear-join, clear-block, clear-as   stretches: the empty one, two that meet, one with a block behind it, of an equal set
 --     Before, part-more, part-done        the loop of `part`
---     Least, least-more, least-done, none-ascii    the loop of `is_ascii`, and what is then known of each byte
+--     Least, least-more, least-done, none-ascii    the loop of `is_ascii`, and that a byte which is not of `others` is ASCII
 --     Lacking, lacking, lacking-more, found-at     the loop of `find`
---     found-once                          there is one first place
+--     found-once                          a byte has only one first place
 --     line                                the place of the first newline is where a line's characters end
 -- Assumes nothing.
 use Prim.Native.Nat.{ℕ, _+_, _-_, _≤_, _<_, min, max}
@@ -43,7 +43,7 @@ distance-none x b {p} {q} {r} e f g d c h =
     let l = least-three p q r (subst (λ (k : ℕ). 0 < k) (c ∙ ap (min p) d) h) in
     rw (apart-none (x .one) b e (l .0), apart-none (x .two) b f (l .1), apart-none (x .three) b g (l .2))
 
--- ---- stretches
+-- ---- stretches without a byte of the set
 
 pub clear-none : {x : Set} {s : List ℕ} {i : ℕ} → Clear x s i i
 clear-none = record { from = omega arith; to = omega arith; clear = λ k h l. absurd (omega arith) }
@@ -56,15 +56,15 @@ clear-join {x} {s} {i} {j} {r} a b =
     go k h l true e = a .clear k h (ltb-true _ _ e)
     go k h l false e = b .clear k (ltb-false _ _ e) l
 
--- a whole block behind a stretch
+-- a stretch, and behind it a block without such a byte
 pub clear-block : {x : Set} {s : List ℕ} {i j k n : ℕ} → Clear x s i j → Clear x s j (j + k) → k ≡ n → Clear x s i (j + n)
 clear-block {x} {s} {i} {j} a b e = clear-join a (subst (λ (m : ℕ). Clear x s j (j + m)) e b)
 
--- the set by another name
+-- what is clear of a set is clear of an equal set
 pub clear-as : {x y : Set} {s : List ℕ} {i r : ℕ} → x ≡ y → Clear x s i r → Clear y s i r
 clear-as {s = s} {i = i} {r = r} e a = subst (λ (z : Set). Clear z s i r) e a
 
--- ---- a block: of its first k bytes, those before m are not of the set
+-- ---- the loop of `part`: of the first k bytes of the block, those before the place m are not in the set
 
 abbrev pub Before : Set → List ℕ → ℕ → ℕ → ℕ → Type 0
 Before x s i k m = (j : ℕ) → j < k → j < m → (getD s (i + j) 0 < 256) × (inSet x (getD s (i + j) 0) ≡ false)
@@ -85,7 +85,7 @@ part-done x s i m {k} l h b = record { from = omega arith; to = omega arith; cle
         let e : i + (n - i) ≡ n = omega arith in
         subst (λ (a : ℕ). (getD s a 0 < 256) × (inSet x (getD s a 0) ≡ false)) e (b (n - i) (omega arith) (omega arith))
 
--- ---- a block: none of its first k bytes is above m
+-- ---- the loop of `is_ascii`: none of the first k bytes of the block is above m
 
 abbrev pub Least : List ℕ → ℕ → ℕ → ℕ → Type 0
 Least s i k m = (j : ℕ) → j < k → getD s (i + j) 0 ≤ m
@@ -113,7 +113,7 @@ pub least-done : (s : List ℕ) (i k m : ℕ) → Least s i k m → m < 0x80 →
 least-done s i k m h l r =
     part-done others s i k (omega arith) r (λ j p q. let a = h j p in (omega arith, ascii-none (getD s (i + j) 0) (omega arith)))
 
--- ---- where a byte stands first
+-- ---- the loop of `find`: the first place of a byte
 
 pub record Lacking (x : ℕ) (s : List ℕ) (i j : ℕ) : Type 0 where
   pub from : i ≤ j

@@ -1,7 +1,7 @@
--- What is seen of a text that stands in a longer one.
+-- What the scanner sees where a text stands in a longer one.
 --     see-ahead               a character ends after its place, and inside the text
---     see-up                  the text moved behind another: what is seen moves with it
---     see-front               a text that goes on with no tail shows what it showed
+--     see-up                  behind another text the scanner sees the same, at places moved by that text's length
+--     see-front               where another text follows that does not begin with a tail, the scanner sees the same
 -- Assumes nothing.
 use Prim.Native.Nat.{ℕ, zero, suc, _+_, _-_, _≤_, _<_}
 use mathlib.Core.Path.{_≡_, refl, sym, ap, _∙_, subst}
@@ -38,9 +38,9 @@ see-up a s p =
     ap (λ (u : List ℕ). seeFrom u (p + length a)) (ap (λ (n : ℕ). drop n (a ++ s)) (add-comm p (length a)) ∙ drop-append-add a s p)
     ∙ from-up (drop p s) p (length a)
 
--- ---- the sequence that a text begins with, where the text goes on
+-- ---- the sequence that a text begins with, where more text follows
 
--- a sequence that a text begins with, it begins with where it is longer
+-- a text that begins with a sequence begins with it also where more text follows
 width-more : (u t : List ℕ) (n : ℕ) → width u ≡ suc n → width (u ++ t) ≡ suc n
 width-more u t n e =
     let k = rw e at (width-char u (omega arith)) in
@@ -48,7 +48,7 @@ width-more u t n e =
     sym (append-assoc (take (suc n) u) (drop (suc n) u) t) ∙ ap (λ (v : List ℕ). v ++ t) (take-append-drop (suc n) u) in
     sym (ap width f) ∙ char-width (take (suc n) u) (drop (suc n) u ++ t) (k .0) ∙ length-take-le (suc n) u (k .1)
 
--- and one that ends inside it
+-- where the longer text begins with a sequence that ends inside u, u begins with it
 width-less : (u t : List ℕ) (n : ℕ) → width (u ++ t) ≡ suc n → suc n ≤ length u → width u ≡ suc n
 width-less u t n e h =
     let k = rw e at (width-char (u ++ t) (omega arith)) in
@@ -71,7 +71,7 @@ see-same s t p h l =
     let k : take (width u) (u ++ t) ≡ take (width u) u = take-append-le (width u) u t (width-inside u .0) in
     see-at (s ++ t) p (omega (arith, length-append s t)) ∙ rw (drop-append-le p s t (omega arith), w, k) (sym (see-at s p h))
 
--- ---- a text that goes on with no tail: none of its characters covers what follows
+-- ---- where what follows does not begin with a tail, no character of the text reaches into it
 
 front-width : (u t : List ℕ) (n : ℕ) → 0 < length u → within tail (getD t 0 256) ≡ false → width (u ++ t) ≡ n → n ≤ length u
 front-width u t n h f e = go (leb n (length u)) refl

@@ -1,6 +1,7 @@
--- The masks of the named tests, each by one test that the checker computes over ASCII.
---     masks           what makes two words the masks of a test
---     wide, digit, braces     what is not ASCII: for a test that is not narrow, and for those that are
+-- The masks of the named tests, each checked by computing its test over all of ASCII.
+--     masks           two words are a test's masks if their bits are the test's answers over ASCII
+--     wide            masks that are not narrow promise nothing about what is not ASCII
+--     digit, braces   only ASCII passes these tests
 -- Assumes nothing.
 use mathlib.Core.Path.{_≡_, sym, ap, subst}
 use mathlib.Core.Bool.{Bool, true, false, _||_, Bool·beq, and-false, or-false, or-assoc}
@@ -36,11 +37,11 @@ digit c l = rw (lt-leb c 0x39 (omega arith)) (and-false (leb 0x30 c))
 pub braces : (c : ℕ) → 128 ≤ c → mark (0x7B ∷ 0x7D ∷ []) c ≡ false
 braces c l = rw (narrow-is 0x7B (omega arith) c l, narrow-is 0x7D (omega arith) c l)
 
--- a test by what it was told to be
+-- equal tests have the same answer
 pub told : {u t : Test} (c : ℕ) → u ≡ t → holdsOf t c ≡ holdsOf u c
 told c p = ap (λ (v : Test). holdsOf v c) (sym p)
 
--- thirteen tests in a row, as the code joins them and as `mark` does
+-- thirteen tests joined by "or", as the code joins them and as `mark` does
 pub thirteen : (a b c d e f g h i j k l m : Bool) →
     (a || b || c || d || e || f || g || h || i || j || k || l || m) ≡ (a || (b || (c || (d || (e || (f || (g || (h || (i || (j || (k || (l || (m || false)))))))))))))
 thirteen a b c d e f g h i j k l m = simp (or-assoc, or-false)

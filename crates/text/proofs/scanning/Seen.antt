@@ -1,8 +1,8 @@
--- What stands at a place.
---     decode-end, decode-at           `decodeAt`, at the end and before it
---     see-end, see-at, see-decoded    `see` likewise, and from what `decode` answers
---     see-inside, char-inside         a character ends further on, and inside the text
---     see-ascii                       an octet of ASCII is one by itself
+-- What `decode` and the scanner find at a place.
+--     decode-end, decode-none, decode-some    `decodeAt`: at the end, at an octet that begins no sequence, at a sequence
+--     see-end, see-at, see-decoded            `see`, at the end, before it, and by what `decode` answers
+--     see-inside, char-inside                 a character ends after its place, and inside the text
+--     see-ascii                               an octet of ASCII is a character by itself
 -- Assumes nothing.
 use mathlib.Core.Path.{_≡_, refl, sym, ap, _∙_, subst}
 use mathlib.Core.Bool.{Bool, true, false, cond}
@@ -44,7 +44,7 @@ pub see-at : (s : List ℕ) (i : ℕ) → i < length s → see s i ≡ seen.Char
 unfolding seeFrom
 see-at s i h = rw (drop-next s i h)
 
--- what the scanner sees, of what `decode` answers
+-- what the scanner sees where `decode` gives this answer
 abbrev pub seenOf : ℕ → Decoded → Seen
 seenOf i decoded.End = seen.End
 seenOf i (decoded.Char c n) = seen.Char c n
@@ -86,7 +86,7 @@ see-ascii s i h a =
     ∙ rw w (ap (λ (c : ℕ). seen.Char c (i + 1 + 0)) (value-one s i 1 (omega arith) refl ∙ mod-eq-of-lt (omega arith))
     ∙ ap (seen.Char (getD s i 0)) (omega arith))
 
--- ---- by what a call answered: g is what was seen, and x what it was told to be
+-- ---- after a call: g is what it answered, and x the case that the code found in g
 
 module _ (s : List ℕ) (i : ℕ) where
   pub seen-told : {g x : Decoded} → g ≡ decodeAt s i → g ≡ x → seenOf i x ≡ see s i
@@ -113,6 +113,6 @@ module _ (s : List ℕ) (i : ℕ) where
     pub past-miss : q c ≡ false → i ≡ pastOne q i (see s i)
     past-miss t = sym (ap (λ (b : Bool). cond b n i) t) ∙ past-told e p q
 
--- a character that was seen ends further on, and inside the text
+-- a character that was seen ends after its place, and inside the text
 pub char-inside : (s : List ℕ) (i : ℕ) {g : Seen} {c n : ℕ} → Inside s i g → g ≡ seen.Char c n → (i < n) × (n ≤ length s)
 char-inside s i h p = subst (Inside s i) p h

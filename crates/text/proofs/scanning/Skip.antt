@@ -1,9 +1,13 @@
 -- How far a scanner goes, character by character and, where only ASCII decides, byte by byte.
---     code-wide                           an octet that is not ASCII begins a character that is not
---     skip-end, skip-on, skip-stop        at the end, at a character that passes, at one that does not
---     skip-ahead                          never back, and not past the end
---     skip-over                           over bytes each of which may be passed by itself
---     skip-ascii, skip-narrow, skip-one   the turns of `eat_run`
+--     code-wide                               an octet that is not ASCII begins a character that is not ASCII
+--     skip-end, skip-on, skip-stop            a scan at the end, at a character that passes the test, at one that does not
+--     skip-ahead                              a scan never goes back, and not past the end
+--     skip-over                               a scan goes over bytes each of which it may pass by itself
+--     byte-on, byte-stop, one-on, one-stop    a turn of a scan, by the byte or by the character that the code looked at
+--     wide-on, wide-stop                      a turn at an octet that is not ASCII, for a test that all such characters pass, or none
+--     wants-told, wants-off, wants-on         the tests of `eat_run`
+--     passed-more, run-on, ran-on, ran-stop   runs of ASCII in `eat_run`
+--     passed, ran, bit-on, .. single-off      what the functions return: the place where the scan stops, and that it lies ahead
 -- Assumes nothing.
 use mathlib.Core.Path.{_≡_, refl, sym, ap, _∙_, subst}
 use mathlib.Core.Bool.{Bool, true, false, cond, not, Bool·beq}
@@ -74,7 +78,7 @@ module _ (p : ℕ → Bool) (s : List ℕ) where
     unfolding skip lookPast
     skip-stop t = walk-answer (lookPast p) (λ n. n) s i i h (rw t)
 
-    -- by what the code saw: the byte
+    -- a turn, by the byte that the code looked at
     module _ (a : getD s i 0 < 0x80) {w : Bool} (q : w ≡ p (getD s i 0)) where
       code-byte : code (drop i s) ≡ getD s i 0
       code-byte = let e = sym (see-at s i h) ∙ see-ascii s i h a in cc
@@ -88,7 +92,7 @@ module _ (p : ℕ → Bool) (s : List ℕ) where
       pub byte-stop : w ≡ false → skip p s i ≡ i
       byte-stop t = skip-stop (ap p code-byte ∙ sym q ∙ t)
 
-    -- or the character
+    -- a turn, by the character that the code looked at
     module _ {n : ℕ} (q : n ≡ pastOne p i (see s i)) where
       one : (t : Bool) → p (code (drop i s)) ≡ t → n ≡ cond t (i + 1 + rest (drop i s)) i
       one t e = q ∙ rw (see-at s i h, e)
@@ -109,7 +113,7 @@ module _ (p : ℕ → Bool) (s : List ℕ) where
               (omega (arith, one true e), omega (arith, one true e, k .1), skip-on e ∙ ap (skip p s) (sym (one true e)))
           go false e = absurd (z (one false e))
 
-  -- over bytes each of which may be passed by itself
+  -- over n bytes each of which the scan may pass by itself
   over : (i n : ℕ) → i + n ≤ length s → ((k : ℕ) → i ≤ k → k < i + n → k < length s → skip p s k ≡ skip p s (k + 1)) → skip p s i ≡ skip p s (i + n)
   over i zero h f = ap (skip p s) (sym (add-zero i))
   over i (suc n) h f =
@@ -127,7 +131,7 @@ module _ (p : ℕ → Bool) (s : List ℕ) where
       go true l = over i (r - i) (omega (arith, ltb-true r (length s + 1) l)) (λ k a b q. f k a (omega arith) q) ∙ ap (skip p s) e
       go false l = let q : r ≡ i = omega (arith, ltb-false r (length s + 1) l) in ap (skip p s) (sym q)
 
--- ---- where no test is needed for what is not ASCII
+-- ---- tests that all characters beyond ASCII pass, or none
 
 module _ (p : ℕ → Bool) (s : List ℕ) (i : ℕ) (h : i < length s) (b : 0x80 ≤ getD s i 0) where
   code-at : 0x80 ≤ code (drop i s)
@@ -137,7 +141,7 @@ module _ (p : ℕ → Bool) (s : List ℕ) (i : ℕ) (h : i < length s) (b : 0x8
   wide-stop off = skip-stop p s i h (off _ code-at)
 
 module _ (p : ℕ → Bool) (on : (c : ℕ) → 0x80 ≤ c → p c ≡ true) where
-  -- tails, looked at one by one, pass like those of the character before
+  -- tails that the scan looks at one by one are passed, as they are when it passes the whole character
   pass-tails : (k i : ℕ) (t : List ℕ) → k ≤ length t → ((j : ℕ) → j < k → within tail (getD t j 0) ≡ true) →
       walkFrom (lookPast p) (λ n. n) i k t ≡ walkFrom (lookPast p) (λ n. n) i 0 t
   unfolding walkFrom lookPast code rest
@@ -178,7 +182,7 @@ module _ (p : ℕ → Bool) (on : (c : ℕ) → 0x80 ≤ c → p c ≡ true) whe
 -- ---- bounds
 
 module _ (p : ℕ → Bool) (s : List ℕ) (i : ℕ) where
-  -- at the place j, with the text u from there on
+  -- the scan has come to the place j, not before i, and u is the text from there on
   On : ℕ → List ℕ → Type 0
   On j u = (i ≤ j) × (j + length u ≤ max i (length s))
 
@@ -231,7 +235,7 @@ wants-on t c w e h = rw (e, h)
 
 -- ---- bytes of ASCII, one after the other
 
--- what holds of every place from i to r
+-- at every place from i to r stands a byte of ASCII whose bit is w
 abbrev pub Passed : ℕ → ℕ → Bool → List ℕ → ℕ → ℕ → Type 0
 Passed low high w s i r = (k : ℕ) → i ≤ k → k < r → (k < length s) × (getD s k 0 < 0x80) × (Bool·beq (hasBit low high (getD s k 0)) w ≡ true)
 
@@ -266,7 +270,7 @@ module _ (t : Test) (w : Bool) (m : Masks) (masks : AsciiOf t m) (s : List ℕ) 
     pub ran-stop : r < length s → getD s r 0 < 0x80 → skip (wants t w) s i ≡ r
     ran-stop l h = ran-on ∙ byte-stop (wants t w) s r l h (as-wanted r h) (a .stopped l h)
 
--- ---- what a scanner's loop hands over
+-- ---- what the functions return: the place where the scan stops, and that it lies ahead
 
 past-ahead : (p : ℕ → Bool) (s : List ℕ) (i : ℕ) (x : Seen) → Inside s i x → Ahead s i (pastOne p i x)
 past-ahead p s i End h = record { from = omega arith; to = omega arith }
@@ -279,7 +283,7 @@ past-ahead p s i (Char c n) h = go (p c)
 pub passed : (p : ℕ → Bool) (s : List ℕ) (i : ℕ) {r : ℕ} → r ≡ pastOne p i (see s i) → (r ≡ pastOne p i (see s i)) × Ahead s i r
 passed p s i e = (e, subst (Ahead s i) (sym e) (past-ahead p s i (see s i) (see-inside s i)))
 
--- one byte of ASCII, by its bit
+-- at one byte of ASCII, whose bit in the masks decides
 module _ (t : Test) (m : Masks) (masks : AsciiOf t m) (s : List ℕ) (i : ℕ) (h : i < length s) (a : getD s i 0 < 0x80) {x : Bool}
     (q : x ≡ hasBit (m .low) (m .high) (getD s i 0)) where
   pub bit-on : x ≡ true → (i + 1 ≡ pastOne (holdsOf t) i (see s i)) × Ahead s i (i + 1)
@@ -291,7 +295,7 @@ module _ (t : Test) (m : Masks) (masks : AsciiOf t m) (s : List ℕ) (i : ℕ) (
 pub bit-end : (t : Test) (s : List ℕ) (i : ℕ) → length s ≤ i → (i ≡ pastOne (holdsOf t) i (see s i)) × Ahead s i i
 bit-end t s i h = passed (holdsOf t) s i (rw (see-end s i h))
 
--- one character of ASCII, by the byte
+-- the test for one character x of ASCII, where the byte decides
 module _ (x : ℕ) (k : x < 0x80) (s : List ℕ) (i : ℕ) where
   pub single-end : length s ≤ i → (i ≡ pastOne (single x) i (see s i)) × Ahead s i i
   single-end h = passed (single x) s i (rw (see-end s i h))

@@ -1,9 +1,10 @@
--- The grammar of `Utf8` and the sequence that a text begins with: each alternative is told by its first octet.
---     in-within                           an octet of a range passes its test
---     Match, Any                          what `begins` with the length, and `oneOf`, decide
---     any-of, of-any, char-by             from the tests, back, and back by an alternative's number
---     width-char                          what `width` measures is a sequence, and inside the text
---     char-width                          a text that begins with a sequence has its width
+-- The grammar of `Utf8` and the sequence that a text begins with. The first octet tells the alternatives apart.
+--     in-within                           an octet that lies in a range passes the range's test
+--     Match, Any                          octets that match the ranges of one alternative; or of one among several
+--     any-of, of-any                      what passes `oneOf` matches one of the alternatives, and what matches one passes
+--     char-by                             what matches the alternative number k is a sequence
+--     width-char                          the first `width u` octets of a text u are a sequence
+--     char-width                          the width of a text that begins with a sequence is the length of that sequence
 -- Assumes nothing.
 use Prim.Native.Nat.{ℕ, zero, suc, _≤_, _<_}
 use mathlib.Core.Path.{_≡_, refl, ap}
@@ -20,12 +21,12 @@ use Rattle.text.specs.Utf8.{alternatives, begins, oneOf, isChar, widthBy
 pub in-within : (r : Range) (b : ℕ) → r .first ≤ b → b ≤ r .last → within r b ≡ true
 in-within r b l h = rw (le-leb (r .first) b l, le-leb b (r .last) h)
 
--- the octets are one of each range
+-- as many octets as ranges, each in its range
 pub data Match : List Range → List ℕ → Type 0 where
   end : Match [] []
   on : {r : Range} {rs : List Range} {b : ℕ} {s : List ℕ} → r .first ≤ b → b ≤ r .last → Match rs s → Match (r ∷ rs) (b ∷ s)
 
--- and so for one of the alternatives
+-- the octets match one of the alternatives
 pub data Any : List (List Range) → List ℕ → Type 0 where
   here : {a : List Range} {others : List (List Range)} {w : List ℕ} → Match a w → Any (a ∷ others) w
   there : {a : List Range} {others : List (List Range)} {w : List ℕ} → Any others w → Any (a ∷ others) w
@@ -96,9 +97,9 @@ widthBy-leads (a ∷ others) u h = leads-step a others u (widthBy others u) (wid
 pub width-char : (u : List ℕ) → 0 < width u → (isChar (take (width u) u) ≡ true) × (width u ≤ length u)
 width-char u h = let k = widthBy-leads alternatives u h in (of-any (k .0), k .1)
 
--- ---- each alternative is told by its first octet
+-- ---- the first octet tells the alternatives apart
 
--- the first ranges rise from n on
+-- the first ranges rise: the first of them begins at n or above, and each other one above the end of the one before
 data Rising : ℕ → List (List Range) → Type 0 where
   last : {n : ℕ} → Rising n []
   step : {n : ℕ} {r : Range} {rs : List Range} {others : List (List Range)} → n ≤ r .first → n ≤ r .last → Rising (suc (r .last)) others →
@@ -117,7 +118,7 @@ rises n ((r ∷ rs) ∷ others) e =
     let k = both-true (leb n (r .first)) (leb n (r .last)) (h .0) in
     step (leb-true _ _ (k .0)) (leb-true _ _ (k .1)) (rises (suc (r .last)) others (h .1))
 
--- an octet stands first, and is n or more
+-- the list has a first octet, which is n or more
 data From (n : ℕ) : List ℕ → Type 0 where
   from : {b : ℕ} {s : List ℕ} → n ≤ b → From n (b ∷ s)
 

@@ -1,8 +1,8 @@
--- What stands at a place of a text, and the places that cut no sequence.
+-- What stands at a place of a text, and the places that do not cut a sequence.
 --     code-char, rest-char        the first character of a text that begins with a sequence
 --     decode-char, see-char       where a sequence stands, `decodeAt` and `see` read it
 --     decodes                     what `octets` wrote is read back, wherever it stands
---     boundary                    in a text, a boundary is a place that cuts no sequence
+--     boundary                    in a text, the boundaries are the places that do not cut a sequence
 --     sees, skips                 from a boundary, the scanner reads a character as `decodeAt` does, and goes to a boundary
 -- Assumes nothing.
 use Prim.Native.Nat.{ℕ, zero, suc, _+_, _-_, _≤_, _<_}
@@ -67,11 +67,11 @@ cut-boundary s n c =
     let g : within tail (getD s n 256) ≡ false = rw (getD-drop n s 0 256, z) at (octets-first (c .after)) in
     rw (le-leb n (length s) (c .inside), g)
 
--- the two texts that a place cuts
+-- the place n cuts s into two texts that are UTF-8
 abbrev Halves : List ℕ → ℕ → Type 0
 Halves s n = Octets (take n s) × Octets (drop n s)
 
--- where no tail stands
+-- where no tail stands at n, the place n cuts s in this way
 abbrev Parts : List ℕ → ℕ → Type 0
 Parts s n = n ≤ length s → within tail (getD s n 256) ≡ false → Halves s n
 
@@ -81,7 +81,7 @@ halves-further w s n e l ih h q =
     let m = ih (n - length w) (omega (arith, length-append w s)) (rw (← k, getD-append-add w s (n - length w) 256) at q) in
     subst (Halves (w ++ s)) k (rw (take-append-add w s (n - length w), drop-append-add w s (n - length w)) (next w e (m .0), m .1))
 
--- inside a sequence an octet is a tail
+-- a tail stands at every place inside a sequence
 halves-inside : (w s : List ℕ) (n : ℕ) → isChar w ≡ true → 0 < n → n < length w → within tail (getD (w ++ s) n 256) ≡ false → ⊥
 halves-inside w s n e l h q =
     let g = char-further w n 256 e l h in
@@ -109,7 +109,7 @@ boundary s n o = (boundary-cut s n o, cut-boundary s n)
 
 -- ---- the scanner
 
--- past a sequence at a place
+-- where i cuts s and a sequence follows, the place after the sequence cuts s too
 cut-char : (s : List ℕ) (i : ℕ) (w t : List ℕ) → Cut s i → w ++ t ≡ drop i s → isChar w ≡ true → Octets t →
     (t ≡ drop (i + length w) s) × Cut s (i + length w)
 cut-char s i w t c q e o =
@@ -141,7 +141,7 @@ skip-stop : (p : ℕ → Bool) (i : ℕ) (u : List ℕ) → p (code u) ≡ false
 unfolding lookPast
 skip-stop p i u q = rw q
 
--- the place that the walk comes to
+-- the place where a scan that begins at i stops
 abbrev skipFrom : (ℕ → Bool) → ℕ → List ℕ → ℕ
 skipFrom p i u = walkFrom (lookPast p) (λ n. n) i 0 u
 

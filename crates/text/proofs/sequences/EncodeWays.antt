@@ -1,7 +1,8 @@
--- The ways of `encode`.
---     scalar-high                     a scalar value has 21 bits
---     encode-not, short-one, ..       no scalar value, and no room
---     encode-one, .. encode-four      so many octets written
+-- A law for each way through `encode`.
+--     scalar-high                     a scalar value is at most 10FFFF
+--     encode-not                      a number that is no scalar value is refused
+--     short-one, .. short-four        too little room for that many octets
+--     encode-one, .. encode-four      that many octets are written
 -- Assumes nothing.
 use mathlib.Core.Path.{_≡_, refl, sym, ap, _∙_, subst}
 use mathlib.Core.Bool.{Bool, true, false, cond, not, _&&_}

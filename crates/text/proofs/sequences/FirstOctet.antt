@@ -1,7 +1,8 @@
--- What the first octet of a text decides.
---     ones, none, some        `sequence_length`
---     width-first             the width of a text, by its first octet alone and the octets behind it
---     width-two, width-three  of most sequences that are not ASCII, by comparisons
+-- What the first octet decides about the sequence that a text begins with.
+--     ones, none, some                `sequence_length`: the number of leading ones, and one where there is none
+--     width-first                     the width of a text, by the one alternative that its first octet begins
+--     width-ascii, .. width-broken    the width at a place, by what the code has found there
+--     width-two, width-three          the width of most sequences of two and three octets, by comparisons alone
 -- Assumes nothing.
 use mathlib.Core.Path.{_≡_, refl, sym, ap, _∙_, subst}
 use mathlib.Core.Bool.{Bool, true, false, cond, _&&_, _||_, and-true, and-false, and-assoc}
@@ -30,7 +31,7 @@ ones b h =
     eqb→eq (orOne (leadingZeros 8 (255 - b))) (sequenceLength b)
     (each (λ n. eqb (orOne (leadingZeros 8 (255 - n))) (sequenceLength n)) 256 tt b h)
 
--- none means one, at the two ways of the code
+-- the two ways of the code: where there is no leading one the length is one, and otherwise it is their number
 pub none : {n s : ℕ} → orOne n ≡ s → n ≡ 0 → 1 ≡ s
 none {n} {s} e z = subst (λ (m : ℕ). orOne m ≡ s) z e
 
@@ -38,7 +39,7 @@ pub some : {n s : ℕ} → orOne n ≡ s → (n ≡ 0 → ⊥) → n ≡ s
 some {n = zero} e z = absurd (z refl)
 some {n = suc n} e z = e
 
--- ---- the alternatives that the octet a begins, without their first range
+-- ---- the alternatives whose first range has the octet a, without that range
 
 rests : ℕ → List (List Range) → List (List Range)
 rests a [] = []
@@ -61,7 +62,7 @@ width-rests ((r ∷ rs) ∷ others) a s = go (within r a) (begins rs s) refl (wi
     go true false q e = rw q e
     go false u q e = e
 
--- ---- and the one that it begins, if any: each octet begins at most one
+-- ---- an octet begins at most one alternative
 
 eqRange : Range → Range → Bool
 eqRange p q = eqb (p .first) (q .first) && eqb (p .last) (q .last)
@@ -78,7 +79,7 @@ eqChoices [] (q ∷ qs) = false
 eqChoices (p ∷ ps) [] = false
 eqChoices (p ∷ ps) (q ∷ qs) = eqRanges p q && eqChoices ps qs
 
--- none; nothing more; or a second octet and tails
+-- what follows the octet a: it begins no sequence; or nothing follows; or a second octet and tails
 pub first : ℕ → List (List Range)
 first a =
     cond (ltb a 0x80) ([] ∷ [])
@@ -160,7 +161,7 @@ step s i k j e = ap (λ (n : ℕ). drop n s) (same e)
     same : k + 1 ≡ j → i + k + 1 ≡ i + j
     same e = omega arith
 
--- a second octet and tails, as the code asks for them one by one
+-- the second octet and the tails, as the code asks for them one by one
 module _ (s : List ℕ) (i a n : ℕ) {x : Bool} (room : i + n ≤ length s) (second : x ≡ goesSecond a (getD s (i + 1) 0)) where
   pub on-two : n ≡ 2 → x ≡ begins (seconds a ∷ replicate (n - 2) tail) (drop (i + 1) s)
   unfolding begins goesSecond
@@ -201,7 +202,7 @@ module _ (s : List ℕ) (i : ℕ) (inside : i < length s) (octet : getD s i 0 < 
   unfolding first restWidth
   width-none h t = width-at ∙ rw (le-ltb _ _ h, t)
 
-  -- an octet that begins a longer sequence: n octets in all
+  -- an octet that begins a sequence of n octets, two at least
   module _ (high : 0x80 ≤ getD s i 0) (leads : (ltb (getD s i 0) 0xC2 || ltb 0xF4 (getD s i 0)) ≡ false) (n : ℕ) (length-is : n ≡ sequenceLength (getD s i 0)) where
     pub length-range : (2 ≤ n) × (n ≤ 4)
     length-range = subst (λ (m : ℕ). (2 ≤ m) × (m ≤ 4)) (sym length-is) (range (getD s i 0) octet high leads)
@@ -226,7 +227,7 @@ module _ (s : List ℕ) (i : ℕ) (inside : i < length s) (octet : getD s i 0 < 
       pub width-broken : t ≡ false → width (drop i s) ≡ 0
       width-broken h = width-long ∙ rw (sym e ∙ h)
 
--- ---- sequences told by their first octet and tails alone
+-- ---- sequences whose second octet may be any tail
 
 above : (a e b : ℕ) → e < b → within (a – e) b ≡ false
 above a e b h = rw (lt-leb b e h) (and-false (leb a b))

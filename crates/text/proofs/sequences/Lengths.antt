@@ -1,9 +1,9 @@
--- The sequences of UTF-8 by their four lengths, with linear facts of their octets.
---     char-shape, shape-char  from `isChar` and back
+-- The sequences of UTF-8 of each length, one to four, with linear facts about their octets.
+--     char-shape, shape-char  a sequence has one of the four shapes, and what has one is a sequence
 --     char-some               a sequence has an octet, and four at most
---     char-first              its first octet is no tail
---     char-further            its other octets are tails
---     width-inside            a width is not past the end of the text, nor above four
+--     char-first              the first octet of a sequence is no tail
+--     char-further            the other octets of a sequence are tails
+--     width-inside            the width of a text is at most its length, and at most four
 --     width-tail              a text that begins with a tail has the width 0
 -- Assumes nothing.
 use Prim.Native.Nat.{ℕ, zero, suc, _+_, _*_, _≤_, _<_}
@@ -23,7 +23,7 @@ use Rattle.text.proofs.sequences.Alternatives.{Match, end, on, Any, her
 tail-of : (b : ℕ) → 0x80 ≤ b → b ≤ 0xBF → Tail b
 tail-of b l h = record { low = l; high = h }
 
--- ---- from the grammar
+-- ---- from the grammar to the shapes
 
 three-of : (a b : ℕ) {s : List ℕ} → (a ≡ 0xED → b ≤ 0x9F) → Match (tail ∷ []) s → 0xE0 * 64 + 0xA0 ≤ a * 64 + b → a ≤ 0xEF → 0x80 ≤ b → b ≤ 0xBF →
     Shape (a ∷ b ∷ s)
@@ -50,7 +50,7 @@ any-shape (there (there (there (there (there (there (there (there (here (on {b =
 pub char-shape : (w : List ℕ) → isChar w ≡ true → Shape w
 char-shape w e = any-shape (any-of alternatives w e)
 
--- ---- back to it
+-- ---- from the shapes back to the grammar
 
 tail-match : {c : ℕ} → Tail c → Match (tail ∷ []) (c ∷ [])
 tail-match c = on (c .low) (c .high) end
@@ -62,7 +62,7 @@ also : (a b : ℕ) {r q : Range} {rs : List Range} {s : List ℕ} → Match rs s
     Match (r ∷ q ∷ rs) (a ∷ b ∷ s)
 also a b m l h x y = on l h (on x y m)
 
--- which alternative it is, by what the first octet is not above
+-- comparing the first octet decides which alternative the sequence belongs to
 three-char : (a b c : ℕ) → Three a b c → (x y z : Bool) → leb a 0xE0 ≡ x → leb a 0xEC ≡ y → leb a 0xED ≡ z → isChar (a ∷ b ∷ c ∷ []) ≡ true
 unfolding alternatives
 three-char a b c t true y z p q r =
@@ -114,7 +114,7 @@ low-first a h = rw (lt-leb 0x80 a (omega arith))
 high-first : (a : ℕ) → 0xC0 ≤ a → within tail a ≡ false
 high-first a h = rw (lt-leb a 0xBF (omega arith), and-false (leb 0x80 a))
 
--- where it stands, d being what getD gives past the end
+-- the first octet is no tail, whatever text t follows; d is what `getD` gives past the end
 pub char-first : (w t : List ℕ) (d : ℕ) → isChar w ≡ true → within tail (getD (w ++ t) 0 d) ≡ false
 char-first w t d e = go t d (char-shape w e)
   where
@@ -143,7 +143,7 @@ char-further w n d e l h = go n d (char-shape w e) l h
     go (suc (suc (suc zero))) d (four t) l h = tail-within (t .fourth)
     go (suc (suc (suc (suc n)))) d (four t) l h = absurd (omega arith)
 
--- ---- and so the sequence that a text begins with
+-- ---- what follows for the sequence that a text begins with
 
 pub width-inside : (u : List ℕ) → (width u ≤ length u) × (width u ≤ 4)
 width-inside u = go (width u) refl

@@ -1,10 +1,10 @@
--- The concatenations of sequences, and `validityOf`, which walks over them.
---     octets-char             a sequence is one
---     octets-append           two of them are one
---     octets-after            where a beginning is one, so is what follows it
---     octets-width            one that is not empty begins with a sequence, and the rest is one
---     walk-char               a walk passes a sequence
---     accepts, refuses        `validityOf` tells them, and the end of the longest beginning that is one
+-- Texts that are UTF-8, that is, concatenations of sequences; and `validityOf`, which walks over them.
+--     octets-char             a sequence is UTF-8
+--     octets-append           two texts that are UTF-8 are UTF-8 when put together
+--     octets-after            where a text and a beginning of it are UTF-8, so is what follows the beginning
+--     octets-width            a text that is UTF-8 and not empty begins with a sequence, and what follows that is UTF-8
+--     walk-char               a walk that passes a sequence goes on behind it
+--     accepts, refuses        `validityOf` accepts what is UTF-8, and of other texts tells the end of the longest beginning that is
 -- Assumes nothing.
 use Prim.Native.Nat.{ℕ, suc, _+_, _-_, _≤_, _<_}
 use mathlib.Core.Path.{_≡_, refl, sym, ap, subst, _∙_}
@@ -44,7 +44,7 @@ pub octets-after : {u : List ℕ} (t : List ℕ) → Octets u → Octets (u ++ t
 octets-after t none q = q
 octets-after t (next w {s} e o) q = octets-after t o (octets-rest w (s ++ t) e (rw append-assoc at q))
 
--- ---- walks over them
+-- ---- walks over texts that are UTF-8
 
 module _ {R : Type 0} (f : ℕ → List ℕ → Look R) (e : ℕ → R) where
   pub walk-char : (i : ℕ) (w t : List ℕ) → isChar w ≡ true → f i (w ++ t) ≡ pass (length w - 1) →
@@ -125,14 +125,14 @@ outcome-of s x e = subst (Outcome s) e (outcome s)
 pub accepts : (s : List ℕ) → (validityOf s ≡ validity.Valid) ↔ Octets s
 accepts s = (outcome-of s validity.Valid, octets-valid s)
 
--- ---- the longest beginning
+-- ---- the longest beginning that is UTF-8
 
--- a text that begins with some begins with a sequence
+-- a text with a beginning that is UTF-8 and not empty begins with a sequence
 octets-begins : {u : List ℕ} (t : List ℕ) → Octets u → 0 < length u → 0 < width (u ++ t)
 octets-begins t none h = absurd (omega arith)
 octets-begins t (next w {s} e o) h = rw (append-assoc w s t, char-width w (s ++ t) e) (char-some w e .0)
 
--- a longer beginning goes on with a sequence
+-- where two beginnings of a text are UTF-8, a sequence follows the shorter one
 octets-longer : (s : List ℕ) (n m : ℕ) → Octets (take n s) → Octets (take m s) → n < m → m ≤ length s → 0 < width (drop n s)
 octets-longer s n m o q l h =
     let k : m ≡ n + (m - n) = omega arith in
@@ -142,7 +142,7 @@ octets-longer s n m o q l h =
     let c : 0 < length (take (m - n) (drop n s)) = omega (arith, length-take-le (m - n) (drop n s) (omega arith)) in
     rw (take-append-drop (m - n) (drop n s)) at (octets-begins (drop (m - n) (drop n s)) x c)
 
--- so beyond a beginning that no sequence follows there is none
+-- so a beginning that is UTF-8 and that no sequence follows is the longest
 octets-most : (s : List ℕ) (n : ℕ) → Octets (take n s) → width (drop n s) ≡ 0 → (m : ℕ) → m ≤ length s → Octets (take m s) → m ≤ n
 octets-most s n o e m h q = go (leb m n) refl
   where

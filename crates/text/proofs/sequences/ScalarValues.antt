@@ -1,9 +1,9 @@
--- The scalar values and their sequences, one for one.
+-- Each scalar value has one sequence, and each sequence one scalar value.
 --     writes          what `octets` writes is a sequence
---     reads           and its value is the scalar value
---     encodes         a sequence is what `octets` writes of its value, a scalar value
---     shortest        so a value has one sequence
---     leads           the first octet tells the length
+--     reads           the value of what `octets` writes is the scalar value
+--     encodes         the value of a sequence is a scalar value, and `octets` writes this sequence for it
+--     shortest        so a value has only one sequence
+--     leads           the first octet of a sequence tells its length
 -- Assumes nothing.
 use Prim.Native.Nat.{ℕ, _+_, _*_, _/_, _%_, _≤_, _<_}
 use mathlib.Core.Path.{_≡_, refl, sym, ap, _∙_}
@@ -66,7 +66,7 @@ octets-four : (c : ℕ) → 0xFFFF < c → octets c ≡ (0xF0 + c / 64 / 64 / 64
 unfolding octets
 octets-four c l = rw (lt-leb c 0x7F (omega arith), lt-leb c 0x7FF (omega arith), lt-leb c 0xFFFF l)
 
--- the table's lines
+-- the lines of the RFC's table: a scalar value in a range, and its octets
 data Line (c : ℕ) : List ℕ → Type 0 where
   in7F : c ≤ 0x7F → Line c (c ∷ [])
   in7FF : 0x7F < c → c ≤ 0x7FF → Line c ((0xC0 + c / 64) ∷ further c ∷ [])
@@ -137,7 +137,7 @@ shape-scalar (two l h t) = record { high = omega arith; plain = λ l. omega arit
 shape-scalar (three {a} {b} {c} t) = record { high = omega (arith, value-three a b c t); plain = three-plain a b c t }
 shape-scalar (four {a} {b} {c} {d} t) = record { high = value-four a b c d t .1; plain = λ l. absurd (omega (arith, value-four a b c d t .0)) }
 
--- the low bits are the last octet, and the others what it was gathered behind
+-- a value gathered from x and then the octet b: its low six bits give b back, and its other bits x
 further-gathered : (x b : ℕ) → Tail b → further (x * 64 + b % 64) ≡ b
 further-gathered x b t = omega arith
 
@@ -171,7 +171,7 @@ shortest v w p q e = sym (encodes v p .1) ∙ ap octets e ∙ encodes w q .1
 
 -- ---- the first octet
 
--- by the ranges of first octets
+-- the length of a sequence, by the range of its first octet
 unfoldable firstLength : ℕ → ℕ
 firstLength a = cond (leb a 0xBF) 1 (cond (leb a 0xDF) 2 (cond (leb a 0xEF) 3 4))
 

@@ -1,5 +1,5 @@
 -- The loop of `validate`, look by look.
---     valid-on, valid-ascii, valid-stop   past a sequence, past ASCII, at an octet that begins none
+--     valid-on, valid-ascii, valid-stop   a sequence is passed; a run of ASCII is passed; the walk ends at any other octet
 -- Assumes nothing.
 use mathlib.Core.Path.{_≡_, refl, sym, ap, _∙_, subst}
 use mathlib.Core.Bool.{Bool, true, false, cond, _&&_}
@@ -44,7 +44,7 @@ module _ (e : ℕ → Validity) (s : List ℕ) where
       ascii-on i n (omega arith) (λ k p q. a k p (omega arith)) ∙ valid-one (i + n) (omega arith) (a (i + n) (omega arith) (omega arith))
       ∙ ap (λ (m : ℕ). walk lookValid e s m) (add-one (i + n) ∙ sym (add-suc i n))
 
-  -- an octet of ASCII, and those behind it
+  -- an octet of ASCII and the run of ASCII behind it are passed
   pub valid-ascii : (i : ℕ) {r : ℕ} → i < length s → getD s i 0 < 0x80 → Clear others s (i + 1) r → walk lookValid e s i ≡ walk lookValid e s r
   valid-ascii i {r} h a x =
       let q : i + 1 + (r - (i + 1)) ≡ r = omega (arith, x .from) in

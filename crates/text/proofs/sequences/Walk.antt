@@ -1,6 +1,6 @@
--- What a walk does at a place, with no counter of octets to pass.
---     walk-end, walk-answer, walk-pass    at the end, at a look that answers, at a look that passes
---     walk-keeps                          what every look keeps, the answer has
+-- What a walk does at a place, said without the number of octets still to pass.
+--     walk-end, walk-answer, walk-pass    at the end of the text, at a look that answers, at a look that passes
+--     walk-keeps                          where every look keeps P, and P leads to Q where the walk ends, Q holds of the answer
 -- Assumes nothing.
 use Prim.Native.Nat.{ℕ, zero, suc, _+_, _-_, _≤_, _<_}
 use mathlib.Core.Path.{_≡_, refl, sym, ap, _∙_}
@@ -12,7 +12,7 @@ use lib.Seq.{drop-drop}
 use Rattle.text.specs.Walk.{Look, answer, pass, walkFrom, walk}
 
 module _ {R : Type 0} (f : ℕ → List ℕ → Look R) (e : ℕ → R) where
-  -- octets that are there are passed
+  -- where the text has the k octets still to pass, they are passed
   pub pass-on : (k i : ℕ) (s : List ℕ) → k ≤ length s → walkFrom f e i k s ≡ walkFrom f e (i + k) 0 (drop k s)
   unfolding walkFrom
   pass-on zero i s h = ap (λ (n : ℕ). walkFrom f e n 0 s) (omega arith)
@@ -67,7 +67,7 @@ module _ {R : Type 0} (f : ℕ → List ℕ → Look R) (e : ℕ → R) where
     empty i [] h p = end i p
     empty i (b ∷ s) h p = absurd (not-suc-le-zero h)
 
-    -- with n octets at most to go
+    -- by induction on n, where at most n octets are left
     keeps-by : (n i : ℕ) (s : List ℕ) → length s ≤ n → P i s → Q (walkFrom f e i 0 s)
     keeps-by zero i s h p = empty i s h p
     keeps-by (suc n) i s h p = turn n i s h p (keeps-by n)

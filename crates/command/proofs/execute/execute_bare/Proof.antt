@@ -1,10 +1,8 @@
 -- `command::execute::execute_bare` meets its contract. Assumes nothing.
-use Prim.Native.Nat.{ℕ, _+_, _-_, _≤_, _<_}
 use native.Mathlib.Omega.{arith}
 use borrow.Author.Needs.{needs}
 use mathlib.Core.Path.{_≡_, refl, sym, ap, subst, _∙_}
 use mathlib.Core.List.{List, [], append-nil}
-use lib.ListN.{length}
 use Rattle.text.specs.Utf8.{octets, isScalar}
 use Rattle.text.specs.Scan.{part}
 use Rattle.command.proofs.stacks.LaysLaws.{lays-none, octets-three, octets-two}

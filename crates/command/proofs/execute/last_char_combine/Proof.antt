@@ -3,13 +3,8 @@ use Prim.Native.Nat.{ℕ, _+_, _-_, _≤_, _<_}
 use native.Mathlib.Omega.{arith}
 use borrow.Author.Needs.{needs}
 use mathlib.Core.Path.{_≡_, refl, sym, ap, subst, _∙_}
-use mathlib.Core.List.{List}
 use lib.ListN.{length, take, drop}
-use lib.Dec.{T}
 use Rattle.text.specs.Utf8.{octets}
-use Rattle.command.specs.Stack.{Lays}
-use Rattle.compose.specs.Lookup.{numbers}
-use Rattle.compose.specs.Composites.{composites}
 use Rattle.command.proofs.stacks.LaysLaws.{lays-as, octets-two}
 use Rattle.chunk.proofs.texts.LastCharacter.{last-less}
 use Rattle.command.proofs.ways.LastCharacterWays as laws

@@ -1,9 +1,7 @@
 -- `command::meaning::equals` meets its contract. Assumes nothing.
 use Prim.Native.Nat.{ℕ, _+_, _-_, _≤_, _<_}
-use native.Mathlib.Omega.{arith}
 use borrow.Author.Needs.{needs}
 use mathlib.Core.Path.{_≡_, refl, sym, ap, _∙_}
-use lib.ListN.{length, getD}
 use Rattle.text.specs.Scan.{part}
 use Rattle.command.specs.Commands.{same, meaningOf}
 use Rattle.command.proofs.ways.MeaningRows as laws

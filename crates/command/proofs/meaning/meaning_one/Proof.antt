@@ -2,7 +2,7 @@
 use mathlib.Core.Path.{refl}
 use borrow.Author.Tests.{ne-eqb}
 use Rattle.text.specs.Utf8.{octets}
-use Rattle.chunk.specs.Worked.{utf8}
+use Rattle.text.specs.Strings.{utf8}
 use Rattle.command.specs.Commands.{commands, meaningIn, same}
 use Rattle.command.proofs.ways.MeaningRows as laws
 use Rattle.command.proofs.meaning.meaning_one.Statement.{statement}

@@ -2,7 +2,7 @@
 -- Assumes nothing.
 use mathlib.Core.Path.{refl}
 use Rattle.text.specs.Utf8.{octets}
-use Rattle.chunk.specs.Worked.{utf8}
+use Rattle.text.specs.Strings.{utf8}
 use Rattle.command.specs.Commands.{commands}
 use Rattle.command.specs.Names.{names, flat, rowsOf, long}
 use Rattle.command.proofs.names.names.Statement.{statement}

@@ -1,11 +1,8 @@
 -- `command::settle::lines` meets its contract. Assumes nothing.
 use Prim.Native.Nat.{ℕ, _+_, _-_, _≤_, _<_}
 use native.Mathlib.Omega.{arith}
-use borrow.Author.Needs.{needs}
 use mathlib.Core.Path.{_≡_, refl, sym, ap, subst, _∙_}
 use mathlib.Core.Bool.{true, false}
-use mathlib.Core.List.{List}
-use lib.ListN.{length, getD, take, drop}
 use Rattle.text.specs.Scan.{part}
 use Rattle.chunk.specs.Inner.{stops}
 use Rattle.command.proofs.ways.SettleWays as laws

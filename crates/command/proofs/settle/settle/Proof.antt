@@ -1,9 +1,7 @@
 -- `command::settle::settle` meets its contract. Assumes nothing.
-use Prim.Native.Nat.{ℕ, _+_, _-_, _≤_, _<_}
 use native.Mathlib.Omega.{arith}
 use borrow.Author.Needs.{needs}
 use mathlib.Core.Path.{_≡_, refl, sym, ap, subst, _∙_}
-use mathlib.Core.List.{List}
 use Rattle.text.specs.Scan.{part}
 use Rattle.chunk.specs.Format.{Written}
 use Rattle.command.proofs.stacks.LaysLaws.{lays-as, lays-still}

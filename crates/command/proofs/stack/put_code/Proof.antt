@@ -1,9 +1,6 @@
 -- `command::stack::put_code` meets its contract. Assumes nothing.
-use Prim.Native.Nat.{ℕ, _+_, _-_, _≤_, _<_}
 use native.Mathlib.Omega.{arith}
 use mathlib.Core.Path.{_≡_, refl, sym, ap, _∙_}
-use mathlib.Core.List.{List, _++_}
-use lib.ListN.{length, take, drop}
 use Rattle.command.proofs.stacks.LaysLaws as laws
 use borrow.Author.Needs.{needs}
 use Rattle.command.proofs.stack.put_code.Statement.{statement}

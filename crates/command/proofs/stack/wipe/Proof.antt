@@ -3,9 +3,7 @@ use Prim.Native.Nat.{ℕ, _+_, _-_, _≤_, _<_}
 use native.Mathlib.Omega.{arith}
 use borrow.Author.Needs.{needs}
 use mathlib.Core.Path.{_≡_, refl, sym, ap, _∙_}
-use mathlib.Core.List.{List, _++_, append-nil}
 use lib.ListN.{length, take, replicate, length-set}
-use Rattle.text.specs.Scan.{part}
 use Rattle.command.proofs.stacks.LaysLaws as laws
 use Rattle.command.proofs.stack.wipe.Statement.{statement}
 use Rattle.command.proofs.stack.wipe.Tie as tie

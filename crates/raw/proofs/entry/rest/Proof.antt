@@ -1,10 +1,10 @@
 -- `raw::entry::rest` meets its contract. Assumes nothing.
-use Prim.Native.Nat.{_+_}
+use Prim.Native.Nat.{ℕ, _+_, _≤_}
 use native.Mathlib.Omega.{arith}
 use lib.ListN.{length}
 use borrow.Author.Needs.{needs}
 use Rattle.raw.proofs.contracts.SaysLaws.{says-at}
-use Rattle.raw.proofs.contracts.Bounds.{step-place, answer-place}
+use Rattle.raw.proofs.contracts.Bounds.{file-place, place-fits, step-place, answer-place}
 use Rattle.raw.proofs.contracts.BoundsAfter.{within-later, ready-later}
 use Rattle.raw.proofs.ways.EntryWays.{rest-off, rest-strings, rest-preamble, rest-comment, rest-other-off, rest-other}
 use Rattle.raw.proofs.entry.rest.Statement.{statement}
@@ -49,27 +49,33 @@ returns-2 c =
     rest-other-off (a .s .now) (a .start) (a .at) (a .end) (l .before .before .before .lead .ensures .0) (a .form) (l .before .r1 .given .1) (enum-told5 .enum-told5 .given .1)
     (c .enum-told6 .given .1) (body .body .ensures .0)
 
+-- an entry begins in the text, as its type ends there
+start-place : {start at end len : ℕ} → start ≤ at → at ≤ end → end ≤ len → start ≤ len
+start-place h k l = omega arith
+
 add-put-row-5 : tie.Need-add-put-row-5
 add-put-row-5 c =
-    let l = c .before .before .before .before .before .before .before .before .before .before .before .before .before .before .before in
-    let body = c .before .before .before .before .before .before .body in
-    let r2 = c .before .before .r2 in
-    let a = l .before .before .before .before .before .args in
-    let k = step-place (length (a .s .now)) 1 (a .end) (l .r1 .given .1) (l .before .before .lead .ensures .1)
-    (l .before .before .before .before .before .pre .0 .place) in
-    let q = answer-place (length (a .s .now)) 1 _ (a .n + 2) (r2 .given .1) (body .ensures .1) (k .1) in
-    omega arith
+    let r2 = c .before .before in
+    let body = r2 .before .before .before .before in
+    let r1 = body .before .before .before .before .before .before .before .before .before in
+    let lead = r1 .before .before in
+    let asked = lead .before .before .before in
+    let a = asked .args in
+    let k = step-place (length (a .s .now)) 1 (a .end) (r1 .r1 .given .1) (lead .lead .ensures .1) (asked .pre .0 .place) in
+    let q = answer-place (length (a .s .now)) 1 _ (a .n + 2) (r2 .r2 .given .1) (body .body .ensures .1) (k .1) in
+    record { fits = place-fits (file-place (asked .pre .0) (q .1)) }
 
 put-row-requires-2 : tie.Need-put-row-requires-2
 put-row-requires-2 c κs =
-    let l = c .before .before .before .before .before .before .before .before .before .before .before .before .before .before .before in
-    let body = c .before .before .before .before .before .before .body in
-    let r2 = c .before .before .r2 in
-    let a = l .before .before .before .before .before .args in
-    let k = step-place (length (a .s .now)) 1 (a .end) (l .r1 .given .1) (l .before .before .lead .ensures .1)
-    (l .before .before .before .before .before .pre .0 .place) in
-    let q = answer-place (length (a .s .now)) 1 _ (a .n + 2) (r2 .given .1) (body .ensures .1) (k .1) in
-    (omega arith, omega arith)
+    let r2 = c .before .before in
+    let body = r2 .before .before .before .before in
+    let r1 = body .before .before .before .before .before .before .before .before .before in
+    let lead = r1 .before .before in
+    let asked = lead .before .before .before in
+    let a = asked .args in
+    let k = step-place (length (a .s .now)) 1 (a .end) (r1 .r1 .given .1) (lead .lead .ensures .1) (asked .pre .0 .place) in
+    let q = answer-place (length (a .s .now)) 1 _ (a .n + 2) (r2 .r2 .given .1) (body .body .ensures .1) (k .1) in
+    (file-place (asked .pre .0) (start-place (asked .pre .1) (asked .pre .2) (asked .pre .0 .place)), file-place (asked .pre .0) (q .1))
 
 returns-3 : tie.Need-returns-3
 returns-3 c =

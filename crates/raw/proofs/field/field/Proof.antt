@@ -3,9 +3,9 @@ use Prim.Native.Nat.{_+_}
 use native.Mathlib.Omega.{arith}
 use lib.ListN.{length}
 use borrow.Author.Needs.{needs}
-use Rattle.raw.proofs.contracts.Bounds.{step-place, answer-place, off-step, off-within}
+use Rattle.raw.proofs.contracts.Bounds.{ahead-place, file-place, place-fits, step-place, answer-place, off-step, off-within}
 use Rattle.raw.proofs.contracts.BoundsAfter.{ready-later}
-use Rattle.raw.proofs.ways.FieldWays.{name-off, equals-off, value-off, value-on}
+use Rattle.raw.proofs.ways.FieldWays.{name-off, equals-off, value-off, value-on, value-within}
 use Rattle.raw.proofs.field.field.Statement.{statement}
 use Rattle.raw.proofs.field.field.Tie as tie
 
@@ -33,31 +33,21 @@ returns-2 c =
 
 add-put-row-2 : tie.Need-add-put-row-2
 add-put-row-2 c =
-    let r3 = c .before .before .before in
-    let equals = r3 .before .before in
-    let eat-whitespace = equals .before in
-    let r1 = eat-whitespace .before .before in
+    let r1 = c .before .before .before .before .before .before .before .before in
     let name = r1 .before .before in
     let asked = name .before .before .before in
     let a = asked .args in
-    let len = length (a .s .now) in
-    let k = step-place len 1 (a .at) (r1 .r1 .given .1) (name .name .ensures .1) (asked .pre .place) in
-    let l = step-place len 1 _ (r3 .r3 .given .1) (equals .equals .ensures .1) (omega (arith, k .1, eat-whitespace .eat-whitespace .ensures .1 .to)) in
-    omega (arith, asked .pre .file)
+    let k = step-place (length (a .s .now)) 1 (a .at) (r1 .r1 .given .1) (name .name .ensures .1) (asked .pre .place) in
+    record { fits = place-fits (file-place (asked .pre) (k .1)) }
 
 put-row-requires : tie.Need-put-row-requires
 put-row-requires c κs =
-    let r3 = c .before .before .before in
-    let equals = r3 .before .before in
-    let eat-whitespace = equals .before in
-    let r1 = eat-whitespace .before .before in
+    let r1 = c .before .before .before .before .before .before .before .before in
     let name = r1 .before .before in
     let asked = name .before .before .before in
     let a = asked .args in
-    let len = length (a .s .now) in
-    let k = step-place len 1 (a .at) (r1 .r1 .given .1) (name .name .ensures .1) (asked .pre .place) in
-    let l = step-place len 1 _ (r3 .r3 .given .1) (equals .equals .ensures .1) (omega (arith, k .1, eat-whitespace .eat-whitespace .ensures .1 .to)) in
-    (omega (arith, asked .pre .file, asked .pre .place), omega (arith, asked .pre .file))
+    let k = step-place (length (a .s .now)) 1 (a .at) (r1 .r1 .given .1) (name .name .ensures .1) (asked .pre .place) in
+    (file-place (asked .pre) (asked .pre .place), file-place (asked .pre) (k .1))
 
 abbr-field-requires : tie.Need-abbr-field-requires
 abbr-field-requires c κs =
@@ -71,7 +61,7 @@ abbr-field-requires c κs =
     let a = asked .args in
     let len = length (a .s .now) in
     let k = step-place len 1 (a .at) (r1 .r1 .given .1) (name .name .ensures .1) (asked .pre .place) in
-    let l = step-place len 1 _ (r3 .r3 .given .1) (equals .equals .ensures .1) (omega (arith, k .1, eat-whitespace .eat-whitespace .ensures .1 .to)) in
+    let l = step-place len 1 _ (r3 .r3 .given .1) (equals .equals .ensures .1) (ahead-place (k .1) (eat-whitespace .eat-whitespace .ensures .1)) in
     ready-later _ (a .n + 1 + 1) (asked .pre) (omega arith) (omega (arith, eat-whitespace2 .eat-whitespace2 .ensures .1 .to)) (omega arith)
 
 returns-3 : tie.Need-returns-3
@@ -94,31 +84,28 @@ returns-3 c =
 
 returns-4 : tie.Need-returns-4
 returns-4 c =
-    let a = c .before .before .before .before .before .before .before .before .before .before .before
-    .before .before .before .before .before .before .before .before .before .before .before .before .before .before .args in
-    let asked = c .before .before .before .before .before .before .before .before .before .before .before
-    .before .before .before .before .before .before .before .before .before .before .before .before .before .before .pre in
-    let name = c .before .before .before .before .before .before .before .before .before .before .before
-    .before .before .before .before .before .before .before .before .before .before .before .name in
-    let r1 = c .before .before .before .before .before .before .before .before .before .before .before
-    .before .before .before .before .before .before .before .before .before .r1 in
-    let eat-whitespace = c .before .before .before .before .before .before .before .before .before .before
-    .before .before .before .before .before .before .before .before .eat-whitespace in
-    let equals = c .before .before .before .before .before .before .before .before .before .before .before .before .before .before .before .before .before .equals in
-    let r3 = c .before .before .before .before .before .before .before .before .before .before .before .before .before .before .before .r3 in
-    let eat-whitespace2 = c .before .before .before .before .before .before .before .before .before .before .before .before .before .eat-whitespace2 in
-    let put-row = c .before .before .before .before .before .before .before .before .before .before .before .put-row in
-    let abbr-field = c .before .before .before .before .before .before .before .abbr-field in
-    let r5 = c .before .before .before .r5 in
-    let eat-whitespace3 = c .before .eat-whitespace3 in
+    let eat-whitespace3 = c .before in
+    let r5 = eat-whitespace3 .before .before in
+    let abbr-field = r5 .before .before .before .before in
+    let put-row = abbr-field .before .before .before .before in
+    let eat-whitespace2 = put-row .before .before in
+    let r3 = eat-whitespace2 .before .before in
+    let equals = r3 .before .before in
+    let eat-whitespace = equals .before in
+    let r1 = eat-whitespace .before .before in
+    let name = r1 .before .before in
+    let asked = name .before .before .before in
+    let a = asked .args in
     let len = length (a .s .now) in
-    let k = step-place len 1 (a .at) (r1 .given .1) (name .ensures .1) (asked .place) in
-    let l = step-place len 1 _ (r3 .given .1) (equals .ensures .1) (omega (arith, k .1, eat-whitespace .ensures .1 .to)) in
-    let m = answer-place len 1 _ (a .n + 1 + 1) (r5 .given .1) (abbr-field .ensures .1) (omega (arith, l .1, eat-whitespace2 .ensures .1 .to)) in (
-      value-on (a .kind) (a .s .now) (a .at) (name .ensures .0) (r1 .given .1) (eat-whitespace .ensures .0) (equals .ensures .0) (r3 .given .1)
-          (eat-whitespace2 .ensures .0) (put-row .ensures) (abbr-field .ensures .0) (r5 .given .1) (eat-whitespace3 .ensures .0)
-          (c .comment .ensures .0),
-      (omega arith, omega arith, omega arith),
+    let k = step-place len 1 (a .at) (r1 .r1 .given .1) (name .name .ensures .1) (asked .pre .place) in
+    let l = step-place len 1 _ (r3 .r3 .given .1) (equals .equals .ensures .1) (ahead-place (k .1) (eat-whitespace .eat-whitespace .ensures .1)) in
+    let m = answer-place len 1 _ (a .n + 1 + 1) (r5 .r5 .given .1) (abbr-field .abbr-field .ensures .1)
+    (ahead-place (l .1) (eat-whitespace2 .eat-whitespace2 .ensures .1)) in (
+      value-on (a .kind) (a .s .now) (a .at) (name .name .ensures .0) (r1 .r1 .given .1) (eat-whitespace .eat-whitespace .ensures .0)
+          (equals .equals .ensures .0) (r3 .r3 .given .1) (eat-whitespace2 .eat-whitespace2 .ensures .0) (put-row .put-row .ensures)
+          (abbr-field .abbr-field .ensures .0) (r5 .r5 .given .1) (eat-whitespace3 .eat-whitespace3 .ensures .0) (c .comment .ensures .0),
+      value-within (a .at) (a .n) _ k (eat-whitespace .eat-whitespace .ensures .1) l (eat-whitespace2 .eat-whitespace2 .ensures .1) m
+          (eat-whitespace3 .eat-whitespace3 .ensures .1) (c .comment .ensures .1) (c .comment .ensures .2),
     )
 
 pub field-spec : {M : Type 1} → statement M

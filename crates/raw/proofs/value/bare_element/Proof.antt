@@ -7,10 +7,9 @@ use Rattle.row.specs.declared.form.Kind.the-variants as kind
 use Rattle.row.specs.Row.{row}
 use Rattle.raw.specs.Reader.{under}
 use Rattle.raw.specs.Grammar.{number, ident}
-use Rattle.raw.proofs.grammar.Rowless.{rowless-at, rowless-off}
+use Rattle.raw.proofs.grammar.Rowless.{rowless-at, rowless-off, number-rowless, ident-rowless}
 use Rattle.raw.proofs.contracts.SaysLaws.{says-of, says-on, says-under}
 use Rattle.raw.proofs.ways.OneCharacter.{not-at}
-use Rattle.raw.proofs.grammar.Rowless.{number-rowless, ident-rowless}
 use Rattle.raw.proofs.contracts.Bounds.{step-place, off-step, off-answer}
 use Rattle.raw.proofs.ways.ElementWays.{single-none, element-number, number-past, element-name, element-field}
 use Rattle.raw.proofs.value.bare_element.Statement.{statement}

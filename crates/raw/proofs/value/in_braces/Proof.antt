@@ -1,4 +1,5 @@
--- `raw::value::in_braces` meets its contract: each byte is a turn of `bracedTurn`, over a character, or a part of one, and a run of plain ones is as many turns. Assumes nothing.
+-- `raw::value::in_braces` meets its contract: a byte is a turn of `bracedTurn`, over a character or an octet of one; a run of plain bytes
+-- is as many turns. Assumes nothing.
 use Prim.Native.Nat.{_-_, _≤_}
 use native.Mathlib.Omega.{arith}
 use lib.ListN.{length}

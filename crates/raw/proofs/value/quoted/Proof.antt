@@ -1,4 +1,5 @@
--- `raw::value::quoted` meets its contract: two bytes are two turns of `quotedTurn`, and a run is as many as it has bytes. Assumes nothing.
+-- `raw::value::quoted` meets its contract: a byte, or a backslash with the byte after it, is a turn of `quotedTurn`; a run of bytes is as
+-- many turns. Assumes nothing.
 use Prim.Native.Nat.{_-_}
 use native.Mathlib.Omega.{arith}
 use lib.ListN.{length}

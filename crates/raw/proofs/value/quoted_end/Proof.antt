@@ -1,4 +1,4 @@
--- `raw::value::quoted_end` meets its contract: each byte is a turn of `quotedTurn`, over a character, or a part of one. Assumes nothing.
+-- `raw::value::quoted_end` meets its contract: a byte is a turn of `quotedTurn`, over a character or an octet of one. Assumes nothing.
 use Prim.Native.Nat.{_-_}
 use native.Mathlib.Omega.{arith}
 use lib.ListN.{length}

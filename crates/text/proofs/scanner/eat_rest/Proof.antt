@@ -1,4 +1,4 @@
--- `text::scanner::eat_rest` meets its contract: each turn of the loop is turns of `skip`. One proof for every test. Assumes nothing.
+-- `text::scanner::eat_rest` meets its contract: a turn of the loop is one or more turns of `skip`. One proof serves every test. Assumes nothing.
 use Prim.Native.Nat.{_-_}
 use mathlib.Core.Path.{_≡_, refl, sym, _∙_}
 use native.Mathlib.Omega.{arith}

@@ -1,4 +1,4 @@
--- `text::utf8::encode` meets its contract, by the ways of `Encoding`. Assumes nothing.
+-- `text::utf8::encode` meets its contract, by the laws of `EncodeWays`. Assumes nothing.
 use mathlib.Core.Path.{sym, _∙_}
 use native.Mathlib.Omega.{arith}
 use lib.ListN.{length-set}

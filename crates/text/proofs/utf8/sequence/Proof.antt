@@ -1,4 +1,4 @@
--- `text::utf8::sequence` meets its contract, by the ways of `Lead`. Assumes nothing.
+-- `text::utf8::sequence` meets its contract, by the laws of `FirstOctet`. Assumes nothing.
 use mathlib.Core.Path.{sym}
 use native.Mathlib.Omega.{arith}
 use borrow.Author.Needs.{needs}

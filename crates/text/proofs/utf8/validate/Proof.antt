@@ -1,4 +1,4 @@
--- `text::utf8::validate` meets its contract: each turn of the loop is a look of the walk, or as many as there are octets of ASCII. Assumes nothing.
+-- `text::utf8::validate` meets its contract: a turn of the loop is one look of the walk, or one for each octet of a run of ASCII. Assumes nothing.
 use Prim.Native.Nat.{_+_, _-_, _≤_}
 use mathlib.Core.Path.{_≡_, refl, sym, _∙_}
 use native.Mathlib.Omega.{arith}
