@@ -1,0 +1,6 @@
+-- Bytes: the hash, and texts compared.
+
+-- the hash of bytes: one turn of its loop, and the end
+pub mod HashTurns
+-- texts compared byte by byte: one turn of the loop, and that the test is equality
+pub mod Compared

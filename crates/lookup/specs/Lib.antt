@@ -1,0 +1,7 @@
+pub mod Fnv
+pub mod Names
+pub mod Buckets
+pub mod RowIndex
+pub mod Lookup
+pub mod ShortChains
+pub mod Worked

@@ -1,0 +1,67 @@
+-- The index of a file's definition rows, by the hashes of their names.
+--     counts          row i is a definition, and no later row defines its name
+--     rowIn           row i counts, and its name falls into bucket b
+--     fits            the lent numbers have room: there is a bucket, a number for each row, and each row's number fits
+--     Indexed         where they have room, they hold the index of all rows
+--     Built           what `build` leaves
+-- For `build` and `find` inside:
+--     IndexedFrom     the lent numbers have room, and hold the index of the rows from row i on
+--     lastFrom        the number of the last definition of a name among the rows from row i on
+-- Assumes nothing.
+use Prim.Native.Nat.{ℕ, suc, _+_, _/_, _%_, _≤_}
+use mathlib.Core.Path.{_≡_}
+use mathlib.Core.Bool.{Bool, true, false, _&&_}
+use mathlib.Core.List.{List}
+use lib.ListN.{length, getD, drop}
+use lib.Dec.{eqb, ltb, leb}
+use Rattle.row.specs.declared.form.Kind.the-variants.{DefinitionName}
+use Rattle.row.specs.Row.{Row}
+use Rattle.row.specs.Rules.{isKind}
+use Rattle.row.specs.Numbers.{rowsOf}
+use Rattle.lookup.specs.declared.plain.Found.{Found}
+use Rattle.lookup.specs.declared.plain.Found.the-variants as found
+use Rattle.lookup.specs.Fnv.{hashOf}
+use Rattle.lookup.specs.Names.{nameOf, rowNo, lastNamed}
+use Rattle.lookup.specs.Buckets.{Linked}
+
+abbrev pub isNothing : Found → Bool
+isNothing (found.Row n) = false
+isNothing found.Nothing = true
+
+unfoldable pub counts : List ℕ → List Row → ℕ → Bool
+counts file rs i = isKind DefinitionName (rowNo rs i .kind) && isNothing (lastNamed file (nameOf file (rowNo rs i)) (drop (suc i) rs))
+
+unfoldable pub rowIn : List ℕ → List Row → ℕ → ℕ → ℕ → Bool
+rowIn file rs size b i = counts file rs i && eqb (hashOf (nameOf file (rowNo rs i)) % size) b
+
+abbrev pub fits : ℕ → ℕ → ℕ → Bool
+fits n heads next = (ltb 0 heads && leb n next) && leb n 4294967295
+
+pub record IndexedFrom (file rows : List ℕ) (i : ℕ) (heads next : List ℕ) : Type 0 where
+  pub room : fits (length rows / 4) (length heads) (length next) ≡ true
+  pub inside : i ≤ length rows / 4
+  pub index : Linked (rowIn file (rowsOf rows) (length heads)) (length rows / 4) i heads next
+
+abbrev pub Indexed : List ℕ → List ℕ → List ℕ → List ℕ → Type 0
+Indexed file rows heads next = fits (length rows / 4) (length heads) (length next) ≡ true → IndexedFrom file rows 0 heads next
+
+-- numbers of rows that do not count stay as they were
+abbrev pub Others : List ℕ → List Row → List ℕ → List ℕ → Type 0
+Others file rs next next′ = (i : ℕ) → counts file rs i ≡ false → getD next′ i 0 ≡ getD next i 0
+
+pub record Built (file rows heads next heads′ next′ : List ℕ) : Type 0 where
+  pub heads-size : length heads′ ≡ length heads
+  pub next-size : length next′ ≡ length next
+  pub index : Indexed file rows heads′ next′
+  pub others : Others file (rowsOf rows) next next′
+  -- where the index has no room, all numbers stay as they were
+  pub no-room : fits (length rows / 4) (length heads) (length next) ≡ false → (heads′ ≡ heads) × (next′ ≡ next)
+
+-- ---- inside
+
+abbrev pub counted : ℕ → Found → Found
+counted i (found.Row n) = found.Row (i + n)
+counted i found.Nothing = found.Nothing
+
+abbrev pub lastFrom : List ℕ → List ℕ → List Row → ℕ → Found
+lastFrom file name rs i = counted i (lastNamed file name (drop i rs))

@@ -1,0 +1,135 @@
+// The index of a file's definitions, in lent numbers, and the search by it.
+//
+// Of the definitions of a name only the last is in the index, so that many definitions of one name make no chain longer. `heads` has a number
+// for each bucket: one more than the number of the first row of the index whose name falls into the bucket, or 0. `next` has a number for
+// each row: for a row of the index, one more than the number of the next row of its bucket, or 0.
+use crate::hash;
+use crate::plain;
+use crate::plain::Found;
+use text::scanner;
+ghost use mathlib.Core.Path.{_≡_};
+ghost use Prim.Native.Nat.{_+_, _%_, _<_};
+ghost use lib.ListN.{length, replicate};
+ghost use Rattle.text.specs.Scan.{part};
+ghost use Rattle.row.specs.Numbers.{rowsOf};
+ghost use Rattle.lookup.specs.Fnv.{hashOf};
+ghost use Rattle.lookup.specs.Names.{lastNamed};
+ghost use Rattle.lookup.specs.RowIndex.{fits, Indexed, IndexedFrom, Others, Built, lastFrom};
+
+// Whether the lent numbers hold an index of n rows: there is a bucket, a number for each row, and each row's number fits.
+fn has_room(n: usize, heads: usize, next: usize) -> bool
+    ensures { λ r. ⌜ r ≡ fits n heads next ⌝ }
+{
+    (0 < heads) & (n <= next) & (n <= 4294967295)
+}
+
+// Sets every number to 0.
+pub fn clear(heads: &mut [u32])
+    ensures { λ _. ⌜ now (heads .exit) ≡ replicate (length (now (heads .entry))) 0 ⌝ }
+{
+    let mut i = 0;
+    while i < heads.len() {
+        heads[i] = 0;
+        i += 1;
+    }
+}
+
+// Which of `size` buckets a name falls into.
+fn bucket(name: &[u8], size: usize) -> usize
+    requires { ⌜ 0 < size ⌝ }
+    ensures { λ r. ⌜ (r ≡ hashOf (now (name .entry)) % size) × (r < size) ⌝ }
+{
+    plain::number(hash::fnv1a(name)) % size
+}
+
+// The last definition of the name among the rows from row `from` on, whose index this is. b is the name's bucket. A chain ends with 0; all
+// other numbers in it are greater than `from`.
+fn follow(
+    file: &[u8],
+    rows: &[u32],
+    heads: &[u32],
+    next: &[u32],
+    from: usize,
+    b: usize,
+    name: &[u8],
+) -> Found
+    requires { ⌜ IndexedFrom (now file) (now rows) from (now heads) (now next) ⌝ }
+    requires { ⌜ (b ≡ hashOf (now name) % length (now heads)) × (b < length (now heads)) ⌝ }
+    ensures { λ r. ⌜ r ≡ lastFrom (now (file .entry)) (now (name .entry)) (rowsOf (now (rows .entry))) from ⌝ }
+{
+    let mut at = plain::number(heads[b]);
+    while from < at {
+        let i = at - 1;
+        if plain::is_named(file, rows, i, name) {
+            return Found::Row(i);
+        }
+        at = plain::number(next[i]);
+    }
+    Found::Nothing
+}
+
+// Takes row i into the index of the rows after it, if it is a definition and no later row defines its name.
+fn link(file: &[u8], rows: &[u32], i: usize, heads: &mut [u32], next: &mut [u32])
+    requires { ⌜ IndexedFrom (now file) (now rows) (i + 1) (now heads) (now next) ⌝ }
+    ensures { λ _. ⌜ IndexedFrom (now (file .entry)) (now (rows .entry)) i (now (heads .exit)) (now (next .exit)) ⌝ }
+    ensures { λ _. ⌜ Others (now (file .entry)) (rowsOf (now (rows .entry))) (now (next .entry)) (now (next .exit)) ⌝ }
+{
+    let at = i * 4;
+    if rows[at] != plain::DEFINITION_NAME {
+        return;
+    }
+    let name = scanner::from(
+        file,
+        plain::number(rows[at + 2]),
+        plain::number(rows[at + 3]),
+    );
+    let b = bucket(name, heads.len());
+    let Found::Nothing = follow(file, rows, heads, next, i + 1, b, name) else {
+        return;
+    };
+    next[i] = heads[b];
+    heads[b] = (i + 1) as u32;
+}
+
+// Makes the index, from the last row to the first. Where the lent numbers are too few for it they stay as they were, and `find` searches
+// plainly.
+pub fn build(file: &[u8], rows: &[u32], heads: &mut [u32], next: &mut [u32])
+    ensures { λ _. ⌜ Built (now (file .entry)) (now (rows .entry)) (now (heads .entry)) (now (next .entry)) (now (heads .exit)) (now (next .exit)) ⌝ }
+{
+    let n = rows.len() / 4;
+    if !has_room(n, heads.len(), next.len()) {
+        return;
+    }
+    clear(heads);
+    let mut i = n;
+    while 0 < i {
+        i -= 1;
+        link(file, rows, i, heads, next);
+    }
+}
+
+// The last definition of a name. The answer does not depend on how much is lent: where the index has no room, the search is plain.
+fn find_name(file: &[u8], rows: &[u32], heads: &[u32], next: &[u32], name: &[u8]) -> Found
+    requires { ⌜ Indexed (now file) (now rows) (now heads) (now next) ⌝ }
+    ensures { λ r. ⌜ r ≡ lastNamed (now (file .entry)) (now (name .entry)) (rowsOf (now (rows .entry))) ⌝ }
+{
+    if !has_room(rows.len() / 4, heads.len(), next.len()) {
+        return plain::find(file, rows, name);
+    }
+    follow(file, rows, heads, next, 0, bucket(name, heads.len()), name)
+}
+
+// The same for a name that stands in the file.
+pub fn find(
+    file: &[u8],
+    rows: &[u32],
+    heads: &[u32],
+    next: &[u32],
+    start: usize,
+    end: usize,
+) -> Found
+    requires { ⌜ Indexed (now file) (now rows) (now heads) (now next) ⌝ }
+    ensures { λ r. ⌜ r ≡ lastNamed (now (file .entry)) (part (now (file .entry)) start end) (rowsOf (now (rows .entry))) ⌝ }
+{
+    find_name(file, rows, heads, next, scanner::from(file, start, end))
+}
