@@ -1,0 +1,16 @@
+-- The laws and proofs of `literal`, lowest first. The proof of a function is MODULE/FUNCTION/Proof.antt.
+
+-- what content comes to
+pub mod contents
+-- the ways through each function
+pub mod ways
+-- content keeps to characters, and emits at most two octets for each one read
+pub mod characters
+-- the proof of `Joining` of specs/Rows.antt: joining as one appends is `flatten` at the end
+pub mod Joining
+-- the proof of specs/Flattening.antt: chunks flattened, their texts and their rows, for the crates above
+pub mod Flattening
+-- the proof of specs/WellFormed.antt: what a literal is resolved into is well-formed
+pub mod WellFormed
+-- the cases of specs/Worked.antt compute
+pub mod Worked

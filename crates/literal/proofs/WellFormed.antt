@@ -1,0 +1,94 @@
+-- What a literal is resolved into is well-formed: `well-formed`.
+-- Assumes nothing.
+use Prim.Native.Nat.{ℕ, _+_, _*_, _≤_}
+use native.Mathlib.Omega.{arith}
+use mathlib.Core.Path.{_≡_, refl, sym, ap, subst, _∙_}
+use mathlib.Core.Bool.{Bool, true, false, cond}
+use mathlib.Core.List.{List, [], _∷_, _++_, map}
+use lib.ListN.{length}
+use lib.Dec.{leb}
+use Rattle.text.specs.Utf8.{Octets}
+use Rattle.raw.specs.Reader.{OutOf, ok, again, bad}
+use Rattle.chunk.specs.Chunk.{Chunk, everyChunk}
+use Rattle.chunk.specs.WellFormed.{Texts}
+use Rattle.chunk.specs.WellFormed as texts
+use Rattle.literal.specs.Content.{Part, chunksOf, content, flatten}
+use Rattle.literal.specs.Literal.{Resolved, chunks, refused, mostLiteral, mostArguments, chunkUp, resolvedOf, tooLong, resolveLiteral}
+use Rattle.literal.specs.Rows.{rowsFrom, textsOf}
+use Rattle.literal.specs.WellFormed.{Passes, WellFormed}
+use Rattle.literal.proofs.characters.Pieces.{part-text, first-place}
+use Rattle.literal.proofs.characters.PartsToChunks.{chunks-texts, chunks-text}
+use Rattle.literal.proofs.characters.Moves.{owed-inside, Move, Leads}
+use Rattle.literal.proofs.characters.ContentMoves.{content-reads}
+use Rattle.literal.proofs.characters.RowRanges.{texts-octets, flat-texts, flat-text, rows-pass, check-passes}
+
+-- ---- a literal that is not refused comes of a way through it
+
+abbrev listOf : Resolved → List Chunk
+listOf (chunks cs) = cs
+listOf (refused f) = []
+
+abbrev isGiven : Resolved → ℕ
+isGiven (chunks cs) = 1
+isGiven (refused f) = 0
+
+-- the chunks cs are those of parts that are emitted on a way from the literal's beginning
+pub record Comes (s : List ℕ) (base : ℕ) (cs : List Chunk) : Type 0 where
+  pub end : ℕ
+  pub parts : List Part
+  pub way : Move s 0 end parts
+  pub made : map (chunkUp base) (chunksOf 0 end parts) ≡ cs
+
+comes : (verb : Bool) (s : List ℕ) (base : ℕ) (cs : List Chunk) → resolveLiteral verb s base ≡ chunks cs → Comes s base cs
+unfolding resolveLiteral
+comes verb s base cs = by (leb (length s) mostLiteral) (content mostArguments verb s 0) (content-reads mostArguments verb s 0 (omega arith))
+  where
+    by : (w : Bool) (o : OutOf Part) → Leads s 0 o → cond w (resolvedOf base o) (refused (tooLong base (base + length s))) ≡ chunks cs → Comes s base cs
+    by true (ok q xs) m e = record { end = q; parts = xs; way = m; made = ap listOf e }
+    by true (again q xs a) m e = record { end = q; parts = xs; way = m; made = ap listOf e }
+    by true (bad f) m e = absurd (omega (arith, ap isGiven e))
+    by false o m e = absurd (omega (arith, ap isGiven e))
+
+-- ---- places of the file change no text
+
+up-texts : (base : ℕ) {cs : List Chunk} → Texts cs → Texts (map (chunkUp base) cs)
+up-texts base texts.none = texts.none
+up-texts base (texts.next o h) = texts.next o (up-texts base h)
+
+up-text : (base : ℕ) (cs : List Chunk) → textsOf (map (chunkUp base) cs) ≡ textsOf cs
+unfolding textsOf
+up-text base [] = refl
+up-text base (c ∷ cs) = ap (λ (t : List ℕ). c .text ++ t) (up-text base cs)
+
+-- ---- the statement
+
+literal-texts : (verb : Bool) (s : List ℕ) (base : ℕ) (cs : List Chunk) → Octets s → resolveLiteral verb s base ≡ chunks cs → Texts cs
+literal-texts verb s base cs o e =
+    let k = comes verb s base cs e in
+    subst Texts (k .made) (up-texts base (chunks-texts 0 (k .end) (k .parts) (k .way .texts o (first-place s o) .1)))
+
+chunks-pass : (cs : List Chunk) → Texts cs → Passes cs
+chunks-pass cs h =
+    let flat = subst (λ (t : List ℕ). everyChunk t (rowsFrom 0 (flatten cs)) ≡ true) (flat-text cs) (rows-pass (flatten cs) (flat-texts cs h)) in
+    record {
+      text = texts-octets h;
+      rows = rows-pass cs h;
+      joined = flat;
+      checked = check-passes (textsOf cs) (rowsFrom 0 (flatten cs)) (texts-octets h) flat;
+    }
+
+literal-twice : (verb : Bool) (s : List ℕ) (base : ℕ) (cs : List Chunk) → resolveLiteral verb s base ≡ chunks cs → length (textsOf cs) ≤ 2 * length s
+literal-twice verb s base cs e =
+    let k = comes verb s base cs e in
+    let same = sym (ap textsOf (k .made)) ∙ up-text base (chunksOf 0 (k .end) (k .parts)) in
+    omega (arith, ap length same, chunks-text 0 (k .end) (k .parts), k .way .size, owed-inside s (k .end) (k .way .to))
+
+pub well-formed : WellFormed
+well-formed = record {
+  spans = part-text;
+  texts = literal-texts;
+  passes = λ verb s base cs o e. chunks-pass cs (literal-texts verb s base cs o e);
+  value = chunks-pass;
+  joins = flat-texts;
+  twice = literal-twice;
+}

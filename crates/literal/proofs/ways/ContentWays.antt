@@ -1,0 +1,203 @@
+-- The ways through `content` of src/parse.rt.
+--     turn-again, turn-done, turn-refused      a turn of `step`
+--     turn-argument, turn-stopped              a turn with an argument
+--     ahead-none, ahead-on, ready-on           bounds
+-- Assumes nothing.
+use Prim.Native.Nat.{ℕ, _+_}
+use native.Mathlib.Omega.{arith}
+use mathlib.Core.Path.{_≡_, refl, sym, ap, subst, _∙_}
+use mathlib.Core.Bool.{Bool}
+use mathlib.Core.List.{List, [], _∷_, _++_, append-nil}
+use lib.ListN.{length, take}
+use Rattle.text.specs.Scan.{part}
+use Rattle.row.specs.declared.fault.Fault.{Fault}
+use Rattle.raw.specs.Reader.{OutOf, ok, again, bad, more}
+use Rattle.command.specs.declared.meaning.Meaning.{Meaning}
+use Rattle.command.specs.Commands.{meaningOf}
+use Rattle.command.proofs.stacks.LaysLaws.{lays-as}
+use Rattle.literal.specs.declared.making.Making.{Making}
+use Rattle.literal.specs.declared.making.Place.{Place}
+use Rattle.literal.specs.declared.content.Stepped.{Stepped}
+use Rattle.literal.specs.declared.content.Stepped.the-variants as stepped
+use Rattle.literal.specs.declared.parse.Made.{Made}
+use Rattle.literal.specs.declared.parse.Made.the-variants as made
+use Rattle.literal.specs.Content.{Part, put, Reader, State, step, steps, ran}
+use Rattle.literal.specs.Inner.{Holds, Goes, Says, SaysStep, SaysArgument, Further, Puts, Ahead, Ready, concat, from, inArgument, turns, wholeText}
+use Rattle.literal.proofs.ways.StepWays.{goes-puts}
+
+-- ---- parts before other parts
+
+steps-append : (xs : List Part) (σ : State) (ys : List Part) → steps σ (xs ++ ys) ≡ steps (steps σ xs) ys
+unfolding steps
+steps-append [] σ ys = refl
+steps-append (x ∷ xs) σ ys = steps-append xs (step σ x) ys
+
+module _ (place : Place) (xs : List Part) (m : Making) (o b : List ℕ) (m₁ : Making) (o₁ b₁ : List ℕ) (g : Goes place xs m o b m₁ o₁ b₁) where
+  goes-on : (ys : List Part) (m₂ : Making) (o₂ b₂ : List ℕ) → Goes place ys m₁ o₁ b₁ m₂ o₂ b₂ → Goes place (xs ++ ys) m o b m₂ o₂ b₂
+  goes-on ys m₂ o₂ b₂ h t₀ ps b₀ σ held =
+      subst (λ (τ : State). Holds place t₀ ps b₀ τ m₂ o₂ b₂) (sym (steps-append xs σ ys)) (h t₀ ps b₀ (steps σ xs) (g t₀ ps b₀ σ held))
+
+  -- what the rest says, the whole says
+  says-more : (out : OutOf Part) (r : Made) (o₂ b₂ : List ℕ) → Says place out m₁ o₁ b₁ r o₂ b₂ → Says place (more xs out) m o b r o₂ b₂
+  says-more (ok q ys) (made.Done m₂) o₂ b₂ h = (h .0, goes-on ys m₂ o₂ b₂ (h .1))
+  says-more (ok q ys) (made.Refused f) o₂ b₂ h = h
+  says-more (again q ys a) (made.Done m₂) o₂ b₂ h = (h .0, goes-on ys m₂ o₂ b₂ (h .1))
+  says-more (again q ys a) (made.Refused f) o₂ b₂ h = h
+  says-more (bad g₁) (made.Done m₂) o₂ b₂ h = h
+  says-more (bad g₁) (made.Refused f) o₂ b₂ h = h
+
+-- one text behind the others
+goes-put : (place : Place) (w : List ℕ) (e : ℕ) (m : Making) (o b : List ℕ) (m′ : Making) (o′ : List ℕ) → Puts w e m o m′ o′
+    → Goes place (put w ∷ []) m o b m′ o′ b
+unfolding concat
+goes-put place w e m o b m′ o′ h =
+    goes-puts place m o b (e + 1) (m′ .len) m′ o′ (subst (λ (n : ℕ). Further m (e + 1) n m′) (sym (h .0 .len)) (h .0)) (w ∷ [])
+    (lays-as (m .len) w (w ++ []) o (m′ .len) o′ (sym (append-nil w)) (h .1))
+
+-- ---- a turn of `step`, which answered r
+
+module _ (place : Place) (argument : Reader) (verb : Bool) (s : List ℕ) (m : Making) (o b : List ℕ) (r : Stepped) (o₁ b₁ : List ℕ)
+    (h : SaysStep place verb s m o b r o₁ b₁) where
+  answered : (r′ : Stepped) → r ≡ r′ → SaysStep place verb s m o b r′ o₁ b₁
+  answered r′ e = subst (λ (r : Stepped). SaysStep place verb s m o b r o₁ b₁) e h
+
+  pub turn-again : (m₁ : Making) → r ≡ stepped.Again m₁ → (r₂ : Made) (o₂ b₂ : List ℕ) → Says place (from argument verb s m₁) m₁ o₁ b₁ r₂ o₂ b₂
+      → Says place (from argument verb s m) m o b r₂ o₂ b₂
+  turn-again m₁ e r₂ o₂ b₂ k =
+      let y = answered (stepped.Again m₁) e in
+      subst (λ (out : OutOf Part). Says place out m o b r₂ o₂ b₂) (sym (y .leads argument))
+      (says-more place (y .parts) m o b m₁ o₁ b₁ (y .goes) (from argument verb s m₁) r₂ o₂ b₂ k)
+
+  pub turn-done : (m₁ : Making) → r ≡ stepped.Done m₁ → Says place (from argument verb s m) m o b (made.Done m₁) o₁ b₁
+  unfolding steps
+  turn-done m₁ e =
+      let y = answered (stepped.Done m₁) e in
+      subst (λ (out : OutOf Part). Says place out m o b (made.Done m₁) o₁ b₁) (sym (y .0 argument))
+      (same m₁ o₁ b₁ (sym (y .1)) (sym (y .2)) (sym (y .3)))
+    where
+      same : (m₁ : Making) (o₁ b₁ : List ℕ) → m ≡ m₁ → o ≡ o₁ → b ≡ b₁ → Says place (ok (m .at) []) m o b (made.Done m₁) o₁ b₁
+      same m₁ o₁ b₁ i j k =
+          subst (λ (n : Making). Says place (ok (m .at) []) m o b (made.Done n) o₁ b₁) i
+          (subst (λ (l : List ℕ). Says place (ok (m .at) []) m o b (made.Done m) l b₁) j
+          (subst (λ (l : List ℕ). Says place (ok (m .at) []) m o b (made.Done m) o l) k (refl, λ t₀ ps b₀ σ x. x)))
+
+  -- content that is done has moved no further
+  pub done-ahead : (len : ℕ) (first m₁ : Making) → r ≡ stepped.Done m₁ → Ahead len 0 first m → Ahead len 0 first m₁
+  done-ahead len first m₁ e k = subst (Ahead len 0 first) (sym (answered (stepped.Done m₁) e .1)) k
+
+  pub turn-refused : (f : Fault) → r ≡ stepped.Refused f → Says place (from argument verb s m) m o b (made.Refused f) o₁ b₁
+  turn-refused f e =
+      subst (λ (out : OutOf Part). Says place out m o b (made.Refused f) o₁ b₁) (sym (answered (stepped.Refused f) e argument)) refl
+
+  pub meaning-told : (k : Meaning) (end a e : ℕ) → r ≡ stepped.Argument k end a e → k ≡ meaningOf (part s (m .at + 1) end)
+  meaning-told k end a e i = answered (stepped.Argument k end a e) i .1
+
+  -- ---- and a turn with an argument, which `argument` answered with r₂
+
+  module _ (k : Meaning) (end a e : ℕ) (i : r ≡ stepped.Argument k end a e) (r₂ : Made) (o₂ : List ℕ)
+      (y : SaysArgument (argument (take e s) a) (part s (m .at + 1) end) a e m o₁ r₂ o₂) where
+    abbrev name : List ℕ
+    name = part s (m .at + 1) end
+
+    abbrev rest : OutOf Part
+    rest = turns argument verb (m .braces) s (e + 1)
+
+    told : SaysStep place verb s m o b (stepped.Argument k end a e) o₁ b₁
+    told = answered (stepped.Argument k end a e) i
+
+    -- over the bytes as they were before the step
+    over : (r′ : Made) → r₂ ≡ r′ → SaysArgument (argument (take e s) a) name a e m o r′ o₂
+    over r′ j =
+        subst (λ (l : List ℕ). SaysArgument (argument (take e s) a) name a e m l r′ o₂) (told .2)
+        (subst (λ (r : Made). SaysArgument (argument (take e s) a) name a e m o₁ r o₂) j y)
+
+    opens : (r₃ : Made) (o₃ b₃ : List ℕ) → Says place (ran a name (argument (take e s) a) (λ w. more (put w ∷ []) rest)) m o b r₃ o₃ b₃
+        → Says place (from argument verb s m) m o b r₃ o₃ b₃
+    opens r₃ o₃ b₃ x = subst (λ (out : OutOf Part). Says place out m o b r₃ o₃ b₃) (sym (told .0 argument)) x
+
+    module _ (m₂ : Making) (r₃ : Made) (o₃ b₃ : List ℕ) (x : Says place (from argument verb s m₂) m₂ o₂ b₁ r₃ o₃ b₃) where
+      put-on : (w : List ℕ) → Puts w e m o m₂ o₂ → Says place (more (put w ∷ []) rest) m o b r₃ o₃ b₃
+      put-on w p =
+          says-more place (put w ∷ []) m o b m₂ o₂ b (goes-put place w e m o b m₂ o₂ p) rest r₃ o₃ b₃
+          (subst (λ (out : OutOf Part). Says place out m₂ o₂ b r₃ o₃ b₃)
+          (ap (λ (d : ℕ). turns argument verb d s (m₂ .at)) (p .0 .braces) ∙ ap (λ (q : ℕ). turns argument verb (m .braces) s q) (p .0 .at))
+          (subst (λ (l : List ℕ). Says place (from argument verb s m₂) m₂ o₂ l r₃ o₃ b₃) (told .3) x))
+
+      goes : (out : OutOf Part) → SaysArgument out name a e m o (made.Done m₂) o₂
+          → Says place (ran a name out (λ w. more (put w ∷ []) rest)) m o b r₃ o₃ b₃
+      goes (ok q xs) p = put-on (wholeText name a q xs) p
+      goes (again q xs n) p = put-on (wholeText name a q xs) p
+      goes (bad f) p = absurd p
+
+      pub turn-argument : r₂ ≡ made.Done m₂ → Says place (from argument verb s m) m o b r₃ o₃ b₃
+      turn-argument j = opens r₃ o₃ b₃ (goes (argument (take e s) a) (over (made.Done m₂) j))
+
+    stops : (f : Fault) (out : OutOf Part) → SaysArgument out name a e m o (made.Refused f) o₂
+        → Says place (ran a name out (λ w. more (put w ∷ []) rest)) m o b (made.Refused f) o₂ b₁
+    stops f (ok q xs) p = absurd p
+    stops f (again q xs n) p = absurd p
+    stops f (bad g) p = p
+
+    pub turn-stopped : (f : Fault) → r₂ ≡ made.Refused f → Says place (from argument verb s m) m o b (made.Refused f) o₂ b₁
+    turn-stopped f j = opens (made.Refused f) o₂ b₁ (stops f (argument (take e s) a) (over (made.Refused f) j))
+
+-- ---- bounds
+
+pub ahead-none : (s : List ℕ) (place : Place) (m : Making) (o byName byMark : List ℕ) → Ready s place m o byName byMark → Ahead (length s) 0 m m
+ahead-none s place m o byName byMark h = record {
+  grows = record { at = omega arith; inside = h .text .place; text = omega arith };
+  rows = omega arith;
+  braces = omega arith;
+  from = h .from;
+  start = h .start;
+}
+
+pub ahead-on : (len v : ℕ) (m m₁ m₂ : Making) → Ahead len 0 m m₁ → Ahead len v m₁ m₂ → Ahead len 0 m m₂
+ahead-on len v m m₁ m₂ h k = record {
+  grows = record {
+    at = omega (arith, h .grows .at, k .grows .at);
+    inside = k .grows .inside;
+    text = omega (arith, h .grows .text, k .grows .text);
+  };
+  rows = omega (arith, h .rows, k .rows);
+  braces = omega (arith, h .braces, k .braces);
+  from = k .from;
+  start = k .start;
+}
+
+pub ready-on : (s : List ℕ) (place : Place) (v : ℕ) (m m₁ : Making) (o o₁ byName byMark : List ℕ) → Ready s place m o byName byMark
+    → Ahead (length s) v m m₁ → length o₁ ≡ length o → Ready s place m₁ o₁ byName byMark
+ready-on s place v m m₁ o o₁ byName byMark h k e = record {
+  literal = h .literal;
+  text = record {
+    place = k .grows .inside;
+    room = omega (arith, h .text .room, k .grows .text, e);
+    names = h .text .names;
+    marks = h .text .marks;
+  };
+  from = k .from;
+  start = k .start;
+  braces = omega (arith, h .braces, k .braces);
+  rows = omega (arith, h .rows, k .rows);
+  value = omega (arith, h .value, k .grows .text);
+  file = h .file;
+}
+
+-- what `argument` asks, wherever its command stands
+pub ready-argument : (s : List ℕ) (place : Place) (m : Making) (o o₁ byName byMark : List ℕ) → Ready s place m o byName byMark
+    → length o₁ ≡ length o → Ready s inArgument m o₁ byName byMark
+ready-argument s place m o o₁ byName byMark h e = record {
+  literal = h .literal;
+  text = record {
+    place = h .text .place;
+    room = omega (arith, h .text .room, e);
+    names = h .text .names;
+    marks = h .text .marks;
+  };
+  from = h .from;
+  start = h .start;
+  braces = h .braces;
+  rows = h .rows;
+  value = omega (arith, h .value);
+  file = omega arith;
+}

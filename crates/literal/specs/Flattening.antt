@@ -1,0 +1,23 @@
+-- What the crates above need of chunks, their texts and their rows. The proof is `flattening` of proofs/Flattening.antt.
+-- Assumes nothing.
+use Prim.Native.Nat.{ℕ, _*_, _≤_}
+use mathlib.Core.Path.{_≡_}
+use mathlib.Core.List.{List, _++_, map}
+use lib.ListN.{length, drop}
+use Rattle.chunk.specs.Chunk.{Chunk, flatChunks}
+use Rattle.literal.specs.Content.{flatten}
+use Rattle.literal.specs.Rows.{rowsFrom, writes, textsOf}
+use Rattle.literal.specs.Literal.{chunkUp}
+
+pub record Flattening : Type 0 where
+  -- chunks that were flattened by themselves flatten with others as they were
+  pub again : (ps cs : List Chunk) → flatten (ps ++ flatten cs) ≡ flatten (ps ++ cs)
+  -- chunks behind others take no chunk away
+  pub fewer : (ps cs : List Chunk) → length (flatten ps) ≤ length (flatten (ps ++ cs))
+  -- the text of chunks, one list behind another; with other places; and flattened
+  pub texts-both : (cs ds : List Chunk) → textsOf (cs ++ ds) ≡ textsOf cs ++ textsOf ds
+  pub texts-up : (base : ℕ) (cs : List Chunk) → textsOf (map (chunkUp base) cs) ≡ textsOf cs
+  pub texts-flat : (cs : List Chunk) → textsOf (flatten cs) ≡ textsOf cs
+  -- rows that fit stand in front of what was behind them
+  pub rows-written : (b : List ℕ) (cs : List Chunk) → length cs * 5 ≤ length b
+      → writes b 0 (rowsFrom 0 cs) ≡ flatChunks (rowsFrom 0 cs) ++ drop (length cs * 5) b

@@ -1,0 +1,368 @@
+-- The contracts' words of the inner functions: what the text under construction and the rows hold while content is read.
+--     Holds, Goes             a state of specs/Content.antt as the code has it; from one to the next
+--     SaysText, SaysStep      a turn that writes text; a turn
+--     Begun, Finished         how a command's argument begins and ends
+--     Says, SaysArgument      content, and a command with its argument, which call each other
+--     SaysParsed              a literal. For `parse`, which the crates above call
+--     Ahead, Ready            bounds: the text grows by at most two bytes for each byte read
+-- Nothing is said of the text and the rows after a refusal: a literal is counted first, over no rows, and its bytes are wiped at last.
+-- Assumes nothing.
+use Prim.Native.Nat.{ℕ, suc, _+_, _*_, _≤_, _<_, max}
+use mathlib.Core.Path.{_≡_}
+use mathlib.Core.Bool.{Bool, true, false, not, _&&_}
+use mathlib.Core.List.{List, [], _∷_, _++_, map}
+use lib.ListN.{length, take, getD}
+use lib.Dec.{ltb}
+use Rattle.text.specs.Class.{mark}
+use Rattle.text.specs.Scan.{part, see}
+use Rattle.text.specs.declared.scanner.Seen.the-variants.{Char}
+use Rattle.row.specs.declared.fault.Fault.{Fault}
+use Rattle.raw.specs.declared.answer.Step.{Step}
+use Rattle.raw.specs.declared.answer.Step.the-variants as step
+use Rattle.raw.specs.Reader.{OutOf, ok, again, bad, more, many}
+use Rattle.chunk.specs.Chunk.{Chunk}
+use Rattle.chunk.specs.Format.{formatVerbatim, whiteFrom}
+use Rattle.compose.specs.Lookup.{numbers}
+use Rattle.compose.specs.Composites.{composites}
+use Rattle.command.specs.declared.meaning.Meaning.{Meaning}
+use Rattle.command.specs.Stack.{Lays, defaultChunk}
+use Rattle.command.specs.Commands.{meaningOf}
+use Rattle.command.specs.Names.{names as allNames}
+use Rattle.command.specs.Execute.{Argument, given, executeCommand, leading}
+use Rattle.literal.specs.declared.rows.Rows.{Rows}
+use Rattle.literal.specs.declared.making.Making.{Making}
+use Rattle.literal.specs.declared.making.Place.{Place}
+use Rattle.literal.specs.declared.turn.Text.{Text}
+use Rattle.literal.specs.declared.turn.Text.the-variants as text
+use Rattle.literal.specs.declared.content.Stepped.{Stepped}
+use Rattle.literal.specs.declared.content.Stepped.the-variants as stepped
+use Rattle.literal.specs.declared.parse.Made.{Made}
+use Rattle.literal.specs.declared.parse.Made.the-variants as made
+use Rattle.literal.specs.declared.parse.Parsed.{Parsed}
+use Rattle.literal.specs.declared.parse.Parsed.the-variants as parsed
+use Rattle.literal.specs.Content.{Part, put, cut, math, Reader, State, beginning, steps, chunksOf, contentTurn, ran, isEscape, flatten}
+use Rattle.literal.specs.Rows.{RowsHold, textsOf}
+use Rattle.literal.specs.Literal.{Resolved, chunks, refused, chunkUp}
+
+-- ---- content under construction
+
+-- the text of the chunks that are done: an argument's is formatted already, a literal's is as it is
+abbrev pub standing : Bool → List Chunk → List ℕ
+standing true cs = formatVerbatim cs
+standing false cs = textsOf cs
+
+abbrev pub some : List Chunk → Bool
+some [] = false
+some (c ∷ cs) = true
+
+-- a literal's chunks become rows behind those of the chunks ps that the value has before it; an argument's do not
+abbrev pub RowsHeld : Bool → Place → List ℕ → List Chunk → List ℕ → List Chunk → Rows → List ℕ → Type 0
+RowsHeld true place t₀ ps b₀ cs k b = b ≡ b₀
+RowsHeld false place t₀ ps b₀ cs k b =
+    RowsHold (flatten (ps ++ map (chunkUp (place .base)) cs)) b₀ k b × (place .text ≡ length (textsOf ps)) × (length t₀ ≡ 0)
+
+-- m, the bytes o and the numbers b hold the state σ, where the text t₀ stood in o before
+pub record Holds (place : Place) (t₀ : List ℕ) (ps : List Chunk) (b₀ : List ℕ) (σ : State) (m : Making) (o b : List ℕ) : Type 0 where
+  pub stack : take (m .len) o ≡ t₀ ++ standing (place .argument) (σ .done) ++ σ .text
+  pub from : m .from ≡ length t₀ + length (standing (place .argument) (σ .done))
+  pub len : m .len ≡ m .from + length (σ .text)
+  pub start : m .start ≡ σ .start
+  pub kind : σ .kind ≡ defaultChunk (m .braces)
+  pub white : place .argument ≡ true → m .white ≡ whiteFrom false (σ .done)
+  pub pushed : m .pushed ≡ some (σ .done)
+  pub rows : RowsHeld (place .argument) place t₀ ps b₀ (σ .done) (m .rows) b
+
+-- the parts xs lead from m, o, b to m′, o′, b′
+abbrev pub Goes : Place → List Part → Making → List ℕ → List ℕ → Making → List ℕ → List ℕ → Type 0
+Goes place xs m o b m′ o′ b′ =
+    (t₀ : List ℕ) (ps : List Chunk) (b₀ : List ℕ) (σ : State) → Holds place t₀ ps b₀ σ m o b → Holds place t₀ ps b₀ (steps σ xs) m′ o′ b′
+
+-- what ending a chunk asks: the text lies in the bytes, and the places are small enough for rows
+pub record Fits (place : Place) (m : Making) (len : ℕ) : Type 0 where
+  pub from : m .from ≤ m .len
+  pub to : m .len ≤ len
+  pub text : place .text + m .len ≤ 4294967295
+  pub start : place .base + m .start ≤ 4294967295
+  pub rows : m .rows .n ≤ 2000000000000
+
+-- the chunk of m is done and ends at e, and one with d braces open begins at p
+pub record Turned (place : Place) (m : Making) (e d p : ℕ) (o b : List ℕ) (m′ : Making) (o′ b′ : List ℕ) : Type 0 where
+  pub goes : Goes place (cut d e p ∷ []) m o b m′ o′ b′
+  pub at : m′ .at ≡ p
+  pub braces : m′ .braces ≡ d
+  pub start : m′ .start ≡ p
+  pub from : m′ .from ≡ m′ .len
+  pub len : m′ .len ≤ m .len
+  pub rows : m′ .rows .n ≤ m .rows .n + 1
+
+-- a chunk of math is done, whose text stands in the content from a to e
+pub record Calculated (s : List ℕ) (a e : ℕ) (place : Place) (m : Making) (o b : List ℕ) (m′ : Making) (o′ b′ : List ℕ) : Type 0 where
+  pub goes : Goes place (math (part s a e) a e ∷ []) m o b m′ o′ b′
+  pub at : m′ .at ≡ m .at
+  pub braces : m′ .braces ≡ m .braces
+  pub start : m′ .start ≡ m .start
+  pub from : m′ .from ≡ m′ .len
+  pub len : m′ .len + a ≤ m .len + e + 2
+  pub rows : m′ .rows .n ≤ m .rows .n + 1
+
+-- ---- a turn
+
+-- a byte that stands for itself, whatever follows it: printable ASCII but $ - \ { }
+unfoldable pub isPlain : ℕ → Bool
+isPlain b = ltb 0x20 b && ltb b 0x7F && not (mark (0x24 ∷ 0x2D ∷ 0x5C ∷ 0x7B ∷ 0x7D ∷ []) b)
+
+-- the bytes from p to r do
+abbrev pub PlainTo : List ℕ → ℕ → ℕ → Type 0
+PlainTo s p r = (p ≤ r) × (r ≤ max p (length s)) × ((i : ℕ) → p ≤ i → i < r → isPlain (getD s i 0) ≡ true)
+
+-- where a turn writes text only: not at a brace, nor at a dollar sign unless the field is verbatim
+abbrev pub Ordinary : Bool → ℕ → Type 0
+Ordinary verb b = (b ≡ 0x7B → ⊥) × (b ≡ 0x7D → ⊥) × (b ≡ 0x24 → verb ≡ true)
+
+-- a backslash stands at p, and behind it the character c, which ends at n
+pub record Behind (s : List ℕ) (p c n : ℕ) : Type 0 where
+  pub inside : p < length s
+  pub backslash : getD s p 0 ≡ 0x5C
+  pub seen : see s (p + 1) ≡ Char c n
+  pub from : p + 2 ≤ n
+  pub to : n ≤ length s
+  -- and does not stand for itself
+  pub command : isEscape false c ≡ false
+
+-- the name of a command, whose backslash stands at p, ends at `end`, and the white space behind it at w
+pub record Command (s : List ℕ) (p end w : ℕ) : Type 0 where
+  pub name : p + 2 ≤ end
+  pub white : end ≤ w
+  pub inside : w ≤ length s
+
+-- content from p on, with d braces open
+abbrev pub turns : Reader → Bool → ℕ → List ℕ → ℕ → OutOf Part
+turns argument verb d s p = many (contentTurn argument verb) d s p
+
+abbrev pub from : Reader → Bool → List ℕ → Making → OutOf Part
+from argument verb s m = turns argument verb (m .braces) s (m .at)
+
+unfoldable pub concat : List (List ℕ) → List ℕ
+concat [] = []
+concat (w ∷ ws) = w ++ concat ws
+
+-- where an argument that begins at p ends
+abbrev pub endOf : OutOf Part → Step
+endOf (ok e xs) = step.At e
+endOf (again e xs a) = step.At e
+endOf (bad f) = step.Refused f
+
+-- a refusal has its place inside the content
+abbrev pub Placed : ℕ → Fault → Type 0
+Placed len f = (f .start ≤ len) × (f .end ≤ len)
+
+abbrev pub EndInside : ℕ → ℕ → Step → Type 0
+EndInside len p (step.At e) = (p ≤ e) × (e < len)
+EndInside len p (step.Refused f) = Placed len f
+
+-- whatever arguments come to, the turns from p to q write text only, which is laid onto what ends at n
+pub record Wrote (verb : Bool) (s : List ℕ) (p n : ℕ) (o : List ℕ) (q l : ℕ) (o′ : List ℕ) : Type 0 where
+  pub texts : List (List ℕ)
+  pub leads : (argument : Reader) (d : ℕ) → turns argument verb d s p ≡ more (map put texts) (turns argument verb d s q)
+  pub lays : Lays n (concat texts) o l o′
+
+-- a command whose name ends at `end`, with an argument from a to e, and what follows it
+abbrev pub opened : Reader → Bool → ℕ → List ℕ → ℕ → ℕ → ℕ → ℕ → OutOf Part
+opened argument verb d s p end a e =
+    ran a (part s (p + 1) end) (argument (take e s) a) (λ w. more (put w ∷ []) (turns argument verb d s (e + 1)))
+
+abbrev pub SaysText : Bool → List ℕ → ℕ → ℕ → List ℕ → Text → List ℕ → Type 0
+SaysText verb s p n o text.End o′ = ((argument : Reader) (d : ℕ) → turns argument verb d s p ≡ ok p []) × (o′ ≡ o)
+SaysText verb s p n o (text.Put q l) o′ = Wrote verb s p n o q l o′
+SaysText verb s p n o (text.Refused f) o′ = (argument : Reader) (d : ℕ) → turns argument verb d s p ≡ bad f
+SaysText verb s p n o (text.Argument k end a e) o′ =
+    ((argument : Reader) (d : ℕ) → turns argument verb d s p ≡ opened argument verb d s p end a e)
+    × (k ≡ meaningOf (part s (p + 1) end)) × (o′ ≡ o)
+
+-- a command whose name ends at `end`, and the white space behind it at w, has this argument and is written up to q
+pub record Took (s : List ℕ) (p end : ℕ) (arg : Argument) (q n : ℕ) (o : List ℕ) (r : Text) (o′ : List ℕ) : Type 0 where
+  pub len : ℕ
+  pub told : r ≡ text.Put q len
+  pub lays : Lays n (executeCommand (part s (p + 1) end) arg) o len o′
+
+-- turns with their parts, behind which the content goes on
+pub record Onto (place : Place) (verb : Bool) (s : List ℕ) (m : Making) (o b : List ℕ) (m′ : Making) (o′ b′ : List ℕ) : Type 0 where
+  pub parts : List Part
+  pub leads : (argument : Reader) → from argument verb s m ≡ more parts (from argument verb s m′)
+  pub goes : Goes place parts m o b m′ o′ b′
+
+abbrev pub SaysStep : Place → Bool → List ℕ → Making → List ℕ → List ℕ → Stepped → List ℕ → List ℕ → Type 0
+SaysStep place verb s m o b (stepped.Again m′) o′ b′ = Onto place verb s m o b m′ o′ b′
+SaysStep place verb s m o b (stepped.Done m′) o′ b′ =
+    ((argument : Reader) → from argument verb s m ≡ ok (m .at) []) × (m′ ≡ m) × (o′ ≡ o) × (b′ ≡ b)
+SaysStep place verb s m o b (stepped.Refused f) o′ b′ = (argument : Reader) → from argument verb s m ≡ bad f
+SaysStep place verb s m o b (stepped.Argument k end a e) o′ b′ =
+    ((argument : Reader) → from argument verb s m ≡ opened argument verb (m .braces) s (m .at) end a e)
+    × (k ≡ meaningOf (part s (m .at + 1) end)) × (o′ ≡ o) × (b′ ≡ b)
+
+-- ---- a command with its argument
+
+-- m at another place, with another end of the text
+pub record Further (m : Making) (q l : ℕ) (m′ : Making) : Type 0 where
+  pub at : m′ .at ≡ q
+  pub len : m′ .len ≡ l
+  pub braces : m′ .braces ≡ m .braces
+  pub pushed : m′ .pushed ≡ m .pushed
+  pub start : m′ .start ≡ m .start
+  pub from : m′ .from ≡ m .from
+  pub white : m′ .white ≡ m .white
+  pub rows : m′ .rows ≡ m .rows
+
+-- the text of a command whose argument from p to q has the parts xs
+abbrev pub wholeText : List ℕ → ℕ → ℕ → List Part → List ℕ
+wholeText name p q xs = executeCommand name (given (formatVerbatim (chunksOf p q xs)))
+
+-- the place of an argument: it has no rows
+abbrev pub inArgument : Place
+inArgument = record { argument = true; base = 0; text = 0 }
+
+-- the state i with which the content of an argument begins, at p, behind what the command writes before it
+pub record Begun (name : List ℕ) (k : Meaning) (p : ℕ) (m : Making) (o : List ℕ) (i : Making) (o′ : List ℕ) : Type 0 where
+  pub at : i .at ≡ p
+  pub braces : i .braces ≡ 0
+  pub holds : Holds inArgument (take (m .len) o ++ leading name k) [] [] (beginning p) i o′ []
+
+-- where an argument stands when its content is read: the command's text begins where m's ends, what it writes before the argument ends at
+-- `lead`, and the chunk that t makes lies behind
+pub record Closes (s : List ℕ) (end to lead : ℕ) (m t : Making) (o : List ℕ) : Type 0 where
+  pub name : m .at + 2 ≤ end
+  pub from : end + 1 ≤ to
+  pub inside : to < length s
+  pub first : m .len ≤ lead
+  pub short : lead + (m .at + 1) ≤ m .len + end + 2
+  pub chunk : lead ≤ t .from
+  pub last : t .from ≤ t .len
+  pub text : t .len + 2 * (end + 1) ≤ lead + 2 * to
+  pub room : m .len + 2 * length s ≤ length o + 2 * m .at
+
+-- what is made of an argument's content, which t holds, where the text T stood before the command
+abbrev pub Finished : List ℕ → Meaning → ℕ → ℕ → Making → Making → List ℕ → Making → List ℕ → Type 0
+Finished name k p e m t o m′ o′ =
+    (T : List ℕ) (q : ℕ) (xs : List Part) → length T ≡ m .len
+    → Holds inArgument (T ++ leading name k) [] [] (steps (beginning p) xs) t o []
+    → Further m (e + 1) (m .len + length (wholeText name p q xs)) m′
+    × (take (m .len + length (wholeText name p q xs)) o′ ≡ T ++ wholeText name p q xs)
+
+-- ---- content and argument
+
+-- content that comes to an outcome answers r
+abbrev pub Says : Place → OutOf Part → Making → List ℕ → List ℕ → Made → List ℕ → List ℕ → Type 0
+Says place (ok q xs) m o b (made.Done m′) o′ b′ = (m′ .at ≡ q) × Goes place xs m o b m′ o′ b′
+Says place (ok q xs) m o b (made.Refused f) o′ b′ = ⊥
+Says place (again q xs a) m o b (made.Done m′) o′ b′ = (m′ .at ≡ q) × Goes place xs m o b m′ o′ b′
+Says place (again q xs a) m o b (made.Refused f) o′ b′ = ⊥
+Says place (bad g) m o b (made.Done m′) o′ b′ = ⊥
+Says place (bad g) m o b (made.Refused f) o′ b′ = f ≡ g
+
+-- a command with its argument puts one text, and content goes on behind the brace at e
+abbrev pub Puts : List ℕ → ℕ → Making → List ℕ → Making → List ℕ → Type 0
+Puts w e m o m′ o′ = Further m (e + 1) (m .len + length w) m′ × Lays (m .len) w o (m′ .len) o′
+
+-- a command with its argument, whose content from p on comes to an outcome
+abbrev pub SaysArgument : OutOf Part → List ℕ → ℕ → ℕ → Making → List ℕ → Made → List ℕ → Type 0
+SaysArgument (ok q xs) name p e m o (made.Done m′) o′ = Puts (wholeText name p q xs) e m o m′ o′
+SaysArgument (ok q xs) name p e m o (made.Refused f) o′ = ⊥
+SaysArgument (again q xs a) name p e m o (made.Done m′) o′ = Puts (wholeText name p q xs) e m o m′ o′
+SaysArgument (again q xs a) name p e m o (made.Refused f) o′ = ⊥
+SaysArgument (bad g) name p e m o (made.Done m′) o′ = ⊥
+SaysArgument (bad g) name p e m o (made.Refused f) o′ = f ≡ g
+
+-- ---- a literal
+
+-- the chunks cs of a literal behind the chunks ps that the value has before it: their text stands in the bytes o′, and their rows behind those
+-- of ps
+pub record Added (ps cs : List Chunk) (b₀ : List ℕ) (k : Rows) (len : ℕ) (o′ b′ : List ℕ) : Type 0 where
+  pub text : take len o′ ≡ textsOf cs
+  pub bytes : len ≡ length (textsOf cs)
+  pub rows : RowsHold (flatten (ps ++ cs)) b₀ k b′
+
+-- the content of a literal has been read, and t holds its parts xs: its last chunk is done too, if it has to be
+pub record Closed (place : Place) (t : Making) (o b : List ℕ) (k : Rows) (o′ b′ : List ℕ) : Type 0 where
+  pub adds : (ps : List Chunk) (b₀ : List ℕ) (xs : List Part) → Holds place [] ps b₀ (steps (beginning 0) xs) t o b
+      → RowsHold (flatten (ps ++ map (chunkUp (place .base)) (chunksOf 0 (t .at) xs))) b₀ k b′
+      × (take (t .len) o′ ≡ textsOf (chunksOf 0 (t .at) xs)) × (t .len ≡ length (textsOf (chunksOf 0 (t .at) xs)))
+  pub few : k .n ≤ t .rows .n + 1
+
+-- a literal that comes to chunks or a refusal answers r, where `have` and b hold the rows of any chunks that the value has before it, whose
+-- text has `before` bytes
+abbrev pub SaysParsed : Resolved → ℕ → Rows → List ℕ → Parsed → List ℕ → List ℕ → Type 0
+SaysParsed (chunks cs) before have b (parsed.Chunks k len) o′ b′ =
+    (ps : List Chunk) (b₀ : List ℕ) → before ≡ length (textsOf ps) → RowsHold (flatten ps) b₀ have b → Added ps cs b₀ k len o′ b′
+SaysParsed (chunks cs) before have b (parsed.Refused f) o′ b′ = ⊥
+SaysParsed (refused g) before have b (parsed.Chunks k len) o′ b′ = ⊥
+SaysParsed (refused g) before have b (parsed.Refused f) o′ b′ = f ≡ g
+
+-- ---- bounds
+
+-- the place p and the text's end n go on to q and l: by v at least, not past len, and the text by at most two bytes for each byte
+pub record Grows (len v p n q l : ℕ) : Type 0 where
+  pub at : p + v ≤ q
+  pub inside : q ≤ len
+  pub text : l + 2 * p ≤ n + 2 * q
+
+-- the name of a command begins behind the backslash at p, and its argument behind the brace that follows the name
+abbrev pub Spans : ℕ → ℕ → ℕ → ℕ → ℕ → Type 0
+Spans len p end a e = (p + 2 ≤ end) × (end + 1 ≡ a) × (a ≤ e) × (e < len)
+
+abbrev pub GrowsText : ℕ → ℕ → ℕ → Text → Type 0
+GrowsText len p n text.End = Unit {0}
+GrowsText len p n (text.Put q l) = Grows len 1 p n q l
+GrowsText len p n (text.Refused f) = Placed len f
+GrowsText len p n (text.Argument k end a e) = Spans len p end a e
+
+-- the same of a state, which has a new row and a new open brace for each byte at most, and whose chunk begins before its end
+pub record Ahead (len v : ℕ) (m m′ : Making) : Type 0 where
+  pub grows : Grows len v (m .at) (m .len) (m′ .at) (m′ .len)
+  pub rows : m′ .rows .n + m .at ≤ m .rows .n + m′ .at
+  pub braces : m′ .braces + m .at ≤ m .braces + m′ .at
+  pub from : m′ .from ≤ m′ .len
+  pub start : m′ .start ≤ m′ .at
+
+abbrev pub AheadStep : ℕ → Making → Stepped → Type 0
+AheadStep len m (stepped.Again m′) = Ahead len 1 m m′
+AheadStep len m (stepped.Done m′) = Unit {0}
+AheadStep len m (stepped.Refused f) = Placed len f
+AheadStep len m (stepped.Argument k end a e) = Spans len (m .at) end a e
+
+abbrev pub AheadMade : ℕ → ℕ → Making → Made → Type 0
+AheadMade len v m (made.Done m′) = Ahead len v m m′
+AheadMade len v m (made.Refused f) = Placed len f
+
+-- [01:From file to field] "resolving's scratch at least 32,768": a literal of 16,384 bytes has no more text, and a row for each byte and one
+-- at most. A refusal's place is one of the file
+abbrev pub GrowsParsed : Rows → Parsed → Type 0
+GrowsParsed have (parsed.Chunks k len) = (len ≤ 32768) × (k .n ≤ have .n + 16385)
+GrowsParsed have (parsed.Refused f) = Placed 16777215 f
+
+-- what a function asks that writes text from p on: room for twice what is left, and the tables
+pub record ReadyText (s : List ℕ) (p n : ℕ) (o byName byMark : List ℕ) : Type 0 where
+  pub place : p ≤ length s
+  pub room : n + 2 * length s ≤ length o + 2 * p
+  pub names : byName ≡ allNames
+  pub marks : byMark ≡ numbers composites
+
+-- and one that makes chunks of it: a literal inside 01's limit, in a file inside 01's limit
+pub record Ready (s : List ℕ) (place : Place) (m : Making) (o byName byMark : List ℕ) : Type 0 where
+  pub literal : length s ≤ 16384
+  pub text : ReadyText s (m .at) (m .len) o byName byMark
+  pub from : m .from ≤ m .len
+  pub start : m .start ≤ m .at
+  pub braces : m .braces ≤ m .at
+  pub rows : m .rows .n ≤ 1000000000000 + m .at
+  pub value : place .text + m .len + 2 * length s ≤ 4294900000 + 2 * m .at
+  pub file : place .base ≤ 16777215
+
+-- what `parse` asks: a literal s of a file inside 01's limit, at `base` in it, with the text of the value before it no longer than a row's
+-- places reach, and the tables
+pub record ReadyLiteral (s : List ℕ) (base before : ℕ) (have : Rows) (o byName byMark : List ℕ) : Type 0 where
+  pub file : base + length s ≤ 16777215
+  pub scratch : 32768 ≤ length o
+  pub value : before ≤ 4294000000
+  pub rows : have .n ≤ 1000000000000
+  pub names : byName ≡ allNames
+  pub marks : byMark ≡ numbers composites

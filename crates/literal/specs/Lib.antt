@@ -1,0 +1,7 @@
+pub mod Content
+pub mod Literal
+pub mod Rows
+pub mod Flattening
+pub mod WellFormed
+pub mod Inner
+pub mod Worked

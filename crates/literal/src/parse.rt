@@ -1,0 +1,217 @@
+// A literal, after `ContentParser::parse`: content and a command's argument, which call each other with the depth falling.
+use crate::content;
+use crate::content::Stepped;
+use crate::making;
+use crate::making::Making;
+use crate::making::Place;
+use crate::rows::Rows;
+use command::meaning::Meaning;
+use row::fault::Fault;
+use row::fault::Reason;
+ghost use mathlib.Core.Path.{_≡_};
+ghost use mathlib.Core.Bool.{false};
+ghost use Prim.Native.Nat.{_+_, _*_, _≤_, _<_};
+ghost use lib.ListN.{length, take};
+ghost use Rattle.text.specs.Scan.{part};
+ghost use Rattle.raw.specs.Strict.{faultUp};
+ghost use Rattle.command.specs.Commands.{meaningOf};
+ghost use Rattle.literal.specs.Content.{inside};
+ghost use Rattle.literal.specs.Literal.{resolveLiteral};
+ghost use Rattle.literal.specs.Inner.{from, Ready, Spans, inArgument, Fits, Closed, Says, SaysArgument, AheadMade, ReadyLiteral, SaysParsed, GrowsParsed};
+
+// The longest literal that is resolved, and how many arguments may be open at once [01:From file to field].
+const MOST_LITERAL: usize = 16_384;
+
+const MOST_ARGUMENTS: usize = 64;
+
+// What content came to.
+pub enum Made {
+    Done(Making),
+    Refused(Fault),
+}
+
+// What a literal came to: the rows of the value so far, and the bytes of the literal's text.
+pub enum Parsed {
+    Chunks { rows: Rows, len: usize },
+    Refused(Fault),
+}
+
+// The content of s from a state on, with so many arguments left to open.
+fn content(
+    s: &[u8],
+    verb: bool,
+    depth: usize,
+    first: Making,
+    place: Place,
+    out: &mut [u8],
+    numbers: &mut [u32],
+    names: &[u8],
+    marks: &[u32],
+) -> Made
+    requires { ⌜ Ready (now s) place first (now out) (now names) (now marks) ⌝ }
+    ensures { λ r. ⌜ Says place (from (inside depth) verb (now (s .entry)) first) first (now (out .entry)) (now (numbers .entry)) r
+        (now (out .exit)) (now (numbers .exit)) ⌝ }
+    ensures { λ r. ⌜ AheadMade (length (now (s .entry))) 0 first r ⌝ }
+{
+    let mut st = first;
+    loop {
+        match content::step(s, verb, st, place, out, numbers, names, marks) {
+            Stepped::Again(t) => {
+                st = t;
+            }
+            Stepped::Done(t) => {
+                return Made::Done(t);
+            }
+            Stepped::Refused(f) => {
+                return Made::Refused(f);
+            }
+            Stepped::Argument { m, end, from, to } => {
+                match argument(s, m, end, from, to, depth, st, out, names, marks) {
+                    Made::Done(t) => {
+                        st = t;
+                    }
+                    Made::Refused(f) => {
+                        return Made::Refused(f);
+                    }
+                }
+            }
+        }
+    }
+}
+
+// A command with an argument in braces, which stands from a place to another; its text is put behind its parent's.
+fn argument(
+    s: &[u8],
+    m: Meaning,
+    end: usize,
+    from: usize,
+    to: usize,
+    depth: usize,
+    st: Making,
+    out: &mut [u8],
+    names: &[u8],
+    marks: &[u32],
+) -> Made
+    requires { ⌜ Ready (now s) inArgument st (now out) (now names) (now marks) ⌝ }
+    requires { ⌜ (m ≡ meaningOf (part (now s) (st .at + 1) end)) × Spans (length (now s)) (st .at) end from to ⌝ }
+    ensures { λ r. ⌜ SaysArgument (inside depth (take to (now (s .entry))) from) (part (now (s .entry)) (st .at + 1) end) from to st
+        (now (out .entry)) r (now (out .exit)) ⌝ }
+    ensures { λ r. ⌜ AheadMade (length (now (s .entry))) 1 st r ⌝ }
+{
+    if depth == 0 {
+        return Made::Refused(Fault {
+            reason: Reason::TooDeep,
+            start: from - 1,
+            end: from,
+        });
+    }
+    let i = content::begin(s, m, end, from, st, out);
+    let lead = i.len;
+    let mut none = [0u32; 0];
+    let place = Place {
+        argument: true,
+        base: 0,
+        text: 0,
+    };
+    let r = content(
+        &s[..to],
+        false,
+        depth - 1,
+        i,
+        place,
+        out,
+        &mut none,
+        names,
+        marks,
+    );
+    let Made::Done(t) = r else {
+        return r;
+    };
+    Made::Done(content::finish(s, m, end, to, lead, st, t, out, marks))
+}
+
+// The refusal of a literal, whose places are those of the literal, with the places of the file.
+fn up(f: Fault, base: usize) -> Fault
+    requires { ⌜ (f .start ≤ 16777215) × (f .end ≤ 16777215) × (base ≤ 16777215) ⌝ }
+    ensures { λ r. ⌜ r ≡ faultUp base f ⌝ }
+{
+    let reason = f.reason;
+    Fault {
+        reason,
+        start: f.start + base,
+        end: f.end + base,
+    }
+}
+
+// The end of a literal's content: the last chunk is done too if it has text, or if there is no other.
+fn close(t: Making, place: Place, out: &mut [u8], numbers: &mut [u32]) -> Rows
+    requires { ⌜ Fits place t (length (now out)) × (place .base + t .at ≤ 4294967295) × (place .argument ≡ false) ⌝ }
+    ensures { λ r. ⌜ Closed place t (now (out .entry)) (now (numbers .entry)) r (now (out .exit)) (now (numbers .exit)) ⌝ }
+{
+    if (t.from < t.len) | !t.pushed {
+        let at = t.at;
+        let m = making::turnaround(t, place, at, 0, at, out, numbers);
+        return m.rows;
+    }
+    t.rows
+}
+
+// A literal s that stands at `base` in its file, where the value's text before it has so many bytes and its rows are `have`. Its text comes to
+// stand in `out`, and its rows behind those before.
+pub fn parse(
+    s: &[u8],
+    base: usize,
+    verb: bool,
+    before: usize,
+    have: Rows,
+    out: &mut [u8],
+    numbers: &mut [u32],
+    names: &[u8],
+    marks: &[u32],
+) -> Parsed
+    requires { ⌜ ReadyLiteral (now s) base before have (now out) (now names) (now marks) ⌝ }
+    ensures { λ r. ⌜ SaysParsed (resolveLiteral verb (now (s .entry)) base) before have (now (numbers .entry)) r (now (out .exit))
+        (now (numbers .exit)) ⌝ }
+    ensures { λ r. ⌜ GrowsParsed have r ⌝ }
+{
+    if MOST_LITERAL < s.len() {
+        return Parsed::Refused(Fault {
+            reason: Reason::TooLong,
+            start: base,
+            end: base + s.len(),
+        });
+    }
+    let first = Making {
+        at: 0,
+        braces: 0,
+        pushed: false,
+        start: 0,
+        from: 0,
+        len: 0,
+        white: false,
+        rows: have,
+    };
+    let place = Place {
+        argument: false,
+        base,
+        text: before,
+    };
+    match content(
+        s,
+        verb,
+        MOST_ARGUMENTS,
+        first,
+        place,
+        out,
+        numbers,
+        names,
+        marks,
+    ) {
+        Made::Refused(f) => Parsed::Refused(up(f, base)),
+        Made::Done(t) => {
+            let len = t.len;
+            let rows = close(t, place, out, numbers);
+            Parsed::Chunks { rows, len }
+        }
+    }
+}

@@ -1,0 +1,48 @@
+// Chunk rows, joined as they are appended.
+use chunk::form;
+use chunk::form::Kind;
+ghost use mathlib.Core.Path.{_≡_};
+ghost use Prim.Native.Nat.{_+_, _≤_};
+ghost use Rattle.literal.specs.Rows.{Pushes};
+
+// The rows of chunks so far: how many; of the last one its kind's number, or 3 where there is none, and where its text and its span begin.
+pub struct Rows {
+    pub n: usize,
+    pub last: u32,
+    pub from: u32,
+    pub start: u32,
+}
+
+// One chunk more, whose text goes from a place to another. Where `flatten` would join it with the last one, its row is written over the last
+// one's: no row is read back.
+pub fn push(
+    rows: &mut [u32],
+    have: Rows,
+    kind: Kind,
+    from: u32,
+    to: u32,
+    start: u32,
+    end: u32,
+) -> Rows
+    requires { ⌜ have .n ≤ 2000000000000 ⌝ }
+    ensures { λ r. ⌜ Pushes kind from to start end have (now (rows .entry)) r (now (rows .exit)) ⌝ }
+    ensures { λ r. ⌜ (have .n ≤ r .n) × (r .n ≤ have .n + 1) ⌝ }
+{
+    let number = form::kind_number(kind);
+    if (0 < have.n) & (have.last == number) & (number != 2) {
+        form::write_chunk(rows, have.n - 1, kind, have.from, to, have.start, end);
+        return Rows {
+            n: have.n,
+            last: number,
+            from: have.from,
+            start: have.start,
+        };
+    }
+    form::write_chunk(rows, have.n, kind, from, to, start, end);
+    Rows {
+        n: have.n + 1,
+        last: number,
+        from,
+        start,
+    }
+}
