@@ -2,32 +2,33 @@
 -- Assumes nothing.
 use mathlib.Core.Path.{refl}
 use Rattle.text.specs.Walk.{walkFrom}
-use Rattle.text.specs.Utf8.{alternatives, begins, widthBy, gather, value, octets}
+use Rattle.text.specs.Utf8.{alternatives, begins, widthBy, gather, value, octets, lookValid, validityOf, isBoundary}
 use Rattle.text.specs.Class.{whiteSpace, control, isWhitespace, isControl, isIdContinue, holdsOf}
 use Rattle.text.specs.Scan.{seeFrom, lookPast, skip}
 use Rattle.text.specs.Scan as scan
+use Rattle.row.specs.Row.{flat}
+use Rattle.row.specs.Rules.{next, run, isRows}
+use Rattle.row.specs.Numbers.{rowsOf, areRows}
 use Rattle.raw.specs.Reader.{loop, many}
-use Rattle.chunk.specs.Worked.{utf8}
-use Rattle.chunk.specs.Format.{lastFrom, lines, formatFrom, isEscapable}
-use Rattle.compose.specs.Composites.{composites}
-use Rattle.compose.specs.Lookup.{lookup}
-use Rattle.command.specs.Commands.{isSingleCharFunc, commands, same, meaningIn}
-use Rattle.command.specs.Execute.{dotted, bare, executeCommand}
-use Rattle.resolve.specs.Content.{steps, endTurn, argumentEnd, braced, withName, command, backslash, maths, closing, hyphens}
-use Rattle.resolve.specs.Content.{contentTurn, contentBy, inside, flattenFrom}
-use Rattle.resolve.specs.Literal.{resolveLiteral}
-use Rattle.resolve.specs.Worked.{table, Worked, opened, closers, Deep}
+use Rattle.text.specs.Strings.{utf8}
+use Rattle.lookup.specs.Names.{sameBytes, isNamed, later, lastNamed}
+use Rattle.literal.specs.Content.{steps, endTurn, braced, closing, contentTurn, contentBy, inside, flattenFrom}
+use Rattle.literal.specs.Literal.{resolveLiteral}
+use Rattle.resolve.specs.Resolves.{checkedFile}
+use Rattle.resolve.specs.Field.{elements, walk, monthOf, onPath, name}
+use Rattle.resolve.specs.Checks.{everySpan, isValue, everyMonth, areMonths, areLent}
+use Rattle.resolve.specs.Worked.{table, Worked, chain, Deep}
 
 pub worked : Worked
-unfolding walkFrom alternatives begins widthBy gather value octets whiteSpace control isWhitespace isControl isIdContinue holdsOf scan.code
-    scan.rest seeFrom lookPast skip composites lookup loop many lastFrom lines formatFrom isEscapable flattenFrom utf8 isSingleCharFunc commands
-    same meaningIn dotted bare executeCommand steps endTurn argumentEnd braced withName command backslash maths closing hyphens contentTurn
-    contentBy inside resolveLiteral table
+unfolding walkFrom alternatives begins widthBy gather value octets lookValid validityOf isBoundary whiteSpace control isWhitespace isControl
+    isIdContinue holdsOf scan.code scan.rest seeFrom lookPast skip flat next run isRows rowsOf areRows loop many flattenFrom utf8 sameBytes isNamed
+    later lastNamed steps endTurn braced closing contentTurn contentBy inside resolveLiteral checkedFile elements walk monthOf onPath name everySpan
+    isValue everyMonth areMonths areLent table
 worked = refl
 
 pub deep : Deep
-unfolding walkFrom alternatives begins widthBy gather value octets whiteSpace control isWhitespace isControl isIdContinue holdsOf scan.code
-    scan.rest seeFrom lookPast skip composites lookup loop many lastFrom lines formatFrom isEscapable flattenFrom utf8 isSingleCharFunc commands
-    same meaningIn dotted bare executeCommand steps endTurn argumentEnd braced withName command backslash maths closing hyphens contentTurn
-    contentBy inside resolveLiteral opened closers
-deep = record { sixty-four = refl; sixty-five = refl; left-open = refl }
+unfolding walkFrom alternatives begins widthBy gather value octets lookValid validityOf isBoundary whiteSpace control isWhitespace isControl
+    isIdContinue holdsOf scan.code scan.rest seeFrom lookPast skip flat next run isRows rowsOf areRows loop many flattenFrom utf8 sameBytes isNamed
+    later lastNamed steps endTurn braced closing contentTurn contentBy inside resolveLiteral checkedFile elements walk monthOf onPath name everySpan
+    isValue everyMonth areMonths areLent chain
+deep = record { thirty-two = refl; thirty-three = refl; unknown = refl }

@@ -1,20 +1,14 @@
 -- One law for each way through a function, over what its calls told.
 
--- chains of tests, as the code joins them and as the definitions do
-pub mod TestChains
--- turns that write text, as the functions of src/turn.rt answer them
-pub mod TextTurns
--- the ways through the functions of src/turn.rt
-pub mod TextWays
--- what the functions of src/turn.rt answer, in the form of their proofs
-pub mod TextAnswers
--- what `command`, `backslash` and `text_at` answer, in the form of their proofs
-pub mod CommandAnswers
--- one row more: `rows::push`
-pub mod PushWays
--- a chunk is done: `turnaround` and `put_math`
-pub mod MakingWays
--- the functions of src/content.rt that take one turn
-pub mod StepWays
--- a command and its argument: `begin` and `finish`
-pub mod ArgumentWays
+-- what every call asks first: `check_file`, and what `literal` and `field` refuse
+pub mod AskedWays
+-- a literal counted and written: `write` of src/one_literal.rt
+pub mod WriteWays
+-- the elements of a value one behind the other: runs, and what the code has of them
+pub mod RunWays
+-- the elements of a value, row by row: `element_at` and `value`
+pub mod ElementWays
+-- a name and what it means: `name`
+pub mod NameWays
+-- a value over a small room, and then over what is lent: `write` of src/field.rt
+pub mod FieldWays

@@ -1,5 +1,12 @@
-pub mod Content
-pub mod Literal
-pub mod Rows
-pub mod Inner
+pub mod Resolves
+pub mod OneLiteral
+pub mod Field
+pub mod Checks
+pub mod OneField
+pub mod WholeFile
+pub mod WellFormedFields
+pub mod StrictRows
+pub mod OwnRows
+pub mod Progress
+pub mod Uses
 pub mod Worked

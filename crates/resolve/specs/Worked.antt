@@ -1,117 +1,146 @@
--- The "resolve" cases of the edge table [01:Edge table], line by line, and others. Each is a value of one literal at place 0.
+-- Fields resolved with their names and month words [01:Resolving and writing], with the rows of a file as reading gives them.
 --     table, Worked       the proof of `Worked` is `worked` of proofs/Worked.antt
---     Deep                arguments at the limit of 64
+--     Deep                names at the limit of 32
 -- Assumes nothing.
 use Prim.Native.Nat.{ℕ, zero, suc}
 use Prim.Native.String.{String}
 use mathlib.Core.Path.{_≡_}
-use mathlib.Core.Bool.{Bool, true, false}
-use mathlib.Core.List.{List, [], _∷_, _++_, map}
+use mathlib.Core.Bool.{false}
+use mathlib.Core.List.{List, [], _∷_, map}
+use Rattle.row.specs.declared.form.Kind.{Kind}
+use Rattle.row.specs.declared.form.Kind.the-variants.{Entry, EntryType, Key, FieldName, Value, Literal, Name, DefinitionName}
+use Rattle.row.specs.Row.{Row, row, flat}
 use Rattle.row.specs.Fault.{numberOf}
-use Rattle.chunk.specs.declared.form.Kind.{Kind}
-use Rattle.chunk.specs.declared.form.Kind.the-variants.{Normal, Verbatim, Math}
-use Rattle.chunk.specs.Chunk.{Chunk, chunk}
-use Rattle.chunk.specs.Worked.{utf8}
-use Rattle.resolve.specs.Content.{flatten}
-use Rattle.resolve.specs.Literal.{Resolved, resolveLiteral}
-use Rattle.resolve.specs.Literal.{chunks as Chunks, refused as Refused}
+use Rattle.chunk.specs.declared.form.Kind.the-variants.{Normal, Verbatim}
+use Rattle.chunk.specs.Chunk.{Chunk}
+use Rattle.text.specs.Strings.{utf8}
+use Rattle.literal.specs.Worked.{_of_from_to_}
+use Rattle.resolve.specs.Resolves as resolves
+use Rattle.resolve.specs.OneField.{valueAt}
 
--- chunks, or 01's number and a place
+-- chunks and the number of names resolved, or 01's number and a place
 pub data Outcome : Type 0 where
-  chunks : List Chunk → Outcome
+  chunks : List Chunk → ℕ → Outcome
   refused : ℕ → ℕ → ℕ → Outcome
 
--- a value of one literal is its chunks, flattened
-abbrev pub outcomeOf : Resolved → Outcome
-outcomeOf (Chunks cs) = chunks (flatten cs)
-outcomeOf (Refused f) = refused (numberOf (f .reason)) (f .start) (f .end)
+abbrev pub outcomeOf : resolves.Value → Outcome
+outcomeOf (resolves.resolved cs n) = chunks cs n
+outcomeOf (resolves.refused f) = refused (numberOf (f .reason)) (f .start) (f .end)
+
+-- month words and texts: the numbers, and the bytes
+pub record Words : Type 0 where
+  pub numbers : List ℕ
+  pub bytes : String
 
 pub record Case : Type 0 where
-  pub verb : Bool
-  pub text : String
+  pub file : String
+  pub rows : List Row
+  pub which : ℕ
+  pub words : Words
+  pub scratch : ℕ
   pub outcome : Outcome
 
-infix 80 literal_gives_
-abbrev pub literal_gives_ : String → Outcome → Case
-literal_gives_ t o = record { verb = false; text = t; outcome = o }
+infix 90 _from_to_
+abbrev pub _from_to_ : Kind → ℕ → ℕ → Row
+_from_to_ k a e = row k a e
 
-infix 80 verbatim_gives_
-abbrev pub verbatim_gives_ : String → Outcome → Case
-verbatim_gives_ t o = record { verb = true; text = t; outcome = o }
+-- the rows of an entry "@b{k,t=" whose value ends at n
+abbrev pub entry : ℕ → List Row → List Row
+entry n rs = Entry from 0 to n ∷ EntryType from 1 to 2 ∷ Key from 3 to 4 ∷ FieldName from 5 to 6 ∷ Value from 7 to n ∷ rs
 
-infix 80 _of_from_to_
-abbrev pub _of_from_to_ : Kind → String → ℕ → ℕ → Chunk
-_of_from_to_ k t a e = chunk k (utf8 t) a e
+abbrev pub none : Words
+none = record { numbers = []; bytes = "" }
 
--- the first seven are document 01's
+abbrev pub january : Words
+january = record { numbers = 0 ∷ 3 ∷ 3 ∷ 10 ∷ []; bytes = "janJanuary" }
+
+-- "jan" twice, with the texts "A" and "B"
+abbrev pub twice : Words
+twice = record { numbers = 0 ∷ 3 ∷ 3 ∷ 4 ∷ 4 ∷ 7 ∷ 7 ∷ 8 ∷ []; bytes = "janAjanB" }
+
+-- the value of the entry, with the least scratch
+infix 70 _with_and_gives_
+abbrev pub _with_and_gives_ : String → List Row → Words → Outcome → Case
+_with_and_gives_ file rs ws o = record { file = file; rows = rs; which = 4; words = ws; scratch = 32768; outcome = o }
+
+-- row i of a file with one literal, over a scratch of n bytes
+infix 70 value_scratch_gives_
+abbrev pub value_scratch_gives_ : ℕ → ℕ → Outcome → Case
+value_scratch_gives_ i n o = record {
+  file = "@b{k,t={x}}";
+  rows = entry 10 (Literal from 8 to 9 ∷ []);
+  which = i;
+  words = none;
+  scratch = n;
+  outcome = o;
+}
+
 unfoldable pub table : List Case
 table =
-    literal "a----b" gives chunks (Normal of "a—-b" from 0 to 6 ∷ []) ∷
-    literal "\\'{\\i}" gives chunks (Normal of "í" from 0 to 6 ∷ []) ∷
-    literal "\\o{x}" gives chunks (Normal of "x̸" from 0 to 5 ∷ []) ∷
-    literal "a\\ b" gives chunks (Normal of "a\\  b" from 0 to 4 ∷ []) ∷
-    literal "{a}" gives chunks (Normal of "" from 0 to 0 ∷ Verbatim of "a" from 1 to 2 ∷ []) ∷
-    literal "$x" gives refused 3 2 2 ∷
-    verbatim "$x" gives chunks (Normal of "$x" from 0 to 2 ∷ []) ∷
-    literal "" gives chunks (Normal of "" from 0 to 0 ∷ []) ∷
-    literal "Stra\\ss." gives chunks (Normal of "Stra\\ss. " from 0 to 8 ∷ []) ∷
-    literal "{\\'}" gives chunks (Normal of "" from 0 to 0 ∷ Verbatim of "}́" from 1 to 4 ∷ []) ∷
-    literal "\\a{\\}}" gives refused 3 4 4 ∷
-    literal "\\x{\\'\\}}" gives refused 11 7 8 ∷
-    literal "\\^ {e}" gives chunks (Normal of "̂" from 0 to 3 ∷ Verbatim of "e" from 4 to 5 ∷ []) ∷
-    literal "\\d{â}" gives chunks (Normal of "ậ" from 0 to 6 ∷ []) ∷
-    literal "\\^{ạ}" gives chunks (Normal of "ậ" from 0 to 7 ∷ []) ∷
-    literal "\\'" gives chunks (Normal of "́" from 0 to 2 ∷ []) ∷
-    literal "\\~" gives chunks (Normal of "~" from 0 to 2 ∷ []) ∷
-    literal "\\" gives refused 3 1 1 ∷
-    literal "a--b---c-d" gives chunks (Normal of "a–b—c-d" from 0 to 10 ∷ []) ∷
-    literal "\\\"{O}zg\\\"un" gives chunks (Normal of "Özgün" from 0 to 11 ∷ []) ∷
-    literal "\\c c" gives chunks (Normal of "ç" from 0 to 4 ∷ []) ∷
-    literal "\\cc" gives chunks (Normal of "\\cc " from 0 to 3 ∷ []) ∷
-    literal "\\emph{a {B} $x$ c}" gives chunks (Normal of "\\emph{a B $x$ c}" from 0 to 18 ∷ []) ∷
-    literal "x $a b$ y {NASA} z" gives chunks (
-    Normal of "x " from 0 to 2 ∷
-    Math of "a b" from 3 to 6 ∷
-    Normal of " y " from 7 to 10 ∷
-    Verbatim of "NASA" from 11 to 15 ∷
-    Normal of " z" from 16 to 18 ∷ []) ∷
-    literal "a}b" gives refused 11 1 2 ∷
-    literal "\\a{\\b{\\c{x" gives refused 3 10 10 ∷
-    literal "\\copyright{A} 2020" gives chunks (Normal of "©A 2020" from 0 to 18 ∷ []) ∷
-    literal "\\textquotedblleft Hi\\textquotedblright" gives chunks (Normal of "“Hi”" from 0 to 38 ∷ []) ∷
-    literal "\\-{a}b" gives chunks (Normal of "b" from 0 to 6 ∷ []) ∷
-    literal "\\v{ȷ}" gives chunks (Normal of "ǰ" from 0 to 6 ∷ []) ∷
-    literal "{a}{b}" gives chunks (
-    Normal of "" from 0 to 0 ∷ Verbatim of "a" from 1 to 2 ∷ Normal of "" from 3 to 3 ∷ Verbatim of "b" from 4 to 5 ∷ []) ∷
-    literal "{a{b}c}d" gives chunks (Normal of "" from 0 to 0 ∷ Verbatim of "abc" from 1 to 6 ∷ Normal of "d" from 7 to 8 ∷ []) ∷
-    literal "\\%\\_\\&\\{\\}\\:" gives chunks (Normal of "%_&{}:" from 0 to 12 ∷ []) ∷
-    literal "\\'{$a\n b$}" gives chunks (Normal of "$a\n b$́" from 0 to 10 ∷ []) ∷
-    literal "\\a{{\\\n}\\\n}" gives chunks (Normal of "\\a{\\\n \\  }" from 0 to 10 ∷ []) ∷
-    literal "\\LaTeX{}" gives chunks (Normal of "LaTeX" from 0 to 8 ∷ []) ∷
-    literal "10\\,\\%" gives chunks (Normal of "10\\, %" from 0 to 6 ∷ []) ∷
-    literal "  a  b " gives chunks (Normal of " a b " from 0 to 7 ∷ []) ∷
-    verbatim "\\a\\%\\:\\{--$x$" gives chunks (Normal of "\\a\\%:{--$x$" from 0 to 13 ∷ []) ∷
-    verbatim "\\emph{x}" gives chunks (Normal of "\\emph" from 0 to 5 ∷ Verbatim of "x" from 6 to 7 ∷ []) ∷
+    -- a name, and a literal behind it: neighbours of one kind are one chunk, from the first's start to the last's end
+    "@b{k,t=a#{y}}@string{a={x}}" with
+    entry 12 (Name from 7 to 8 ∷ Literal from 10 to 11 ∷ DefinitionName from 21 to 22 ∷ Value from 23 to 26 ∷ Literal from 24 to 25 ∷ []) and none
+    gives chunks (Normal of "xy" from 24 to 11 ∷ []) 1 ∷
+    -- braces in a definition
+    "@b{k,t=a#a}@string{a={{x}}}" with
+    entry 10 (Name from 7 to 8 ∷ Name from 9 to 10 ∷ DefinitionName from 19 to 20 ∷ Value from 21 to 26 ∷ Literal from 22 to 25 ∷ []) and none
+    gives chunks (Normal of "" from 22 to 22 ∷ Verbatim of "x" from 23 to 24 ∷ Normal of "" from 22 to 22 ∷ Verbatim of "x" from 23 to 24 ∷ []) 2 ∷
+    -- a month word has the place of its use; a definition comes before it, and of equal month words the first counts
+    "@b{k,t=jan}" with entry 10 (Name from 7 to 10 ∷ []) and january gives chunks (Normal of "January" from 7 to 10 ∷ []) 1 ∷
+    "@b{k,t=jan}@string{jan={x}}" with
+    entry 10 (Name from 7 to 10 ∷ DefinitionName from 19 to 22 ∷ Value from 23 to 26 ∷ Literal from 24 to 25 ∷ []) and january
+    gives chunks (Normal of "x" from 24 to 25 ∷ []) 1 ∷
+    "@b{k,t=jan}" with entry 10 (Name from 7 to 10 ∷ []) and twice gives chunks (Normal of "A" from 7 to 10 ∷ []) 1 ∷
+    -- the last of two definitions
+    "@b{k,t=a}@string{a={x}}@string{a={y}}" with
+    entry 8 (Name from 7 to 8 ∷
+    DefinitionName from 17 to 18 ∷ Value from 19 to 22 ∷ Literal from 20 to 21 ∷
+    DefinitionName from 31 to 32 ∷ Value from 33 to 36 ∷ Literal from 34 to 35 ∷ []) and none
+    gives chunks (Normal of "y" from 34 to 35 ∷ []) 1 ∷
+    -- an unknown name; a name that uses itself, and two that use each other: at the use
+    "@b{k,t={x}#q}" with entry 12 (Literal from 8 to 9 ∷ Name from 11 to 12 ∷ []) and january gives refused 12 11 12 ∷
+    "@b{k,t=a}@string{a=a}" with
+    entry 8 (Name from 7 to 8 ∷ DefinitionName from 17 to 18 ∷ Value from 19 to 20 ∷ Name from 19 to 20 ∷ []) and none
+    gives refused 13 19 20 ∷
+    "@b{k,t=a}@string{a=b}@string{b=a}" with
+    entry 8 (Name from 7 to 8 ∷
+    DefinitionName from 17 to 18 ∷ Value from 19 to 20 ∷ Name from 19 to 20 ∷
+    DefinitionName from 29 to 30 ∷ Value from 31 to 32 ∷ Name from 31 to 32 ∷ []) and none
+    gives refused 13 31 32 ∷
+    -- rows that lack something, a span across a character or outside the file, a row that is no value or not there, and a month list that is
+    -- no whole count
+    "@b{k,t=jan}" with entry 10 [] and none gives refused 17 0 0 ∷
+    "@b{k,t={é}}" with entry 11 (Literal from 8 to 9 ∷ []) and none gives refused 17 0 0 ∷
+    "@b{k,t={x}}" with entry 12 (Literal from 8 to 9 ∷ []) and none gives refused 17 0 0 ∷
+    "@b{k,t=jan}" with entry 10 (Name from 7 to 10 ∷ []) and record { numbers = 0 ∷ 3 ∷ 3 ∷ []; bytes = "janJanuary" } gives refused 17 0 0 ∷
+    "@b{k,t=jan}" with entry 10 (Name from 7 to 10 ∷ []) and record { numbers = 0 ∷ 3 ∷ 3 ∷ 11 ∷ []; bytes = "janJanuary" } gives refused 17 0 0 ∷
+    value 4 scratch 32768 gives chunks (Normal of "x" from 8 to 9 ∷ []) 0 ∷
+    value 3 scratch 32768 gives refused 17 0 0 ∷
+    value 6 scratch 32768 gives refused 17 0 0 ∷
+    value 4 scratch 32767 gives refused 16 0 0 ∷
     []
 
+abbrev pub comesTo : Case → Outcome
+comesTo c = outcomeOf (valueAt (utf8 (c .file)) (flat (c .rows)) (c .which) false (c .words .numbers) (utf8 (c .words .bytes)) (c .scratch))
+
 abbrev pub Worked : Type 0
-Worked = map (λ c. outcomeOf (resolveLiteral (c .verb) (utf8 (c .text)) 0)) table ≡ map (λ c. c .outcome) table
+Worked = map comesTo table ≡ map (λ c. c .outcome) table
 
--- ---- arguments at the limit: \P{ so many times, and as many closing braces. The name P writes U+00B6 and drops its argument
+-- ---- names at the limit: n definitions from place k on, each of one letter, whose value is the next letter's name; and `last` behind them
 
-unfoldable pub opened : ℕ → List ℕ → List ℕ
-opened zero t = t
-opened (suc n) t = 0x5C ∷ 0x50 ∷ 0x7B ∷ opened n t
+abbrev pub letters : String
+letters = "abcdefghijklmnopqrstuvwxyzABCDEFGH"
 
-unfoldable pub closers : ℕ → List ℕ
-closers zero = []
-closers (suc n) = 0x7D ∷ closers n
+unfoldable pub chain : ℕ → ℕ → (ℕ → Row) → List Row
+chain zero k last = DefinitionName from k to suc k ∷ Value from k to suc k ∷ last k ∷ []
+chain (suc n) k last = DefinitionName from k to suc k ∷ Value from k to suc k ∷ Name from suc k to suc (suc k) ∷ chain n (suc k) last
 
-abbrev pub nested : ℕ → List ℕ
-nested n = opened n (closers n)
+-- the first definition's value, where the last one's is a literal or the name behind it
+abbrev pub ofChain : ℕ → (ℕ → Row) → Outcome
+ofChain n last = outcomeOf (valueAt (utf8 letters) (flat (chain n 0 last)) 1 false [] [] 32768)
 
--- "the 65th argument brace open at once" is refused with 14 at its byte, and "65 arguments left open give 3"
+-- "names 32 deep", and "At one use: 12, 13, 14, 15": one that is unknown is refused with 12 at any depth
 pub record Deep : Type 0 where
-  pub sixty-four : outcomeOf (resolveLiteral false (nested 64) 0) ≡ chunks (Normal of "¶" from 0 to 256 ∷ [])
-  pub sixty-five : outcomeOf (resolveLiteral false (nested 65) 0) ≡ refused 14 194 195
-  pub left-open : outcomeOf (resolveLiteral false (opened 65 []) 0) ≡ refused 3 195 195
+  pub thirty-two : ofChain 32 (λ k. Literal from k to suc k) ≡ chunks (Normal of "G" from 32 to 33 ∷ []) 32
+  pub thirty-three : ofChain 33 (λ k. Literal from k to suc k) ≡ refused 14 33 34
+  pub unknown : ofChain 32 (λ k. Name from suc k to suc (suc k)) ≡ refused 12 33 34

@@ -1,8 +1,9 @@
-// Content resolved into chunks, after `ContentParser` of resolve.rs.
+// Resolving, after resolve.rs: the chunks of a literal, and of a field with its names.
 //
-// A turn of content either writes text (`turn`) or ends a chunk (`making`), which becomes a row of a literal (`rows`). `content` has the turns
-// together, and how a command's argument begins and ends.
-pub mod content;
-pub mod making;
-pub mod rows;
-pub mod turn;
+// Each call checks what it is lent, counts, and then writes. Text under construction stands in the lent scratch, which holds zeros afterwards.
+pub mod answer;
+pub mod field;
+pub mod file;
+pub mod lent;
+pub mod one_literal;
+pub mod progress;

@@ -1,0 +1,159 @@
+-- `resolve::field::field` meets its contract. Assumes nothing.
+use native.Mathlib.Omega.{arith}
+use mathlib.Core.Path.{refl}
+use mathlib.Core.Bool.{_&&_}
+use lib.ListN.{length}
+use borrow.Author.Needs.{needs}
+use Rattle.resolve.specs.Field.{fieldOf}
+use Rattle.resolve.specs.Checks.{isRight, lentOf}
+use Rattle.resolve.proofs.ways.AskedWays.{asked-file, asked-bad, asked-scratch, asked-all, file-small}
+use Rattle.resolve.proofs.ways.FieldWays.{right-as, lent-right, which-inside, field-at}
+use Rattle.resolve.proofs.field.field.Statement.{statement}
+use Rattle.resolve.proofs.field.field.Tie as tie
+
+returns : tie.Need-returns
+returns c =
+    let bad = c .before in
+    let check = bad .before .before in
+    let r = check .check-file in
+    let start = check .before .before .before .before .before .before .before .before in
+    let a = start .args in
+    let good = isRight (a .file .now) (a .rows .now) (a .which) (a .months .now) (a .words .now) in
+    let value = fieldOf (lentOf (a .file .now) (a .rows .now) (a .months .now) (a .words .now)) (a .verbatim) (a .which) in
+    asked-file (a .file .now) good (length (a .scratch .now)) value (a .chunks .now) (a .text .now) (r .result) (r .ensures) _ (bad .f .given .1)
+
+returns-2 : tie.Need-returns-2
+returns-2 c =
+    let chosen = c .before in
+    let y = chosen .is-value in
+    let lent = chosen .before in
+    let x = lent .are-lent in
+    let passed = lent .before in
+    let check = passed .before .before in
+    let r = check .check-file in
+    let start = check .before .before .before .before .before .before .before .before in
+    let a = start .args in
+    let good = isRight (a .file .now) (a .rows .now) (a .which) (a .months .now) (a .words .now) in
+    let value = fieldOf (lentOf (a .file .now) (a .rows .now) (a .months .now) (a .words .now)) (a .verbatim) (a .which) in
+    asked-bad (a .file .now) good (length (a .scratch .now)) value (a .chunks .now) (a .text .now) (r .result) (r .ensures)
+    (passed .enum-told .given .1) (x .result && y .result)
+    (right-as (a .file .now) (a .rows .now) (a .months .now) (a .words .now) (a .which) (x .result) (y .result) (x .ensures) (y .ensures))
+    (c .if1 .taken)
+
+returns-3 : tie.Need-returns-3
+returns-3 c =
+    let right = c .before in
+    let chosen = right .before in
+    let y = chosen .is-value in
+    let lent = chosen .before in
+    let x = lent .are-lent in
+    let passed = lent .before in
+    let check = passed .before .before in
+    let r = check .check-file in
+    let start = check .before .before .before .before .before .before .before .before in
+    let a = start .args in
+    let good = isRight (a .file .now) (a .rows .now) (a .which) (a .months .now) (a .words .now) in
+    let value = fieldOf (lentOf (a .file .now) (a .rows .now) (a .months .now) (a .words .now)) (a .verbatim) (a .which) in
+    asked-scratch (a .file .now) good (length (a .scratch .now)) value (a .chunks .now) (a .text .now) (r .result) (r .ensures)
+    (passed .enum-told .given .1) (x .result && y .result)
+    (right-as (a .file .now) (a .rows .now) (a .months .now) (a .words .now) (a .which) (x .result) (y .result) (x .ensures) (y .ensures))
+    (right .if1 .left) (c .if2 .taken)
+
+mul-write : tie.Need-mul-write
+mul-write c =
+    let right = c .before .before .before in
+    let chosen = right .before in
+    let y = chosen .is-value in
+    let lent = chosen .before in
+    let x = lent .are-lent in
+    let passed = lent .before in
+    let check = passed .before .before in
+    let r = check .check-file in
+    let start = check .before .before .before .before .before .before .before .before in
+    let a = start .args in
+    omega (arith, which-inside (a .file .now) (a .rows .now) (a .months .now) (a .words .now) (a .which) (x .result) (y .result) (x .ensures) (y .ensures) (right .if1 .left))
+
+add-write : tie.Need-add-write
+add-write c =
+    let right = c .before .before .before in
+    let chosen = right .before in
+    let y = chosen .is-value in
+    let lent = chosen .before in
+    let x = lent .are-lent in
+    let passed = lent .before in
+    let check = passed .before .before in
+    let r = check .check-file in
+    let start = check .before .before .before .before .before .before .before .before in
+    let a = start .args in
+    omega (arith, which-inside (a .file .now) (a .rows .now) (a .months .now) (a .words .now) (a .which) (x .result) (y .result) (x .ensures) (y .ensures) (right .if1 .left))
+
+write-requires : tie.Need-write-requires
+write-requires c κs =
+    let table = c .before .before .before .before .before in
+    let names = table .before in
+    let room = names .before in
+    let right = room .before in
+    let chosen = right .before in
+    let y = chosen .is-value in
+    let lent = chosen .before in
+    let x = lent .are-lent in
+    let passed = lent .before in
+    let check = passed .before .before in
+    let r = check .check-file in
+    let start = check .before .before .before .before .before .before .before .before in
+    let a = start .args in
+    let inside = which-inside (a .file .now) (a .rows .now) (a .months .now) (a .words .now) (a .which) (x .result) (y .result) (x .ensures) (y .ensures) (right .if1 .left) in (
+      file-small (a .file .now) (r .result) (r .ensures) (passed .enum-told .given .1),
+      lent-right (a .file .now) (a .rows .now) (a .months .now) (a .words .now) (a .which) (x .result) (y .result) (x .ensures) (y .ensures) (right .if1 .left),
+      record { scratch = room .if2 .left; names = names .names .ensures; marks = table .table .ensures },
+      omega arith,
+      omega (arith, inside),
+    )
+
+returns-4 : tie.Need-returns-4
+returns-4 c =
+    let wrote = c .before .before .before .before .before .before in
+    let w = wrote .write in
+    let room = wrote .before .before .before .before .before .before .before .before in
+    let right = room .before in
+    let chosen = right .before in
+    let y = chosen .is-value in
+    let lent = chosen .before in
+    let x = lent .are-lent in
+    let passed = lent .before in
+    let check = passed .before .before in
+    let r = check .check-file in
+    let start = check .before .before .before .before .before .before .before .before in
+    let a = start .args in
+    let good = isRight (a .file .now) (a .rows .now) (a .which) (a .months .now) (a .words .now) in
+    let value = fieldOf (lentOf (a .file .now) (a .rows .now) (a .months .now) (a .words .now)) (a .verbatim) (a .which) in
+    asked-all (a .file .now) good (length (a .scratch .now)) value (a .chunks .now) (a .text .now) (r .result) (r .ensures)
+    (passed .enum-told .given .1) (x .result && y .result)
+    (right-as (a .file .now) (a .rows .now) (a .months .now) (a .words .now) (a .which) (x .result) (y .result) (x .ensures) (y .ensures))
+    (right .if1 .left) (room .if2 .left) (w .result) _ _
+    (field-at (lentOf (a .file .now) (a .rows .now) (a .months .now) (a .words .now)) (a .verbatim) (a .rows .now) (a .which) refl (a .chunks .now)
+    (a .text .now) (w .result) _ _ (w .ensures))
+
+pub field-spec : {M : Type 1} → statement M
+field-spec =
+    tie.close
+    (tie.spec
+    (λ c κs. search needs)
+    (λ c. search needs)
+    returns
+    (λ c. search needs)
+    (λ c κs. search needs)
+    (λ c κs. search needs)
+    returns-2
+    returns-3
+    (λ c κs. search needs)
+    (λ c κs. search needs)
+    mul-write
+    add-write
+    (λ c. search needs)
+    (λ c. search needs)
+    write-requires
+    (λ c. search needs)
+    (λ c. search needs)
+    (λ c. search needs)
+    returns-4)

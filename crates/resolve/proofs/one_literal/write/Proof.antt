@@ -1,0 +1,99 @@
+-- `resolve::one_literal::write` meets its contract. Assumes nothing.
+use Prim.Native.Nat.{_≤_}
+use native.Mathlib.Omega.{arith}
+use mathlib.Core.Path.{_≡_, sym, _∙_}
+use lib.ListN.{length}
+use borrow.Author.Needs.{needs}
+use Rattle.literal.specs.Literal.{resolveLiteral}
+use Rattle.literal.specs.Inner.{ReadyLiteral}
+use Rattle.resolve.proofs.ways.WriteWays.{write-few, write-refused, write-full, write-done}
+use Rattle.resolve.proofs.one_literal.write.Statement.{statement}
+use Rattle.resolve.proofs.one_literal.write.Tie as tie
+
+parse-requires : tie.Need-parse-requires
+parse-requires c κs =
+    let p = c .before .before .before .before .before .before .before .before .pre in
+    record {
+      file = p .0;
+      scratch = p .1;
+      value = omega arith;
+      rows = omega arith;
+      names = p .2;
+      marks = p .3;
+    }
+
+returns : tie.Need-returns
+returns c =
+    let told = c .before .before in
+    let parse = told .before .before .before .before .before in
+    let a = parse .before .before .before .before .before .before .before .before .before .args in
+    write-full (resolveLiteral (a .verbatim) (a .s .now) (a .base)) _ (parse .parse .result) _ _ (parse .parse .ensures .0) (a .chunks .now)
+    (a .text .now) (told .rows .given .0 .0) (told .rows .given .0 .1 .0) (told .rows .given .1) (parse .parse .ensures .1) (c .if1 .taken)
+
+copy-requires : tie.Need-copy-requires
+copy-requires c κs =
+    let told = c .before .before .before .before in
+    let parse = told .before .before .before .before .before in
+    let begin = parse .before .before .before .before .before .before .before .before .before in
+    let a = begin .args in
+    let few = write-few (resolveLiteral (a .verbatim) (a .s .now) (a .base)) _ (parse .parse .result) _ _ (parse .parse .ensures .0)
+    (a .chunks .now)
+    (a .text .now) (told .rows .given .0 .0) (told .rows .given .0 .1 .0) (told .rows .given .1) (parse .parse .ensures .1) in
+    (omega arith, omega (arith, few .0, begin .pre .1, parse .parse .kept .1 .1 .1 .1 .1 .0), omega (arith, few .0))
+
+parse-requires-2 : tie.Need-parse-requires-2
+parse-requires-2 c κs =
+    let parse = c .before .before .before .before .before .before .before .before .before .before .before .before .before .before in
+    let p = parse .before .before .before .before .before .before .before .before .before .pre in
+    record {
+      file = p .0;
+      scratch = omega (arith, p .1, parse .parse .kept .1 .1 .1 .1 .1 .0);
+      value = omega arith;
+      rows = omega arith;
+      names = p .2;
+      marks = p .3;
+    }
+
+returns-2 : tie.Need-returns-2
+returns-2 c =
+    let bad = c .before in
+    let parse = bad .before .before .before .before .before in
+    let a = parse .before .before .before .before .before .before .before .before .before .args in
+    write-refused (resolveLiteral (a .verbatim) (a .s .now) (a .base)) _ (parse .parse .result) _ _ (parse .parse .ensures .0) (a .chunks .now)
+    (a .text .now) (bad .f .given .0 .0) (bad .f .given .1)
+
+returns-3 : tie.Need-returns-3
+returns-3 c =
+    let again = c .before .before .before .before in
+    let copy = again .before .before .before .before .before in
+    let room = copy .before .before .before in
+    let told = room .before .before in
+    let parse = told .before .before .before .before .before in
+    let begin = parse .before .before .before .before .before .before .before .before .before in
+    let a = begin .args in
+    let few = write-few (resolveLiteral (a .verbatim) (a .s .now) (a .base)) _ (parse .parse .result) _ _ (parse .parse .ensures .0)
+    (a .chunks .now)
+    (a .text .now) (told .rows .given .0 .0) (told .rows .given .0 .1 .0) (told .rows .given .1) (parse .parse .ensures .1) in
+    write-done (resolveLiteral (a .verbatim) (a .s .now) (a .base)) _ (parse .parse .result) _ _ (parse .parse .ensures .0) (a .chunks .now)
+    (a .text .now) (told .rows .given .0 .0) (told .rows .given .0 .1 .0) (told .rows .given .1) (parse .parse .ensures .1) (room .if1 .left)
+    (omega (arith, few .0, begin .pre .1, parse .parse .kept .1 .1 .1 .1 .1 .0)) (copy .copy .result) _ (copy .copy .ensures .0)
+    (again .parse2 .result) _ _ (again .parse2 .ensures .0)
+
+pub write-spec : {M : Type 1} → statement M
+write-spec =
+    tie.close
+    (tie.spec
+    (λ c. search needs)
+    parse-requires
+    (λ c. search needs)
+    (λ c. search needs)
+    (λ c. search needs)
+    returns
+    copy-requires
+    parse-requires-2
+    (λ c. search needs)
+    returns-2
+    (λ c. search needs)
+    (λ c. search needs)
+    (λ c. search needs)
+    returns-3)

@@ -1,0 +1,69 @@
+-- What the lent numbers and bytes hold while the elements of a value are resolved one after the other. For src/progress.rt and src/field.rt.
+--     Has           the chunks so far, as the code has them
+--     SaysRun       what a function answers that takes the definition of Field.antt further
+--     Ready         what the functions ask
+-- Assumes nothing.
+use Prim.Native.Nat.{ℕ, suc, _+_, _*_, _≤_, _<_}
+use mathlib.Core.Path.{_≡_}
+use mathlib.Core.Bool.{Bool, true, false, not}
+use mathlib.Core.List.{List, [], _∷_, _++_}
+use lib.ListN.{length}
+use lib.Seq.{sets}
+use Rattle.text.specs.Scan.{part}
+use Rattle.literal.specs.declared.rows.Rows.{Rows}
+use Rattle.chunk.specs.Chunk.{Chunk}
+use Rattle.compose.specs.Lookup.{numbers}
+use Rattle.compose.specs.Composites.{composites}
+use Rattle.command.specs.Names.{names as allNames}
+use Rattle.literal.specs.Content.{flatten}
+use Rattle.literal.specs.Rows.{RowsHold, textsOf}
+use Rattle.resolve.specs.declared.answer.Answer.{Answer}
+use Rattle.resolve.specs.declared.answer.Answer.the-variants as answer
+use Rattle.resolve.specs.declared.progress.Progress.{Progress}
+use Rattle.resolve.specs.declared.progress.Went.{Went}
+use Rattle.resolve.specs.declared.progress.Went.the-variants as went
+use Rattle.resolve.specs.Resolves.{mostWritten, small}
+use Rattle.resolve.specs.Field.{Run, done, stop}
+
+-- the chunks ps: more than can be written, or exactly these. The lent numbers were b₀ and the lent bytes t₀ before any chunk
+pub record Has (ps : List Chunk) (b₀ t₀ : List ℕ) (st : Progress) (b t : List ℕ) : Type 0 where
+  pub over : st .over ≡ not (small (flatten ps))
+  pub bytes : st .over ≡ false → st .bytes ≡ length (textsOf ps)
+  pub rows : st .over ≡ false → RowsHold (flatten ps) b₀ (st .rows) b
+  pub text : st .over ≡ false → t ≡ sets t₀ 0 (textsOf ps)
+
+-- the counts are small, so that none overflows
+pub record Bounded (st : Progress) : Type 0 where
+  pub bytes : st .bytes ≤ mostWritten
+  pub rows : st .rows .n ≤ mostWritten
+  pub names : st .names ≤ 4096
+
+abbrev pub answerOf : Progress → Answer
+answerOf st = answer.Chunks (st .rows .n) (st .bytes) (st .names)
+
+-- the chunks cs are appended
+abbrev pub Adds : List Chunk → Progress → List ℕ → List ℕ → Progress → List ℕ → List ℕ → Type 0
+Adds cs st b t st′ b′ t′ = (ps : List Chunk) (b₀ t₀ : List ℕ) → Has ps b₀ t₀ st b t → Has (ps ++ cs) b₀ t₀ st′ b′ t′
+
+-- chunks whose rows are k and whose text stands in s from a to e are appended, where the text before them is t. What is said of them is asked
+-- only where what stands before them could be written
+abbrev pub Appends : Rows → List ℕ → ℕ → ℕ → Progress → List ℕ → Progress → List ℕ → Type 0
+Appends k s a e st t st′ t′ =
+    (ps cs : List Chunk) (b₀ t₀ b b′ : List ℕ) → (st .over ≡ false → textsOf cs ≡ part s a e) → Has ps b₀ t₀ st b t
+    → (st .over ≡ false → st .bytes + e ≤ mostWritten + a → RowsHold (flatten (ps ++ cs)) b₀ k b′) → Has (ps ++ cs) b₀ t₀ st′ b′ t′
+
+abbrev pub SaysRun : Run → Progress → List ℕ → List ℕ → Went → List ℕ → List ℕ → Type 0
+SaysRun (done cs n) st b t (went.Done st′) b′ t′ = (st′ .names ≡ n) × Adds cs st b t st′ b′ t′
+SaysRun (done cs n) st b t (went.Refused f) b′ t′ = ⊥
+SaysRun (stop g) st b t (went.Done st′) b′ t′ = ⊥
+SaysRun (stop g) st b t (went.Refused f) b′ t′ = f ≡ g
+
+abbrev pub BoundedWent : Went → Type 0
+BoundedWent (went.Done st) = Bounded st
+BoundedWent (went.Refused f) = Unit {0}
+
+-- the scratch and the tables
+pub record Ready (w byName byMark : List ℕ) : Type 0 where
+  pub scratch : 32768 ≤ length w
+  pub names : byName ≡ allNames
+  pub marks : byMark ≡ numbers composites
