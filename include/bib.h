@@ -2,21 +2,27 @@
  *
  * Every call returns, for any bytes and any sizes of what it is lent, and answers a status: 0 if it
  * accepts, or else the number of its refusal, one of those below. What else it has to say comes back
- * in three lent numbers, which every call sets:
+ * in lent numbers, which every call sets:
  *
  *   count   how many rows (of bib_pack and the writers: bytes) it wrote; 0 if it refuses
  *   start   where the refusal's place begins, a byte of the file or text; 0 if it accepts
  *   end     where it ends; 0 if it accepts
  *
+ * A call that resolves has two more, between count and start:
+ *
+ *   bytes   how many bytes of text it wrote; 0 if it refuses
+ *   names   how many names it resolved; 0 if it refuses
+ *
  * A refusal leaves what is lent for rows or bytes as it was. What is accepted leaves all that lies
- * past the answer as it was.
+ * past the answer as it was. Scratch, which the calls that resolve are lent too, holds zeros after
+ * every call, whatever it held.
  *
  * A row is four numbers: kind, detail, start, end. The length of what is lent for rows counts
  * numbers; those past the last whole row are no room, and stay as they were.
  *
- * A chunk row, which the writers take, is five numbers: kind, text start, text end, span start, span
- * end. The chunk is the bytes from text start to text end of the text lent with it; the writers do
- * not look at the span.
+ * A chunk row, which resolving gives and the writers take, is five numbers: kind, text start, text
+ * end, span start, span end. The chunk is the bytes from text start to text end of the text that
+ * belongs to it; its span is where it stands in the file. The writers do not look at the span.
  *
  * What is lent must not overlap. What has length 0 is not looked at, and its pointer may be null.
  * Nothing is allocated and nothing is kept between calls, so that threads may call at once.
@@ -47,13 +53,22 @@ extern "C" {
 /* The numbers of a chunk row. */
 #define BIB_CHUNK_NUMBERS 5
 
+/* The most bytes that a literal may have to be resolved, and the least that scratch must have. */
+#define BIB_MOST_LITERAL 16384
+#define BIB_LEAST_SCRATCH 32768
+
+/* The most names that are resolved in a field, month words included, and the numbers of a month word. */
+#define BIB_MOST_NAMES 4096
+#define BIB_MONTH_NUMBERS 4
+
 /* Numbers that are enough for the rows of every file of so many bytes, salvaged or read strictly. */
 #define BIB_ENOUGH_NUMBERS(file_len) (((size_t)(file_len) + 1) * BIB_ROW_NUMBERS)
 
 /* What the status says. A place is start..end; 0..0 where none is named here. */
 enum bib_status {
     BIB_OK = 0,
-    BIB_TOO_LONG = 1,                 /* the file has more than BIB_MOST_BYTES */
+    BIB_TOO_LONG = 1,                 /* the file has more than BIB_MOST_BYTES; or, at its place, a
+                                         literal has more than BIB_MOST_LITERAL */
     BIB_NOT_UTF8 = 2,                 /* n..n, the first byte of the first ill-formed sequence */
     BIB_UNEXPECTED_EOF = 3,           /* n..n, as all to 10: the text ends, or no value begins */
     BIB_EXPECTED_IDENTIFIER = 4,
@@ -63,8 +78,16 @@ enum bib_status {
     BIB_EXPECTED_QUOTATION_MARK = 8,
     BIB_EXPECTED_EQUALS = 9,
     BIB_UNEXPECTED_DECIMAL_POINT = 10,
+    BIB_UNEXPECTED_CLOSING_BRACE = 11, /* that byte, in a literal */
+    BIB_UNKNOWN_ABBREVIATION = 12,    /* the name's use, as all to 15: no definition, no month word */
+    BIB_CYCLIC = 13,                  /* a name that is being resolved already */
+    BIB_TOO_DEEP = 14,                /* a name inside 32 others; or, in a literal, the opening brace of
+                                         a command's argument that stands inside 64 others */
+    BIB_TOO_MANY_NAMES = 15,          /* a field's name after BIB_MOST_NAMES others */
     BIB_NO_ROOM = 16,                 /* there is an answer, and more of it than was lent for it */
-    BIB_BAD_ROWS = 17                 /* not a sequence of rows, or a number out of its range */
+    BIB_BAD_ROWS = 17                 /* not a sequence of rows, or a number out of its range; of a
+                                         literal: its ends are reversed, outside the file or inside a
+                                         character; of a field: see bib_resolve_field */
 };
 
 /* What a row is of. */
@@ -130,6 +153,54 @@ uint32_t bib_to_biblatex_string(const uint8_t *text, size_t text_len,
                                 uint32_t verbatim,
                                 uint8_t *bytes, size_t bytes_len,
                                 uint64_t *count, uint64_t *start, uint64_t *end);
+
+/* Resolves the literal that stands in a file from one byte up to another: TeX's commands are
+ * executed, white space becomes single blanks, and what stood in braces or between dollars becomes
+ * chunks of their own. Its chunk rows stand in chunks and their text in text; the spans are bytes of
+ * the file. In a verbatim field, as "file" or "url", commands and dollars mean nothing: verbatim is
+ * 0, or any other number for such a field. A literal of n bytes has at most n + 1 chunks, and at most
+ * 2 * n bytes of text. names is 0.
+ *
+ * Refuses with 1 a file that is too long; then with 2; then with 17 for from and to; then with 16 if
+ * scratch has fewer than BIB_LEAST_SCRATCH bytes; then with 1, at from..to, a literal that is too
+ * long, or with 3, 11 or 14, whichever comes first in it; then with 16 if chunks or text are too
+ * short. */
+uint32_t bib_resolve_literal(const uint8_t *file, size_t file_len,
+                             size_t from, size_t to,
+                             uint32_t verbatim,
+                             uint8_t *scratch, size_t scratch_len,
+                             uint32_t *chunks, size_t chunks_len,
+                             uint8_t *text, size_t text_len,
+                             uint64_t *count, uint64_t *bytes, uint64_t *names,
+                             uint64_t *start, uint64_t *end);
+
+/* Resolves the value of a field: its literals as bib_resolve_literal does, and its names. rows are
+ * those of the file, as reading or salvage gives them, and which is the number of the value's row,
+ * from 0. A name stands for the value of its last definition, wherever that stands in the file; if it
+ * has none, for the text of the first month word that is the same, byte by byte. A month word has four
+ * numbers in months: word start, word end, text start and text end, which are bytes of words. Chunks
+ * of one kind, Normal or Verbatim, that follow each other are joined. The span of a joined chunk begins
+ * where its first begins and ends where its last ends, so its end may come before its start. names is
+ * the number of names resolved, month words included.
+ *
+ * Refuses with 1 a file that is too long; then with 2; then with 17 rows that are no sequence of rows,
+ * a span that is reversed, outside the file or inside a character, a row number which that is not
+ * there or not of a value, or a month word or text that is reversed, outside words or not UTF-8, or
+ * months of no whole count of words; then with 16 if scratch has fewer than BIB_LEAST_SCRATCH bytes;
+ * then with 3, 11 to 15, or 1 at the place of a literal that is too long, whichever comes first as the
+ * value is resolved from left to right, and at one name with the least of them; then with 16 if chunks
+ * or text are too short. */
+uint32_t bib_resolve_field(const uint8_t *file, size_t file_len,
+                           const uint32_t *rows, size_t rows_len,
+                           size_t which,
+                           uint32_t verbatim,
+                           const uint32_t *months, size_t months_len,
+                           const uint8_t *words, size_t words_len,
+                           uint8_t *scratch, size_t scratch_len,
+                           uint32_t *chunks, size_t chunks_len,
+                           uint8_t *text, size_t text_len,
+                           uint64_t *count, uint64_t *bytes, uint64_t *names,
+                           uint64_t *start, uint64_t *end);
 
 #ifdef __cplusplus
 }

@@ -1,4 +1,4 @@
--- A row for each byte of the file, and one more, is always enough room: `enough-room`.
+-- The proof of specs/EnoughRoom.antt: a row for each byte of the file, and one more, is always enough room.
 -- Assumes nothing.
 use Prim.Native.Nat.{ℕ, _/_, _≤_}
 use native.Mathlib.Omega.{arith}

@@ -1,6 +1,8 @@
--- How an outcome is told in lent numbers, and how the contract of an exported call follows.
+-- How an outcome is told in lent numbers, and how the contract of an exported call follows from that.
 --     told-refused     a refusal in lent numbers
 --     exported         a call that tells its outcome meets its contract
+--     told-resolving, exported-resolving
+--                      the same of the calls that resolve
 -- Assumes nothing.
 use Prim.Native.Nat.{ℕ}
 use mathlib.Core.Path.{_≡_, sym, ap, _∙_, subst}
@@ -9,7 +11,10 @@ use Rattle.row.specs.declared.fault.Fault.{Fault}
 use Rattle.row.specs.Fault.{numberOf}
 use Rattle.row.specs.declared.fault.Outcome.{Outcome}
 use Rattle.row.specs.declared.fault.Outcome.the-variants.{Refused}
+use Rattle.resolve.specs.Resolves.{Value, Resolves}
+use Rattle.resolve.specs.declared.answer.Answer.{Answer}
 use Rattle.bib.specs.Export.{statusOf, countOf, placeStart, placeEnd, Told, Exported}
+use Rattle.bib.specs.Export.{ofAnswer, bytesOf, namesOf, ToldResolving, ExportedResolving}
 
 pub told-refused : {f : Fault} {o : Outcome} {r x y : ℕ}
     → o ≡ Refused f → r ≡ numberOf (f .reason) → x ≡ f .start → y ≡ f .end → Told o r 0 x y
@@ -19,3 +24,19 @@ told-refused p number start end =
 
 pub exported : {o g : Outcome} {l b′ : List ℕ} {r n x y : ℕ} → g ≡ o → b′ ≡ l → Told g r n x y → Exported o l r n x y b′
 exported {r = r} {n = n} {x = x} {y = y} e left t = record { told = subst (λ g. Told g r n x y) e t; left = left }
+
+pub told-resolving : {a a′ : Answer} {r k n m x y : ℕ}
+    → a ≡ a′ → Told (ofAnswer a′) r k x y → n ≡ bytesOf a′ → m ≡ namesOf a′ → ToldResolving a r k n m x y
+told-resolving {r = r} {k = k} {x = x} {y = y} p t n m =
+    let e = sym p in
+    record { told = subst (λ a. Told (ofAnswer a) r k x y) e t; text = n ∙ ap bytesOf e; resolved = m ∙ ap namesOf e }
+
+pub exported-resolving : {value : Value} {a : Answer} {w b t w′ b′ t′ : List ℕ} {r k n m x y : ℕ}
+    → Resolves value w b t a w′ b′ t′ → ToldResolving a r k n m x y → ExportedResolving value w b t r k n m x y w′ b′ t′
+exported-resolving {r = r} {k = k} {n = n} {m = m} {x = x} {y = y} h t =
+    record {
+      answer = subst (λ a. ToldResolving a r k n m x y) (h .writes .answer) t;
+      rows = h .writes .rows;
+      text = h .writes .text;
+      scratch = h .scratch;
+    }

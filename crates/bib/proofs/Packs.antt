@@ -1,4 +1,4 @@
--- What salvage gives packs without refusal.
+-- The proof of specs/Packs.antt: what salvage gives packs without refusal.
 -- Assumes nothing.
 use lib.ListN.{length}
 use Rattle.pack.proofs.RoundTrip.{round-trip}

@@ -1,5 +1,5 @@
--- What the exported contracts settle: any two outcomes that one allows are the same status, and leave the same in all that was lent. Stated
--- of each contract as the check reads it off the source, so that a contract which said less would fail here.
+-- Each exported contract allows one outcome only: one status, and one content of all that was lent. This is said of the contract as the
+-- check reads it off the source, so that a contract which said less would fail here.
 -- Assumes nothing.
 use Prim.Native.Nat.{ℕ}
 use mathlib.Core.Path.{_≡_, sym, _∙_}
@@ -8,7 +8,8 @@ use borrow.Fn.Kinds.{Out}
 use denote.Ref.{now}
 use Rattle.text.proofs.general.Outcomes.{Both}
 use Rattle.row.specs.declared.fault.Outcome.{Outcome}
-use Rattle.bib.specs.Export.{Exported}
+use Rattle.resolve.specs.Resolves.{Value}
+use Rattle.bib.specs.Export.{Exported, ExportedResolving}
 use Rattle.bib.proofs.bib_read.Kinds as read-kinds
 use Rattle.bib.proofs.bib_read.Reads as read
 use Rattle.bib.proofs.bib_salvage.Reads as salvage
@@ -19,6 +20,10 @@ use Rattle.bib.proofs.bib_format_verbatim.Kinds as format-verbatim-kind
 use Rattle.bib.proofs.bib_format_verbatim.Reads as format-verbatim
 use Rattle.bib.proofs.bib_to_biblatex_string.Kinds as to-biblatex-string-kinds
 use Rattle.bib.proofs.bib_to_biblatex_string.Reads as to-biblatex-string
+use Rattle.bib.proofs.bib_resolve_literal.Kinds as resolve-literal-kinds
+use Rattle.bib.proofs.bib_resolve_literal.Reads as resolve-literal
+use Rattle.bib.proofs.bib_resolve_field.Kinds as resolve-field-kinds
+use Rattle.bib.proofs.bib_resolve_field.Reads as resolve-field
 
 -- the same status, count, start, end, and rows or bytes
 pub record SameCall (r r′ n n′ x x′ y y′ : ℕ) (b b′ : List ℕ) : Type 0 where
@@ -39,7 +44,7 @@ same-call p q =
       left = p .left ∙ sym (q .left);
     }
 
--- of the calls from bytes to rows
+-- one outcome of a call from bytes to rows
 abbrev OneReading : Out 5 read-kinds.ps read-kinds.r → Type 0
 OneReading allowed =
     Both 5 read-kinds.ps read-kinds.r allowed
@@ -57,7 +62,7 @@ one-bib-salvage κs a x y s t p q = same-call p q
 pub one-bib-unpack : OneReading unpack.Post
 one-bib-unpack κs a x y s t p q = same-call p q
 
--- and from rows to bytes
+-- one outcome of the call from rows to bytes
 abbrev OnePacking : Out 5 pack-kinds.ps pack-kinds.r → Type 0
 OnePacking allowed =
     Both 5 pack-kinds.ps pack-kinds.r allowed
@@ -69,7 +74,7 @@ OnePacking allowed =
 pub one-bib-pack : OnePacking pack.Post
 one-bib-pack κs a x y s t p q = same-call p q
 
--- and of the writers, whose lent bytes come third, or fourth behind the flag
+-- one outcome of each writer; its lent bytes are the third parameter, or the fourth where a flag comes before
 pub one-bib-format-verbatim : Both 6 format-verbatim-kinds.ps format-verbatim-kinds.r format-verbatim.Post
     (λ κs r s r′ t.
     let a = s .1 .1 in
@@ -87,3 +92,54 @@ pub one-bib-to-biblatex-string : Both 6 to-biblatex-string-kinds.ps to-biblatex-
     let m = b .1 in
     SameCall r r′ (now (n .0)) (now (m .0)) (now (n .1 .0)) (now (m .1 .0)) (now (n .1 .1 .0)) (now (m .1 .1 .0)) (now (a .0)) (now (b .0)))
 one-bib-to-biblatex-string κs a x y s t p q = same-call p q
+
+-- of the calls that resolve: the same status, rows, bytes, names, start and end, and scratch, numbers and text
+pub record SameResolving (r r′ k k′ n n′ m m′ x x′ y y′ : ℕ) (w w′ b b′ t t′ : List ℕ) : Type 0 where
+  pub status : r ≡ r′
+  pub rows : k ≡ k′
+  pub bytes : n ≡ n′
+  pub names : m ≡ m′
+  pub start : x ≡ x′
+  pub end : y ≡ y′
+  pub scratch : w ≡ w′
+  pub numbers : b ≡ b′
+  pub text : t ≡ t′
+
+same-resolving : {value : Value} {w₀ b₀ t₀ w w′ b b′ t t′ : List ℕ} {r r′ k k′ n n′ m m′ x x′ y y′ : ℕ}
+    → ExportedResolving value w₀ b₀ t₀ r k n m x y w b t → ExportedResolving value w₀ b₀ t₀ r′ k′ n′ m′ x′ y′ w′ b′ t′
+    → SameResolving r r′ k k′ n n′ m m′ x x′ y y′ w w′ b b′ t t′
+same-resolving p q =
+    record {
+      status = p .answer .told .status ∙ sym (q .answer .told .status);
+      rows = p .answer .told .number ∙ sym (q .answer .told .number);
+      bytes = p .answer .text ∙ sym (q .answer .text);
+      names = p .answer .resolved ∙ sym (q .answer .resolved);
+      start = p .answer .told .from ∙ sym (q .answer .told .from);
+      end = p .answer .told .to ∙ sym (q .answer .told .to);
+      scratch = p .scratch ∙ sym (q .scratch);
+      numbers = p .rows ∙ sym (q .rows);
+      text = p .text ∙ sym (q .text);
+    }
+
+-- the scratch comes fifth, then the numbers and the text, and then the five that tell the answer
+pub one-bib-resolve-literal : Both 9 resolve-literal-kinds.ps resolve-literal-kinds.r resolve-literal.Post
+    (λ κs r s r′ t.
+    let a = s .1 .1 .1 .1 in
+    let b = t .1 .1 .1 .1 in
+    let n = a .1 .1 .1 in
+    let m = b .1 .1 .1 in
+    SameResolving r r′ (now (n .0)) (now (m .0)) (now (n .1 .0)) (now (m .1 .0)) (now (n .1 .1 .0)) (now (m .1 .1 .0))
+    (now (n .1 .1 .1 .0)) (now (m .1 .1 .1 .0)) (now (n .1 .1 .1 .1 .0)) (now (m .1 .1 .1 .1 .0))
+    (now (a .0)) (now (b .0)) (now (a .1 .0)) (now (b .1 .0)) (now (a .1 .1 .0)) (now (b .1 .1 .0)))
+one-bib-resolve-literal κs a x y s t p q = same-resolving p q
+
+pub one-bib-resolve-field : Both 12 resolve-field-kinds.ps resolve-field-kinds.r resolve-field.Post
+    (λ κs r s r′ t.
+    let a = s .1 .1 .1 .1 .1 .1 in
+    let b = t .1 .1 .1 .1 .1 .1 in
+    let n = a .1 .1 .1 in
+    let m = b .1 .1 .1 in
+    SameResolving r r′ (now (n .0)) (now (m .0)) (now (n .1 .0)) (now (m .1 .0)) (now (n .1 .1 .0)) (now (m .1 .1 .0))
+    (now (n .1 .1 .1 .0)) (now (m .1 .1 .1 .0)) (now (n .1 .1 .1 .1 .0)) (now (m .1 .1 .1 .1 .0))
+    (now (a .0)) (now (b .0)) (now (a .1 .0)) (now (b .1 .0)) (now (a .1 .1 .0)) (now (b .1 .1 .0)))
+one-bib-resolve-field κs a x y s t p q = same-resolving p q

@@ -2,13 +2,15 @@
 --     ofReading     what a reading comes to
 --     isSet         a flag of C
 --     Told          an outcome in lent numbers
---     Exported      the contract of every exported call: an outcome, and all that is left in the lent rows or bytes
+--     Exported      the contract of every exported call that writes one thing: an outcome, and all that is left in the lent rows or bytes
+--     ToldResolving, ExportedResolving
+--                   the same of the calls that resolve, which write rows and text, and are lent scratch
 -- Assumes nothing.
 use Prim.Native.Nat.{ℕ}
 use mathlib.Core.Path.{_≡_}
 use mathlib.Core.Bool.{Bool, not}
 use mathlib.Core.List.{List}
-use lib.ListN.{length}
+use lib.ListN.{length, replicate}
 use lib.Dec.{eqb}
 use Rattle.row.specs.declared.fault.Outcome.{Outcome}
 use Rattle.row.specs.declared.fault.Outcome.the-variants.{Count, Refused}
@@ -22,6 +24,11 @@ use Rattle.chunk.specs.Format.{formatVerbatim, toBiblatexString}
 use Rattle.chunk.specs.Write.{checkedOf, writingOf, writtenInto}
 use Rattle.pack.specs.Pack.{packedOf, packedInto}
 use Rattle.pack.specs.Unpack.{unpackedOf, unpackedInto}
+use Rattle.resolve.specs.Resolves.{Value, told, rowsLeft, textLeft}
+use Rattle.resolve.specs.OneLiteral.{literalOf}
+use Rattle.resolve.specs.OneField.{valueAt}
+use Rattle.resolve.specs.declared.answer.Answer.{Answer}
+use Rattle.resolve.specs.declared.answer.Answer.the-variants as answer
 
 -- ---- outcomes
 
@@ -85,3 +92,39 @@ isSet n = not (eqb n 0)
 
 abbrev pub ExportedToBiblatexString : Bool → List ℕ → List ℕ → List ℕ → ℕ → ℕ → ℕ → ℕ → List ℕ → Type 0
 ExportedToBiblatexString verb t l = ExportedWriting (toBiblatexString verb (chunksOf t l)) t l
+
+-- ---- calls that resolve
+
+-- the number of chunk rows, or the refusal; beside it the bytes of text, and the names resolved, or 0
+abbrev pub ofAnswer : Answer → Outcome
+ofAnswer (answer.Chunks k n m) = Count k
+ofAnswer (answer.Refused f) = Refused f
+
+abbrev pub bytesOf : Answer → ℕ
+bytesOf (answer.Chunks k n m) = n
+bytesOf (answer.Refused f) = 0
+
+abbrev pub namesOf : Answer → ℕ
+namesOf (answer.Chunks k n m) = m
+namesOf (answer.Refused f) = 0
+
+pub record ToldResolving (a : Answer) (r count bytes names start end : ℕ) : Type 0 where
+  pub told : Told (ofAnswer a) r count start end
+  pub text : bytes ≡ bytesOf a
+  pub resolved : names ≡ namesOf a
+
+-- a call that comes to a value, over the lent scratch w, numbers b and bytes t, answers r, tells the answer, and leaves w′, b′ and t′
+pub record ExportedResolving (value : Value) (w b t : List ℕ) (r count bytes names start end : ℕ) (w′ b′ t′ : List ℕ) : Type 0 where
+  pub answer : ToldResolving (told value b t) r count bytes names start end
+  pub rows : b′ ≡ rowsLeft value b t
+  pub text : t′ ≡ textLeft value b t
+  pub scratch : w′ ≡ replicate (length w) 0
+
+-- `bib_resolve_literal` of the literal that stands in the file from a to e, of a verbatim field or another
+abbrev pub ExportedLiteral : List ℕ → ℕ → ℕ → Bool → List ℕ → List ℕ → List ℕ → ℕ → ℕ → ℕ → ℕ → ℕ → ℕ → List ℕ → List ℕ → List ℕ → Type 0
+ExportedLiteral file a e verb w = ExportedResolving (literalOf file a e verb (length w)) w
+
+-- `bib_resolve_field` of the value whose row is number `which`, of a verbatim field or another
+abbrev pub ExportedField : List ℕ → List ℕ → ℕ → Bool → List ℕ → List ℕ → List ℕ → List ℕ → List ℕ → ℕ → ℕ → ℕ → ℕ → ℕ → ℕ
+    → List ℕ → List ℕ → List ℕ → Type 0
+ExportedField file rows which verb months words w = ExportedResolving (valueAt file rows which verb months words (length w)) w

@@ -1,3 +1,4 @@
 pub mod Export
 pub mod Packs
 pub mod EnoughRoom
+pub mod EdgeTable

@@ -1,14 +1,18 @@
 // The library for other languages: thin functions over the crates below, without `requires`. host/ has safe wrappers for Rust.
 //
 // Each answers 0, or document 01's number of the refusal. What else it has to say comes back in lent numbers: `count`, of the rows or bytes
-// that it wrote, or 0; `start` and `end`, the refusal's place, or 0. A refusal leaves what was lent for rows or bytes as it was, and what
-// lies past an answer stays as it was. include/bib.h says all this to C.
+// that it wrote, or 0; `start` and `end`, the refusal's place, or 0. A resolving call writes rows and bytes, and resolves names: `bytes` and
+// `names` tell how many, or 0. A refusal leaves what was lent for rows or bytes as it was, and what lies past an answer stays as it was.
+// Scratch holds zeros after the call, whatever it held. include/bib.h says all this to C.
 use chunk::biblatex;
 use chunk::format;
 use pack::packing;
 use pack::unpacking;
 use raw::answer::Reading;
 use raw::file;
+use resolve::answer::Answer;
+use resolve::field;
+use resolve::one_literal;
 use row::fault;
 use row::fault::Outcome;
 ghost use mathlib.Core.Path.{_≡_};
@@ -16,6 +20,7 @@ ghost use Rattle.raw.specs.Read.{strict};
 ghost use Rattle.salvage.specs.Salvage.{salvaged};
 ghost use Rattle.bib.specs.Export.{ofReading, isSet, Told, ExportedReading, ExportedPack, ExportedUnpack};
 ghost use Rattle.bib.specs.Export.{ExportedFormatVerbatim, ExportedToBiblatexString};
+ghost use Rattle.bib.specs.Export.{ToldResolving, ExportedLiteral, ExportedField};
 
 // What a reading comes to.
 fn of_reading(reading: Reading) -> Outcome
@@ -46,6 +51,35 @@ fn tell(outcome: Outcome, count: &mut u64, start: &mut u64, end: &mut u64) -> u3
             *start = from as u64;
             *end = to as u64;
             return fault::number(reason);
+        }
+    }
+}
+
+// What resolving comes to, in lent numbers.
+fn tell_resolving(
+    answer: Answer,
+    count: &mut u64,
+    bytes: &mut u64,
+    names: &mut u64,
+    start: &mut u64,
+    end: &mut u64,
+) -> u32
+    ensures { λ r. ⌜ ToldResolving answer r (now (count .exit)) (now (bytes .exit)) (now (names .exit)) (now (start .exit)) (now (end .exit)) ⌝ }
+{
+    match answer {
+        Answer::Chunks {
+            rows,
+            bytes: written,
+            names: resolved,
+        } => {
+            *bytes = written as u64;
+            *names = resolved as u64;
+            return tell(Outcome::Count(rows), count, start, end);
+        }
+        Answer::Refused(f) => {
+            *bytes = 0;
+            *names = 0;
+            return tell(Outcome::Refused(f), count, start, end);
         }
     }
 }
@@ -148,4 +182,75 @@ pub extern "C" fn bib_to_biblatex_string(
 {
     let written = biblatex::to_biblatex_string(text, rows, verbatim != 0, bytes);
     tell(written, count, start, end)
+}
+
+// Resolves the literal that stands in a file from a place to another, of a verbatim field unless `verbatim` is 0. Its chunk rows stand in
+// `chunks`, five numbers to a row, and their text in `text`. No name is resolved in a literal: `names` is 0.
+#[no_mangle]
+pub extern "C" fn bib_resolve_literal(
+    file: &[u8],
+    from: usize,
+    to: usize,
+    verbatim: u32,
+    scratch: &mut [u8],
+    chunks: &mut [u32],
+    text: &mut [u8],
+    count: &mut u64,
+    bytes: &mut u64,
+    names: &mut u64,
+    start: &mut u64,
+    end: &mut u64,
+) -> u32
+    ensures { λ r. ⌜ ExportedLiteral (now (file .entry)) from to (isSet verbatim) (now (scratch .entry)) (now (chunks .entry)) (now (text .entry)) r
+        (now (count .exit)) (now (bytes .exit)) (now (names .exit)) (now (start .exit)) (now (end .exit))
+        (now (scratch .exit)) (now (chunks .exit)) (now (text .exit)) ⌝ }
+{
+    let resolved = one_literal::resolve_literal(
+        file,
+        from,
+        to,
+        verbatim != 0,
+        scratch,
+        chunks,
+        text,
+    );
+    tell_resolving(resolved, count, bytes, names, start, end)
+}
+
+// Resolves the value whose row is number `which` of the rows, from 0, with the names in it. A month word has four numbers in `months`: where
+// the word begins and ends in `words`, and where its text does.
+#[no_mangle]
+pub extern "C" fn bib_resolve_field(
+    file: &[u8],
+    rows: &[u32],
+    which: usize,
+    verbatim: u32,
+    months: &[u32],
+    words: &[u8],
+    scratch: &mut [u8],
+    chunks: &mut [u32],
+    text: &mut [u8],
+    count: &mut u64,
+    bytes: &mut u64,
+    names: &mut u64,
+    start: &mut u64,
+    end: &mut u64,
+) -> u32
+    ensures { λ r. ⌜ ExportedField (now (file .entry)) (now (rows .entry)) which (isSet verbatim) (now (months .entry)) (now (words .entry))
+        (now (scratch .entry)) (now (chunks .entry)) (now (text .entry)) r
+        (now (count .exit)) (now (bytes .exit)) (now (names .exit)) (now (start .exit)) (now (end .exit))
+        (now (scratch .exit)) (now (chunks .exit)) (now (text .exit)) ⌝ }
+{
+    let resolved = field::resolve_field(
+        file,
+        rows,
+        which,
+        verbatim != 0,
+        months,
+        words,
+        scratch,
+        chunks,
+        text,
+    );
+    tell_resolving(resolved, count, bytes, names, start, end)
 }
