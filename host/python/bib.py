@@ -20,14 +20,19 @@ import os
 import pathlib
 from typing import Iterable, NamedTuple, Tuple
 
-__all__ = ["Chunk", "Kind", "MOST_BYTES", "Refusal", "Row"]
-__all__ += ["format_verbatim", "pack", "read", "salvage", "to_biblatex_string", "unpack"]
+__all__ = ["Chunk", "ChunkRow", "Kind", "MOST_BYTES", "MOST_LITERAL", "Refusal", "Resolved", "Row"]
+__all__ += ["format_verbatim", "pack", "read", "resolve_field", "resolve_literal", "salvage", "to_biblatex_string", "unpack"]
 
-# The most bytes that a file may have; the numbers of a row, the bytes of a packed one, and the numbers of a chunk row.
+# The most bytes that a file may have, and a literal that is resolved; the numbers of a row, the bytes of a packed one, and the
+# numbers of a chunk row; and the least scratch.
 MOST_BYTES = 16_777_215
+MOST_LITERAL = 16_384
 _NUMBERS = 4
 _BYTES = 7
 _CHUNK_NUMBERS = 5
+_LEAST_SCRATCH = 32_768
+# More chunks or bytes of text than this are never written, however much is lent.
+_MOST_WRITTEN = 4_294_000_000
 
 _NO_ROOM = 16
 
@@ -65,6 +70,25 @@ class Row(NamedTuple):
     end: int
 
 
+class ChunkRow(NamedTuple):
+    """A chunk of this kind: the bytes text_start..text_end of its text, which stood in the file at start..end."""
+
+    kind: int
+    text_start: int
+    text_end: int
+    start: int
+    end: int
+
+
+class Resolved(NamedTuple):
+    """What is resolved: the text of its chunks, their rows, and how many names were resolved, month words included. A literal has
+    none."""
+
+    text: bytes
+    chunks: Tuple[ChunkRow, ...]
+    names: int
+
+
 _WHAT = {
     1: "the file is longer than 16,777,215 bytes",
     2: "bytes that are not UTF-8",
@@ -76,6 +100,11 @@ _WHAT = {
     8: "expected a quotation mark",
     9: "expected an equals sign",
     10: "unexpected decimal point",
+    11: "unexpected closing brace",
+    12: "a name without a definition",
+    13: "a name that is used in its own definition",
+    14: "too many names or arguments of commands inside each other",
+    15: "more than 4,096 names in one field",
     16: "there is not enough room for the answer",
     17: "these are not well-formed rows",
 }
@@ -85,8 +114,11 @@ class Refusal(ValueError):
     """What was refused: its number, and its place, the bytes start..end."""
 
     def __init__(self, number: int, start: int, end: int):
-        place = "" if number in (1, _NO_ROOM, 17) else f" at byte {start}"
-        super().__init__(f"{_WHAT.get(number, 'refused')}{place} (refusal {number})")
+        # A file that is too long has 0..0, a literal its own place.
+        is_literal = number == 1 and end > 0
+        what = "a literal is longer than 16,384 bytes" if is_literal else _WHAT.get(number, "refused")
+        place = "" if number in (1, _NO_ROOM, 17) and not is_literal else f" at byte {start}"
+        super().__init__(f"{what}{place} (refusal {number})")
         self.number = number
         self.start = start
         self.end = end
@@ -107,10 +139,9 @@ def _find() -> str:
 _LENT = [ctypes.c_void_p, ctypes.c_size_t]
 
 
-def _function(name: str, given: list):
+def _function(name: str, given: list, numbers: int = 3):
     function = getattr(_library, name)
-    number = ctypes.POINTER(ctypes.c_uint64)
-    function.argtypes = given + _LENT + [number, number, number]
+    function.argtypes = given + _LENT + [ctypes.POINTER(ctypes.c_uint64)] * numbers
     function.restype = ctypes.c_uint32
     return function
 
@@ -119,6 +150,9 @@ _library = ctypes.CDLL(_find())
 _read, _salvage, _pack, _unpack = (_function(name, _LENT) for name in ("bib_read", "bib_salvage", "bib_pack", "bib_unpack"))
 _format_verbatim = _function("bib_format_verbatim", _LENT + _LENT)
 _to_biblatex_string = _function("bib_to_biblatex_string", _LENT + _LENT + [ctypes.c_uint32])
+_PLACES = [ctypes.c_size_t, ctypes.c_size_t]
+_resolve_literal = _function("bib_resolve_literal", _LENT + _PLACES + [ctypes.c_uint32] + _LENT + _LENT, 5)
+_resolve_field = _function("bib_resolve_field", _LENT + _LENT + [ctypes.c_size_t, ctypes.c_uint32] + _LENT * 4, 5)
 
 
 def _call(function, given: tuple, room) -> int:
@@ -197,3 +231,59 @@ def format_verbatim(text: bytes, chunks: Iterable[Tuple[int, int, int, int, int]
 def to_biblatex_string(text: bytes, chunks: Iterable[Tuple[int, int, int, int, int]], is_verbatim: bool) -> str:
     """Writes chunks as a BibLaTeX string, for a verbatim field, as `file` or `url`, or another."""
     return _written(_to_biblatex_string, text, chunks, (int(bool(is_verbatim)),), 2)
+
+
+def resolve_literal(file: bytes, start: int, end: int, is_verbatim: bool) -> Resolved:
+    """Resolves the literal that stands in a file at start..end, of a verbatim field, as `file` or `url`, or another."""
+    file = bytes(file)
+    # What cannot be lent as a place lies outside the file.
+    start, end = (place if 0 <= place <= len(file) else len(file) + 1 for place in (start, end))
+    # A literal of n bytes has at most n + 1 chunks and 2 * n bytes of text. A longer one than the most is refused.
+    length = min(max(end - start, 0), MOST_LITERAL)
+    return _resolved(_resolve_literal, (file, len(file), start, end, int(bool(is_verbatim))), length + 1, 2 * length)
+
+
+def _resolved(function, given: tuple, most_chunks: int, most_text: int) -> Resolved:
+    """What a call that resolves gives, with room for so many chunks and so much text."""
+    scratch = (ctypes.c_uint8 * _LEAST_SCRATCH)()
+    rows = (ctypes.c_uint32 * (most_chunks * _CHUNK_NUMBERS))()
+    text = (ctypes.c_uint8 * most_text)()
+    told = [ctypes.c_uint64() for _ in range(5)]
+    status = function(*given, scratch, len(scratch), rows, len(rows), text, len(text), *map(ctypes.byref, told))
+    count, written, names, place, place_end = (number.value for number in told)
+    if status != 0:
+        raise Refusal(status, place, place_end)
+    numbers = rows[: count * _CHUNK_NUMBERS]
+    chunks = (ChunkRow(*numbers[i : i + _CHUNK_NUMBERS]) for i in range(0, len(numbers), _CHUNK_NUMBERS))
+    return Resolved(bytes(text[:written]), tuple(chunks), names)
+
+
+def resolve_field(
+    file: bytes, rows: Iterable[Tuple[int, int, int, int]], which: int, is_verbatim: bool, months: Iterable[Tuple[str, str]] = ()
+) -> Resolved:
+    """Resolves the value whose row is number `which` of the file's rows, of a verbatim field, as `file` or `url`, or another. A name
+    stands for its last definition or, if it has none, for the text of the first month word that is the same; months are words with
+    their texts."""
+    file = bytes(file)
+    lent = _numbers(rows)
+    # What cannot be lent as a row's number is past the rows.
+    which = which if 0 <= which < len(lent) // _NUMBERS else len(lent)
+    places, words = [], b""
+    for part in (part.encode() for month in months for part in month):
+        places += [len(words), len(words) + len(part)]
+        words += part
+    month_rows = (ctypes.c_uint32 * len(places))(*places)
+    given = (file, len(file), lent, len(lent), which, int(bool(is_verbatim)), month_rows, len(month_rows), words, len(words))
+    # How much a field needs is not known before its names are resolved. At first enough for literals alone; then more, as long as the
+    # call writes so much and memory lasts.
+    start, end = lent[4 * which + 2 : 4 * which + 4] or (0, 0)
+    room = min(max(end - start, 0), len(file)) + 256
+    while True:
+        try:
+            return _resolved(_resolve_field, given, room, 2 * room)
+        except Refusal as refusal:
+            if refusal.number != _NO_ROOM or room >= _MOST_WRITTEN:
+                raise
+        except MemoryError:
+            raise Refusal(_NO_ROOM, 0, 0) from None
+        room *= 4

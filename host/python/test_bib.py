@@ -86,6 +86,66 @@ class Writing(unittest.TestCase):
                 self.assertEqual((refusal.number, refusal.start, refusal.end), (number, place, place))
 
 
+class Resolving(unittest.TestCase):
+    def test_answers(self):
+        resolved = bib.resolve_literal("é{\\'e} --$x$é".encode(), 2, 13, False)
+        self.assertEqual(resolved.text.decode(), "é –x")
+        want = [(0, 0, 0, 2, 2), (1, 0, 2, 3, 6), (0, 2, 6, 7, 10), (2, 6, 7, 11, 12)]
+        self.assertEqual(list(resolved.chunks), want)
+        self.assertEqual(resolved.names, 0)
+        self.assertEqual((resolved.chunks[3].kind, resolved.chunks[3].start), (Chunk.MATH, 11))
+        self.assertEqual(bib.format_verbatim(resolved.text, resolved.chunks), "é –$x$")
+        self.assertEqual(bib.resolve_literal(b"$x", 0, 2, True).text, b"$x")
+        self.assertEqual(bib.resolve_literal(b"", 0, 0, False), (b"", ((0, 0, 0, 0, 0),), 0))
+
+    def test_most_room(self):
+        """What takes the most rows and the most text, at every length and at the longest."""
+        for part in (b"{}", b"$$", b"{}a", b"--", b"\\ ", b"\\x"):
+            for count in [*range(20), bib.MOST_LITERAL // len(part)]:
+                literal = part * count
+                bib.resolve_literal(literal, 0, len(literal), False)
+
+    def test_refusals(self):
+        deep = b"\\a{" * 65 + b"}" * 65
+        cases = [(b"..$x", 2, 4, 3, 4, 4), (b"a}", 0, 2, 11, 1, 2), (deep, 0, len(deep), 14, 194, 195), (b"a\xff", 0, 1, 2, 1, 1)]
+        cases += [(b"a" * 16_386, 1, 16_386, 1, 1, 16_386)]
+        cases += [(b"a\xc3\xa9", start, end, 17, 0, 0) for start, end in [(1, 0), (0, 2), (0, 4), (-1, 1), (0, -1), (0, 1 << 70)]]
+        for file, start, end, *want in cases:
+            with self.assertRaises(Refusal) as caught:
+                bib.resolve_literal(file, start, end, False)
+            refusal = caught.exception
+            self.assertEqual([refusal.number, refusal.start, refusal.end], want)
+        self.assertEqual(str(Refusal(1, 1, 16_386)), "a literal is longer than 16,384 bytes at byte 1 (refusal 1)")
+
+    def test_fields(self):
+        def field(file: bytes, *more):
+            rows = bib.read(file)
+            which = next(i for i, row in enumerate(rows) if row.kind == Kind.FIELD_NAME) + 1
+            return bib.resolve_field(file, rows, which, *more)
+
+        file = b"@b{k,t=a#{y}}@string{a={x}}"
+        self.assertEqual(field(file, False), (b"xy", ((0, 0, 2, 24, 11),), 1))
+        months = [("may", "May"), ("may", "Mai"), ("a", "é")]
+        self.assertEqual(field(b"@b{k,t=may#{--}}", True, months).text, b"May--")
+        self.assertEqual(field(b"@b{k,t=may#a}", False, months), ("Mayé".encode(), ((0, 0, 5, 7, 12),), 2))
+        # More than is lent at first
+        many = b"@b{k,t=d11}@string{d0={" + b"{x}y" * 100 + b"}}"
+        many += b"".join(b"@string{d%d=d%d#d%d}" % (i, i - 1, i - 1) for i in range(1, 12))
+        resolved = field(many, False)
+        self.assertEqual((resolved.names, resolved.text), (4_095, b"xy" * 100 * 2_048))
+        refused = [(b"@b{k,t=may}", 12, 7, 10), (b"@b{k,t=a}@string{a=a}", 13, 19, 20), (b"@b{k,t={$}#a}", 3, 9, 9)]
+        refused += [(b"@b{k,t=" + b"a#" * 4_096 + b"a}@string{a={}}", 15, 8_199, 8_200)]
+        for file, *want in refused:
+            with self.assertRaises(Refusal) as caught:
+                field(file, False)
+            refusal = caught.exception
+            self.assertEqual([refusal.number, refusal.start, refusal.end], want)
+        for which in (-1, 0, 1, 3, 1 << 70):
+            with self.assertRaises(Refusal) as caught:
+                bib.resolve_field(b"a", [(8, 0, 0, 1), (5, 0, 0, 1), (6, 0, 0, 2)], which, False)
+            self.assertEqual(caught.exception.number, 17)
+
+
 class Words(unittest.TestCase):
     def test_as_the_header_has_them(self):
         """The kinds have the header's numbers."""

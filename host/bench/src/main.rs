@@ -3,6 +3,8 @@
 //!     cargo run --release -p bench -- FOLDER              with the real .bib files below FOLDER
 //!     cargo run --release -p bench -- --rounds 21 FOLDER  more rounds than 11
 //!     cargo run --release -p bench                        the made shapes only
+//!     cargo run --release -p bench -- --only literals FOLDER    of reading, utf8, packing, salvage
+//!                                                         and literals just this
 //!
 //! The Rust is `std::str::from_utf8` and `RawBibliography::parse`. The proved reader is timed
 //! twice: `lent`, into rows that are there and were written before, and `fresh`, into rows that are
@@ -18,8 +20,9 @@
 //! Then the UTF-8 check alone beside `std::str::from_utf8`; packing and unpacking the rows beside the
 //! Rust packer, with ratios of the same sense; and salvage: on files sound and damaged beside strict
 //! reading, where the figure is salvage's time divided by strict reading's, and on files of many
-//! pieces.
+//! pieces. And literals, resolved and formatted, beside the Rust's functions.
 
+mod literals;
 mod packing;
 mod salvage;
 mod shapes;
@@ -40,47 +43,86 @@ struct Measured {
     judged: Times,
 }
 
+/// What the command line asks for.
+struct Wanted {
+    rounds: usize,
+    only: String,
+    folders: Vec<PathBuf>,
+}
+
+impl Wanted {
+    fn has(&self, part: &str) -> bool {
+        self.only.is_empty() || self.only == part
+    }
+}
+
 fn main() -> ExitCode {
-    let (rounds, folders) = match wanted() {
+    let wanted = match wanted() {
         Ok(wanted) => wanted,
         Err(fault) => {
             eprintln!("bench: {fault}");
             return ExitCode::from(2);
         }
     };
+    let Wanted {
+        rounds,
+        ref folders,
+        ..
+    } = wanted;
     println!("{rounds} rounds; MB/s of the best run (of the median), 1 MB = 1,000,000 bytes");
-    for shape in shapes::all(&folders) {
-        println!("{}", shape.name);
-        let small = measure(&shape.small, rounds);
-        let full = measure(&shape.full, rounds);
-        let times = [
-            ("Rust", &small.rust, &full.rust),
-            ("lent", &small.lent, &full.lent),
-            ("fresh", &small.fresh, &full.fresh),
-        ];
-        growth(small.bytes, full.bytes, &times);
+    if wanted.has("reading") {
+        shapes::all(folders)
+            .iter()
+            .for_each(|shape| read(shape, rounds));
     }
-    let real = shapes::real(&folders);
-    utf8::run(real.as_ref(), rounds);
-    for shape in real.into_iter().chain([shapes::million()]) {
-        packing::run(&shape, rounds);
+    let real = shapes::real(folders);
+    if wanted.has("utf8") {
+        utf8::run(real.as_ref(), rounds);
     }
-    salvage::run(&folders, rounds);
+    if wanted.has("packing") {
+        for shape in real.into_iter().chain([shapes::million()]) {
+            packing::run(&shape, rounds);
+        }
+    }
+    if wanted.has("salvage") {
+        salvage::run(folders, rounds);
+    }
+    if wanted.has("literals") {
+        literals::run(folders, rounds);
+    }
     ExitCode::SUCCESS
 }
 
-fn wanted() -> Result<(usize, Vec<PathBuf>), String> {
-    let (mut rounds, mut folders) = (11, Vec::new());
+fn wanted() -> Result<Wanted, String> {
+    let mut wanted = Wanted {
+        rounds: 11,
+        only: String::new(),
+        folders: Vec::new(),
+    };
     let mut words = std::env::args().skip(1);
     while let Some(word) = words.next() {
-        if word == "--rounds" {
-            let number = words.next().and_then(|n| n.parse().ok());
-            rounds = number.filter(|n| *n > 0).ok_or("--rounds takes a number")?;
-        } else {
-            folders.push(word.into());
+        match word.as_str() {
+            "--rounds" => {
+                let number = words.next().and_then(|n| n.parse().ok());
+                wanted.rounds = number.filter(|n| *n > 0).ok_or("--rounds takes a number")?;
+            }
+            "--only" => wanted.only = words.next().ok_or("--only takes a word")?,
+            _ => wanted.folders.push(word.into()),
         }
     }
-    Ok((rounds, folders))
+    Ok(wanted)
+}
+
+fn read(shape: &shapes::Shape, rounds: usize) {
+    println!("{}", shape.name);
+    let small = measure(&shape.small, rounds);
+    let full = measure(&shape.full, rounds);
+    let times = [
+        ("Rust", &small.rust, &full.rust),
+        ("lent", &small.lent, &full.lent),
+        ("fresh", &small.fresh, &full.fresh),
+    ];
+    growth(small.bytes, full.bytes, &times);
 }
 
 fn measure(text: &[u8], rounds: usize) -> Measured {

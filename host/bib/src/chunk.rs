@@ -1,7 +1,32 @@
-//! What the writers of chunks need, and what they give.
+//! Chunks: what the writers of chunks need, and what they and resolving give.
 
 /// The numbers of a chunk row.
-const NUMBERS: usize = 5;
+pub(crate) const NUMBERS: usize = 5;
+
+/// What is resolved: the rows of its chunks, five numbers each as `format_verbatim` takes them, and
+/// the text that they are rows of.
+#[derive(Debug, Clone, PartialEq, Eq)]
+pub struct Resolved {
+    pub text: String,
+    pub rows: Vec<u32>,
+    /// How many names were resolved, month words included. A literal has none.
+    pub names: usize,
+}
+
+impl Resolved {
+    /// What an answer that accepts has in the room that was lent for rows and text.
+    pub(crate) fn new(mut rows: Vec<u32>, mut bytes: Vec<u8>, answer: proved::Resolved) -> Self {
+        bytes.truncate(answer.bytes as usize);
+        bytes.shrink_to_fit();
+        rows.truncate(answer.count as usize * NUMBERS);
+        rows.shrink_to_fit();
+        Self {
+            text: text(bytes),
+            rows,
+            names: answer.names as usize,
+        }
+    }
+}
 
 /// The braces around a BibLaTeX string, and the extra one that may be open at its end.
 const AROUND: usize = 3;
@@ -18,7 +43,8 @@ pub(crate) fn most(text: &[u8], rows: &[u32], each: usize) -> usize {
     all.fold(AROUND, usize::saturating_add)
 }
 
-/// What a writer wrote, which is UTF-8 (`WellFormed` of crates/chunk/specs/WellFormed.antt).
+/// What a writer wrote, which is UTF-8 (`WellFormed` of crates/chunk/specs/WellFormed.antt), or
+/// resolving: whole characters of the file, and those that commands stand for.
 pub(crate) fn text(bytes: Vec<u8>) -> String {
-    String::from_utf8(bytes).expect("the proved writers write UTF-8")
+    String::from_utf8(bytes).expect("the proved calls write UTF-8")
 }

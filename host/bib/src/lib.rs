@@ -1,8 +1,8 @@
 //! Reads .bib files by the proved library: strictly, or piece by piece; packs their rows, and
-//! unpacks them; and writes chunks.
+//! unpacks them; resolves literals and fields into chunks; and writes chunks.
 //!
-//! Each function lends the proved one what its answer can need at most, and answers with just
-//! that, or with the refusal: what is wrong, and where. Refusal 16 means that there was not enough
+//! Each function lends the proved one what its answer can need, and answers with just that, or with
+//! the refusal: what is wrong, and where. Refusal 16 means that there was not enough
 //! memory to lend. [`check`] says what is wrong in words for the author of a file.
 //!
 //! ```
@@ -15,18 +15,26 @@
 pub mod check;
 mod chunk;
 mod memory;
+mod months;
 mod refusal;
+mod room;
 mod row;
 
+pub use chunk::Resolved;
 pub use refusal::{Reason, Refusal};
 pub use row::{Kind, Row, Rows};
 
+use std::ops::Range;
+
 use memory::Number;
-use proved::Answer;
+use proved::{Answer, File, Lent};
 use row::{BYTES, NUMBERS};
 
 /// The most bytes that a file may have; a longer one is refused.
 pub const MOST_BYTES: usize = 16_777_215;
+
+/// The most bytes that a literal may have to be resolved; a longer one is refused.
+pub const MOST_LITERAL: usize = proved::MOST_LITERAL;
 
 /// Reads a file strictly: all of its rows, or what is wrong first.
 pub fn read(file: &[u8]) -> Result<Rows, Refusal> {
@@ -75,6 +83,75 @@ pub fn to_biblatex_string(text: &[u8], rows: &[u32], is_verbatim: bool) -> Resul
     answered(call, chunk::most(text, rows, 2), 1).map(chunk::text)
 }
 
+/// Resolves the literal that stands at these bytes of a file, of a verbatim field (as `file` or
+/// `url`) or another: the rows of its chunks, whose spans are bytes of the file, and their text.
+///
+/// ```
+/// let file = br#"@a{k, t = {G\"odel's {Proof}}}"#;
+/// let resolved = bib::resolve_literal(file, 11..28, false).unwrap();
+/// assert_eq!(resolved.text, "Gödel's Proof");
+/// assert_eq!(resolved.rows, [0, 0, 9, 11, 21, 1, 9, 14, 22, 27]);
+/// ```
+pub fn resolve_literal(
+    file: &[u8],
+    span: Range<usize>,
+    is_verbatim: bool,
+) -> Result<Resolved, Refusal> {
+    // A literal of n bytes has at most n + 1 chunks and 2 * n bytes of text. A longer one is refused.
+    let length = span.len().min(MOST_LITERAL);
+    let zeros = |count| memory::zeros(count).ok_or(Refusal::NO_MEMORY);
+    let (mut scratch, mut text) = (zeros(proved::LEAST_SCRATCH)?, zeros(2 * length)?);
+    let rows = memory::zeros((length + 1) * chunk::NUMBERS);
+    let mut rows = rows.ok_or(Refusal::NO_MEMORY)?;
+    let mut lent = Lent {
+        scratch: &mut scratch,
+        chunks: &mut rows,
+        text: &mut text,
+    };
+    let answer = proved::resolve_literal(file, span.start, span.end, is_verbatim.into(), &mut lent);
+    if answer.number != 0 {
+        return Err(Refusal::of(answer.number, answer.start, answer.end));
+    }
+    Ok(Resolved::new(rows, text, answer))
+}
+
+/// Resolves the value of a field, of a verbatim one (as `file` or `url`) or another: its literals, and
+/// its names by their last definitions or, where there is none, by the first of the months, which are
+/// words with their texts. The rows are the file's, as [`Rows::numbers`] gives them, and `which` is the
+/// number of the value's row.
+///
+/// ```
+/// let file = b"@b{k,t=a#{y}#may}@string{a={x}}";
+/// let rows = bib::read(file).unwrap();
+/// let which = rows.iter().position(|row| row.kind == bib::Kind::Value).unwrap();
+/// let resolved = bib::resolve_field(file, rows.numbers(), which, false, &[("may", "May")]).unwrap();
+/// assert_eq!(resolved.text, "xyMay");
+/// assert_eq!(resolved.names, 2);
+/// ```
+pub fn resolve_field(
+    file: &[u8],
+    rows: &[u32],
+    which: usize,
+    is_verbatim: bool,
+    months: &[(&str, &str)],
+) -> Result<Resolved, Refusal> {
+    let (months, words) = months::lent(months).ok_or(Refusal::NO_MEMORY)?;
+    let lent = File {
+        bytes: file,
+        rows,
+        months: &months,
+        words: &words,
+    };
+    // Enough for literals alone, as in `resolve_literal`, and for some names.
+    let mut room = room::Room::of(rows, which, file.len());
+    loop {
+        match room.resolve(lent, which, is_verbatim)? {
+            Some(resolved) => return Ok(resolved),
+            None => room.grow()?,
+        }
+    }
+}
+
 /// A file of n bytes has at most n + 1 rows (`EnoughRoom` of crates/bib/specs/EnoughRoom.antt).
 fn reading(file: &[u8], call: fn(&[u8], &mut [u32]) -> Answer) -> Result<Rows, Refusal> {
     let most = (file.len().min(MOST_BYTES) + 1) * NUMBERS;
@@ -94,7 +171,7 @@ where
     let mut to = memory::zeros(most).ok_or(Refusal::NO_MEMORY)?;
     let answer = call(&mut to);
     if answer.number != 0 {
-        return Err(Refusal::of(&answer));
+        return Err(Refusal::of(answer.number, answer.start, answer.end));
     }
     to.truncate(answer.count as usize * unit);
     to.shrink_to_fit();

@@ -1,6 +1,5 @@
 //! Refusals: why, and where.
 
-use proved::Answer;
 use std::fmt;
 
 /// Why something was refused, with document 01's numbers.
@@ -16,12 +15,17 @@ pub enum Reason {
     ExpectedQuotationMark = 8,
     ExpectedEquals = 9,
     UnexpectedDecimalPoint = 10,
+    UnexpectedClosingBrace = 11,
+    UnknownAbbreviation = 12,
+    Cyclic = 13,
+    TooDeep = 14,
+    TooManyNames = 15,
     NoRoom = 16,
     BadRows = 17,
 }
 
 /// All of them, in the order of their numbers.
-const REASONS: [Reason; 12] = [
+const REASONS: [Reason; 17] = [
     Reason::TooLong,
     Reason::NotUtf8,
     Reason::UnexpectedEof,
@@ -32,6 +36,11 @@ const REASONS: [Reason; 12] = [
     Reason::ExpectedQuotationMark,
     Reason::ExpectedEquals,
     Reason::UnexpectedDecimalPoint,
+    Reason::UnexpectedClosingBrace,
+    Reason::UnknownAbbreviation,
+    Reason::Cyclic,
+    Reason::TooDeep,
+    Reason::TooManyNames,
     Reason::NoRoom,
     Reason::BadRows,
 ];
@@ -60,6 +69,11 @@ impl Reason {
             Self::ExpectedQuotationMark => "expected a quotation mark",
             Self::ExpectedEquals => "expected an equals sign",
             Self::UnexpectedDecimalPoint => "unexpected decimal point",
+            Self::UnexpectedClosingBrace => "unexpected closing brace",
+            Self::UnknownAbbreviation => "a name without a definition",
+            Self::Cyclic => "a name that is used in its own definition",
+            Self::TooDeep => "too many names or arguments of commands inside each other",
+            Self::TooManyNames => "more than 4,096 names in one field",
             Self::NoRoom => "there is not enough room for the answer",
             Self::BadRows => "these are not well-formed rows",
         }
@@ -98,20 +112,29 @@ impl Refusal {
         end: 0,
     };
 
-    /// The refusal of an answer whose number is not 0.
-    pub(crate) fn of(answer: &Answer) -> Self {
+    /// The refusal of an answer whose number is not 0, with its place.
+    pub(crate) fn of(number: u32, start: u64, end: u64) -> Self {
         Self {
-            reason: Reason::of(answer.number).expect("the proved calls refuse by 01's table"),
-            start: answer.start as usize,
-            end: answer.end as usize,
+            reason: Reason::of(number).expect("the proved calls refuse by 01's table"),
+            start: start as usize,
+            end: end as usize,
         }
+    }
+
+    /// Whether it is a literal that is too long, and not the file: that has 0..0.
+    fn is_long_literal(&self) -> bool {
+        self.reason == Reason::TooLong && self.end > 0
     }
 }
 
 impl fmt::Display for Refusal {
     fn fmt(&self, f: &mut fmt::Formatter<'_>) -> fmt::Result {
-        f.write_str(self.reason.what())?;
-        if self.reason.has_place() {
+        if self.is_long_literal() {
+            f.write_str("a literal is longer than 16,384 bytes")?;
+        } else {
+            f.write_str(self.reason.what())?;
+        }
+        if self.reason.has_place() || self.is_long_literal() {
             write!(f, " at byte {}", self.start)?;
         }
         write!(f, " (refusal {})", self.reason.number())

@@ -297,6 +297,184 @@ static void takes_nothing_to_write(void)
     hold(says(a, BIB_OK, 2, 0, 0) && bytes[0] == '{' && bytes[1] == '}', "null text and null chunks, written");
 }
 
+/* What a call that resolves is lent and hands back; all of it is marked first. */
+struct resolving {
+    uint32_t status;
+    uint64_t count, bytes, names, start, end;
+    uint8_t scratch[BIB_LEAST_SCRATCH + 1];
+    uint32_t chunks[ROOM];
+    uint8_t text[32];
+};
+
+/* Lends rooms that are not too long, and scratch of this length. */
+static void resolve(struct resolving *r, const char *file, size_t from, size_t to, uint32_t verbatim, size_t scratch, size_t chunks,
+                    size_t room)
+{
+    memset(r, 0xA5, sizeof *r);
+    r->status = bib_resolve_literal((const uint8_t *)file, strlen(file), from, to, verbatim, r->scratch, scratch, r->chunks, chunks,
+                                    r->text, room, &r->count, &r->bytes, &r->names, &r->start, &r->end);
+}
+
+static int resolved(const struct resolving *r, uint64_t count, const char *string)
+{
+    return r->status == BIB_OK && r->count == count && r->bytes == strlen(string) && r->names == 0 && r->start == 0 && r->end == 0
+           && holds(r->text, string) && untouched(r->chunks, (size_t)count * BIB_CHUNK_NUMBERS);
+}
+
+static int refused(const struct resolving *r, uint32_t status, uint64_t start, uint64_t end)
+{
+    return r->status == status && r->count == 0 && r->bytes == 0 && r->names == 0 && r->start == start && r->end == end
+           && holds(r->text, "") && untouched(r->chunks, 0);
+}
+
+/* Whether the scratch that was lent holds zeros, and the byte behind it is as it was. */
+static int zeros(const struct resolving *r, size_t scratch)
+{
+    for (size_t i = 0; i < scratch; i++)
+        if (r->scratch[i] != 0)
+            return 0;
+    return r->scratch[scratch] == 0xA5;
+}
+
+/* "x", what G\"odel wrote, and "{" to "}" in a file, from 1 on */
+static const char *const literal = "x\\\"o{$y}z";
+
+static void resolves(void)
+{
+    static const uint32_t want[] = {BIB_NORMAL, 0, 2, 1, 4, BIB_VERBATIM, 2, 4, 5, 7, BIB_NORMAL, 4, 5, 8, 9};
+    const size_t enough = BIB_LEAST_SCRATCH;
+    struct resolving r;
+    resolve(&r, literal, 1, 4, 0, enough, ROOM, 32);
+    hold(resolved(&r, 1, "\xc3\xb6") && zeros(&r, enough), "an accent");
+    resolve(&r, literal, 1, 9, 0, enough, ROOM, 32);
+    hold(refused(&r, BIB_UNEXPECTED_EOF, 9, 9) && zeros(&r, enough), "a dollar sign alone");
+    resolve(&r, literal, 1, 9, 0x100, enough, ROOM, 32);
+    hold(resolved(&r, 3, "\\\"o$yz") && zeros(&r, enough), "which a verbatim field takes");
+    resolve(&r, "x\\\"o{-y}z", 1, 9, 0, enough, ROOM, 32);
+    hold(resolved(&r, 3, "\xc3\xb6-yz") && memcmp(r.chunks, want, sizeof want) == 0, "three chunks, with their spans");
+    resolve(&r, "x\\\"o{-y}z", 1, 9, 0, enough, 15, 5);
+    hold(resolved(&r, 3, "\xc3\xb6-yz"), "exactly the room for chunks and text");
+    resolve(&r, "x\\\"o{-y}z", 1, 9, 0, enough, 14, 32);
+    hold(refused(&r, BIB_NO_ROOM, 0, 0) && zeros(&r, enough), "a number too few");
+    resolve(&r, "x\\\"o{-y}z", 1, 9, 0, enough, ROOM, 4);
+    hold(refused(&r, BIB_NO_ROOM, 0, 0) && zeros(&r, enough), "a byte of text too few");
+}
+
+static void refuses_literals(void)
+{
+    const size_t enough = BIB_LEAST_SCRATCH;
+    struct resolving r;
+    resolve(&r, "a}", 0, 2, 0, enough, ROOM, 32);
+    hold(refused(&r, BIB_UNEXPECTED_CLOSING_BRACE, 1, 2) && zeros(&r, enough), "a brace that closes nothing");
+    resolve(&r, "a}", 0, 2, 0, enough - 1, ROOM, 32);
+    hold(refused(&r, BIB_NO_ROOM, 0, 0) && zeros(&r, enough - 1), "too little scratch, before what is in the literal");
+    resolve(&r, "a\xc3\xa9", 0, 2, 0, 0, ROOM, 32);
+    hold(refused(&r, BIB_BAD_ROWS, 0, 0) && zeros(&r, 0), "a literal that ends inside a character, before too little scratch");
+    resolve(&r, "a\xc3", 2, 1, 0, 9, ROOM, 32);
+    hold(refused(&r, BIB_NOT_UTF8, 1, 1) && zeros(&r, 9), "a file that is not UTF-8, before a literal that is reversed");
+    resolve(&r, "ab", 2, 1, 0, enough, ROOM, 32);
+    hold(refused(&r, BIB_BAD_ROWS, 0, 0) && zeros(&r, enough), "a literal that is reversed");
+    resolve(&r, "ab", 0, SIZE_MAX, 0, enough, ROOM, 32);
+    hold(refused(&r, BIB_BAD_ROWS, 0, 0) && zeros(&r, enough), "a literal that ends outside the file");
+}
+
+static void refuses_long_and_deep_literals(void)
+{
+    const size_t enough = BIB_LEAST_SCRATCH;
+    struct resolving r;
+    char deep[65 * 4 + 1] = "";
+    char *lengthy = calloc(BIB_MOST_LITERAL + 2, 1);
+    if (lengthy == NULL) {
+        hold(0, "memory for a long literal");
+        return;
+    }
+    for (size_t i = 0; i < 65; i++)
+        memcpy(deep + 3 * i, "\\a{", 3);
+    memset(deep + 3 * 65, '}', 65);
+    resolve(&r, deep, 0, strlen(deep), 0, enough, ROOM, 32);
+    hold(refused(&r, BIB_TOO_DEEP, 3 * 64 + 2, 3 * 64 + 3) && zeros(&r, enough), "an argument too deep");
+    memset(lengthy, '\n', BIB_MOST_LITERAL + 1);
+    resolve(&r, lengthy, 0, BIB_MOST_LITERAL + 1, 0, enough, ROOM, 32);
+    hold(refused(&r, BIB_TOO_LONG, 0, BIB_MOST_LITERAL + 1) && zeros(&r, enough), "a literal that is too long");
+    resolve(&r, lengthy, 1, BIB_MOST_LITERAL + 1, 0, enough, ROOM, 32);
+    hold(resolved(&r, 1, " ") && zeros(&r, enough), "the longest literal");
+    free(lengthy);
+}
+
+static void takes_nothing_to_resolve(void)
+{
+    struct resolving r;
+    memset(&r, 0xA5, sizeof r);
+    r.status = bib_resolve_literal(NULL, 0, 0, 0, 0, NULL, 0, NULL, 0, NULL, 0, &r.count, &r.bytes, &r.names, &r.start, &r.end);
+    hold(refused(&r, BIB_NO_ROOM, 0, 0), "a null file, and null scratch");
+    r.status = bib_resolve_literal(NULL, 0, 0, 0, 0, r.scratch, BIB_LEAST_SCRATCH, NULL, 0, NULL, 0, &r.count, &r.bytes, &r.names,
+                                   &r.start, &r.end);
+    hold(refused(&r, BIB_NO_ROOM, 0, 0), "a null file, and null chunks");
+    r.status = bib_resolve_literal(NULL, 0, 0, 0, 0, r.scratch, BIB_LEAST_SCRATCH, r.chunks, 5, NULL, 0, &r.count, &r.bytes, &r.names,
+                                   &r.start, &r.end);
+    hold(resolved(&r, 1, ""), "a null file, and null text: one empty chunk");
+}
+
+/* A file whose field uses a name before its definition, and a month word; its rows; and the month words. */
+static const char *const names_file = "@b{k,t=a#{y}#may}@string{a={x}}";
+static const uint32_t names_rows[] = {
+    BIB_ENTRY, 0, 0, 16, BIB_ENTRY_TYPE, 0, 1, 2, BIB_KEY, 0, 3, 4, BIB_FIELD_NAME, 0, 5, 6, BIB_VALUE, 0, 7, 16,
+    BIB_NAME, 0, 7, 8, BIB_LITERAL, 0, 10, 11, BIB_NAME, 0, 13, 16,
+    BIB_DEFINITION_NAME, 0, 25, 26, BIB_VALUE, 0, 27, 30, BIB_LITERAL, 0, 28, 29};
+static const uint32_t names_months[] = {0, 3, 3, 6};
+
+static void resolve_names(struct resolving *r, size_t which, size_t rows, const char *words, size_t scratch, size_t chunks, size_t room)
+{
+    memset(r, 0xA5, sizeof *r);
+    r->status = bib_resolve_field((const uint8_t *)names_file, strlen(names_file), names_rows, rows, which, 0, names_months,
+                                  words == NULL ? 0 : BIB_MONTH_NUMBERS, (const uint8_t *)words, words == NULL ? 0 : strlen(words),
+                                  r->scratch, scratch, r->chunks, chunks, r->text, room, &r->count, &r->bytes, &r->names, &r->start,
+                                  &r->end);
+}
+
+static void resolves_fields(void)
+{
+    static const uint32_t want[] = {BIB_NORMAL, 0, 5, 28, 16};
+    const size_t enough = BIB_LEAST_SCRATCH, rows = sizeof names_rows / sizeof *names_rows;
+    struct resolving r;
+    resolve_names(&r, 4, rows, "mayMay", enough, ROOM, 32);
+    hold(r.status == BIB_OK && r.count == 1 && r.bytes == 5 && r.names == 2 && r.start == 0 && r.end == 0 && holds(r.text, "xyMay")
+             && memcmp(r.chunks, want, sizeof want) == 0 && untouched(r.chunks, 5) && zeros(&r, enough),
+         "a name and a month word");
+    resolve_names(&r, 4, rows, "mayMay", enough, 5, 5);
+    hold(r.status == BIB_OK && r.names == 2, "exactly the room for them");
+    resolve_names(&r, 4, rows, "mayMay", enough, ROOM, 4);
+    hold(refused(&r, BIB_NO_ROOM, 0, 0) && zeros(&r, enough), "a byte of text too few for them");
+    resolve_names(&r, 4, rows, NULL, enough, ROOM, 32);
+    hold(refused(&r, BIB_UNKNOWN_ABBREVIATION, 13, 16) && zeros(&r, enough), "no month words");
+    resolve_names(&r, 4, rows - 12, "mayMay", enough, ROOM, 32);
+    hold(refused(&r, BIB_UNKNOWN_ABBREVIATION, 7, 8) && zeros(&r, enough), "no definition");
+    resolve_names(&r, 4, rows, "mayMay", enough - 1, ROOM, 32);
+    hold(refused(&r, BIB_NO_ROOM, 0, 0) && zeros(&r, enough - 1), "too little scratch for a field");
+    resolve_names(&r, 3, rows, "mayMay", 0, ROOM, 32);
+    hold(refused(&r, BIB_BAD_ROWS, 0, 0), "a row that is no value's, before too little scratch");
+    resolve_names(&r, SIZE_MAX, rows, "mayMay", enough, ROOM, 32);
+    hold(refused(&r, BIB_BAD_ROWS, 0, 0), "a row that is not there");
+    resolve_names(&r, 4, rows, "mayMa", enough, ROOM, 32);
+    hold(refused(&r, BIB_BAD_ROWS, 0, 0) && zeros(&r, enough), "a month's text that ends outside the words");
+}
+
+static void takes_nothing_to_resolve_in_fields(void)
+{
+    static const uint32_t empty[] = {BIB_DEFINITION_NAME, 0, 0, 0, BIB_VALUE, 0, 0, 0, BIB_LITERAL, 0, 0, 0};
+    struct resolving r;
+    memset(&r, 0xA5, sizeof r);
+    r.status = bib_resolve_field(NULL, 0, NULL, 0, 0, 0, NULL, 0, NULL, 0, NULL, 0, NULL, 0, NULL, 0, &r.count, &r.bytes, &r.names,
+                                 &r.start, &r.end);
+    hold(refused(&r, BIB_BAD_ROWS, 0, 0), "null rows, and so no value");
+    r.status = bib_resolve_field(NULL, 0, empty, 12, 1, 0, NULL, 0, NULL, 0, NULL, 0, NULL, 0, NULL, 0, &r.count, &r.bytes, &r.names,
+                                 &r.start, &r.end);
+    hold(refused(&r, BIB_NO_ROOM, 0, 0), "null months and words, and null scratch");
+    r.status = bib_resolve_field(NULL, 0, empty, 12, 1, 0, NULL, 0, NULL, 0, r.scratch, BIB_LEAST_SCRATCH, r.chunks, 5, NULL, 0,
+                                 &r.count, &r.bytes, &r.names, &r.start, &r.end);
+    hold(resolved(&r, 1, ""), "a null file, and null text: an empty value");
+}
+
 int main(void)
 {
     reads();
@@ -312,6 +490,12 @@ int main(void)
     writes();
     refuses_chunks();
     takes_nothing_to_write();
+    resolves();
+    refuses_literals();
+    refuses_long_and_deep_literals();
+    takes_nothing_to_resolve();
+    resolves_fields();
+    takes_nothing_to_resolve_in_fields();
     printf("%d passed, %d failed\n", passed, failed);
     return failed > 0;
 }

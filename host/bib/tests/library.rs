@@ -1,6 +1,6 @@
 //! The wrappers: what they answer, and what they refuse with.
 
-use bib::{Kind, Reason, Refusal, Row};
+use bib::{Kind, Reason, Refusal, Resolved, Row};
 
 fn row(kind: Kind, detail: u32, start: usize, end: usize) -> Row {
     Row {
@@ -104,6 +104,126 @@ fn room_enough_to_write() {
     assert_eq!(written, format!("{{{}}}", "{\\}}\\}".repeat(9)));
 }
 
+/// Documents 01's "resolve" cases, at a place of a file.
+#[test]
+fn resolved_literals() {
+    let cases: [(&str, bool, &[(u32, &str, u32, u32)]); 9] = [
+        ("a----b", false, &[(0, "a—-b", 0, 6)]),
+        ("\\'{\\i}", false, &[(0, "í", 0, 6)]),
+        ("\\o{x}", false, &[(0, "x\u{338}", 0, 5)]),
+        ("a\\ b", false, &[(0, "a\\  b", 0, 4)]),
+        ("{a}", false, &[(0, "", 0, 0), (1, "a", 1, 2)]),
+        ("$x", true, &[(0, "$x", 0, 2)]),
+        ("", false, &[(0, "", 0, 0)]),
+        (
+            "x $a b$ y",
+            false,
+            &[(0, "x ", 0, 2), (2, "a b", 3, 6), (0, " y", 7, 9)],
+        ),
+        ("\\emph{x}", true, &[(0, "\\emph", 0, 5), (1, "x", 6, 7)]),
+    ];
+    for (literal, is_verbatim, chunks) in cases {
+        let file = format!("é{literal}é");
+        let resolved = bib::resolve_literal(file.as_bytes(), 2..2 + literal.len(), is_verbatim);
+        let resolved = resolved.unwrap();
+        let (mut text, mut rows) = (String::new(), Vec::new());
+        for (kind, part, start, end) in chunks {
+            let from = text.len() as u32;
+            text += part;
+            rows.extend([*kind, from, text.len() as u32, start + 2, end + 2]);
+        }
+        assert_eq!((resolved.text, resolved.rows), (text, rows), "{literal}");
+        assert_eq!(resolved.names, 0);
+    }
+}
+
+#[test]
+fn refused_literals() {
+    let refused = |file: &[u8], start, end| {
+        bib::resolve_literal(file, start..end, false).expect_err("it is refused")
+    };
+    assert_eq!(refused(b"..$x", 2, 4), refusal(Reason::UnexpectedEof, 4, 4));
+    let brace = refusal(Reason::UnexpectedClosingBrace, 3, 4);
+    assert_eq!(refused(b"..a}b", 2, 5), brace);
+    let deep = "\\a{".repeat(65) + &"}".repeat(65);
+    let depth = refusal(Reason::TooDeep, 3 * 64 + 2, 3 * 64 + 3);
+    assert_eq!(refused(deep.as_bytes(), 0, deep.len()), depth);
+    let bad = refusal(Reason::BadRows, 0, 0);
+    let file = "aé漢".as_bytes();
+    for (start, end) in [(1, 0), (0, 7), (7, 7), (0, 2), (2, 3), (0, usize::MAX)] {
+        assert_eq!(refused(file, start, end), bad);
+    }
+    assert_eq!(refused(b"a\xff", 0, 9), refusal(Reason::NotUtf8, 1, 1));
+    let long = vec![b'a'; bib::MOST_BYTES + 1];
+    assert_eq!(refused(&long, 1, 0), refusal(Reason::TooLong, 0, 0));
+    assert_eq!(
+        refused(&long[..20_000], 1, 1 + 16_385),
+        refusal(Reason::TooLong, 1, 16_386)
+    );
+    assert!(bib::resolve_literal(&long[1..], 1..1 + bib::MOST_LITERAL, false).is_ok());
+}
+
+/// What takes the most rows and the most text finds its room, of every length.
+#[test]
+fn room_enough_to_resolve() {
+    for part in ["{}", "$$", "{}a", "--", "\\ ", "\\x", "-- "] {
+        for count in (0..50).chain([bib::MOST_LITERAL / part.len()]) {
+            let literal = part.repeat(count);
+            let resolved = bib::resolve_literal(literal.as_bytes(), 0..literal.len(), false);
+            assert!(resolved.is_ok(), "{part} {count}");
+        }
+    }
+}
+
+/// The first field of a file, by its rows.
+fn field(file: &str, is_verbatim: bool, months: &[(&str, &str)]) -> Result<Resolved, Refusal> {
+    let rows = bib::read(file.as_bytes()).unwrap();
+    let fields = rows.iter().position(|row| row.kind == Kind::FieldName);
+    let value = fields.expect("a field") + 1;
+    bib::resolve_field(file.as_bytes(), rows.numbers(), value, is_verbatim, months)
+}
+
+#[test]
+fn resolved_fields() {
+    let months = [("may", "May"), ("may", "Mai"), ("a", "A")];
+    let both = |file, is_verbatim, text: &str, rows: &[u32], names| {
+        let resolved = field(file, is_verbatim, &months).unwrap();
+        assert_eq!((&resolved.text[..], &resolved.rows[..]), (text, rows));
+        assert_eq!(resolved.names, names);
+    };
+    let file = "@b{k,t=a#{y}}@string{a={x}}";
+    both(file, false, "xy", &[0, 0, 2, 24, 11], 1);
+    both("@b{k,t=a#may}", false, "AMay", &[0, 0, 4, 7, 12], 2);
+    both("@b{k,t={--}}", true, "--", &[0, 0, 2, 8, 10], 0);
+    // More than is lent at first: 4,095 names, each with text or with two names.
+    let mut file = format!("@b{{k,t=d11}}@string{{d0={{{}}}}}", "{x}y".repeat(100));
+    for i in 1..12 {
+        file += &format!("@string{{d{i}=d{0}#d{0}}}", i - 1);
+    }
+    let resolved = field(&file, false, &[]).unwrap();
+    assert_eq!(resolved.names, 4_095);
+    assert_eq!(resolved.text, "xy".repeat(100 * 2_048));
+}
+
+#[test]
+fn refused_fields() {
+    let refused = |file, reason, start, end| {
+        assert_eq!(field(file, false, &[]), Err(refusal(reason, start, end)));
+    };
+    refused("@b{k,t=may}", Reason::UnknownAbbreviation, 7, 10);
+    refused("@b{k,t=a}@string{a=a}", Reason::Cyclic, 19, 20);
+    refused("@b{k,t={$}#a}", Reason::UnexpectedEof, 9, 9);
+    let many = format!("@b{{k,t={}a}}@string{{a={{}}}}", "a#".repeat(4_096));
+    refused(&many, Reason::TooManyNames, 7 + 2 * 4_096, 8 + 2 * 4_096);
+    let links = (0..32).map(|i| format!("@string{{a{i}=a{}}}", i + 1));
+    let deep = links.collect::<String>() + "@string{a32={x}}@b{k,t=a0}";
+    let used = deep.find("a32}").expect("it is used");
+    refused(&deep, Reason::TooDeep, used, used + 3);
+    let bad = Err(refusal(Reason::BadRows, 0, 0));
+    assert_eq!(bib::resolve_field(b"", &[], 0, false, &[]), bad);
+    assert_eq!(bib::resolve_field(b"x", &[0, 0, 0, 1], 0, false, &[]), bad);
+}
+
 #[test]
 fn refused_chunks() {
     let both = |text: &[u8], rows: &[u32], want: Refusal| {
@@ -143,7 +263,6 @@ fn refusals() {
 #[test]
 fn refusals_as_sentences() {
     let sentences = [
-        (1, "the file is longer than 16,777,215 bytes (refusal 1)"),
         (2, "bytes that are not UTF-8 at byte 5 (refusal 2)"),
         (
             3,
@@ -156,6 +275,20 @@ fn refusals_as_sentences() {
         (8, "expected a quotation mark at byte 5 (refusal 8)"),
         (9, "expected an equals sign at byte 5 (refusal 9)"),
         (10, "unexpected decimal point at byte 5 (refusal 10)"),
+        (11, "unexpected closing brace at byte 5 (refusal 11)"),
+        (12, "a name without a definition at byte 5 (refusal 12)"),
+        (
+            13,
+            "a name that is used in its own definition at byte 5 (refusal 13)",
+        ),
+        (
+            14,
+            "too many names or arguments of commands inside each other at byte 5 (refusal 14)",
+        ),
+        (
+            15,
+            "more than 4,096 names in one field at byte 5 (refusal 15)",
+        ),
         (16, "there is not enough room for the answer (refusal 16)"),
         (17, "these are not well-formed rows (refusal 17)"),
     ];
@@ -164,8 +297,17 @@ fn refusals_as_sentences() {
         assert_eq!(reason.number(), number);
         assert_eq!(refusal(reason, 5, 5).to_string(), sentence);
     }
+    // Of a file there is no place; a literal has its own.
+    assert_eq!(
+        refusal(Reason::TooLong, 0, 0).to_string(),
+        "the file is longer than 16,777,215 bytes (refusal 1)"
+    );
+    assert_eq!(
+        refusal(Reason::TooLong, 5, 16_390).to_string(),
+        "a literal is longer than 16,384 bytes at byte 5 (refusal 1)"
+    );
     let without = (0..100).filter(|number| Reason::of(*number).is_none());
-    assert!(without.eq([0, 11, 12, 13, 14, 15].into_iter().chain(18..100)));
+    assert!(without.eq([0].into_iter().chain(18..100)));
 }
 
 /// The most rows that so many bytes can have find their room, of every length.

@@ -1,12 +1,14 @@
 //! Files to try a reader on: put together from parts, drawn at random by grammar or without,
-//! damaged, and real ones. Rows to try a packer on. And texts with rows of chunks to try a writer
-//! on.
+//! damaged, and real ones. Rows to try a packer on. Texts with rows of chunks to try a writer on. And
+//! literals, and files with names, to try a resolver on.
 
 mod bytes;
 pub mod chunks;
 mod damage;
+pub mod fields;
 mod files;
 mod grammar;
+pub mod literals;
 mod random;
 pub mod rows;
 pub mod symbols;

@@ -5,14 +5,18 @@ use std::path::PathBuf;
 use cases::{damage, Random};
 
 use crate::drawn::spoil;
+use crate::fields;
 use crate::judge::{Judge, SALVAGE};
+use crate::literals;
 use crate::packs::Packs;
+use crate::resolves::Resolves;
+use crate::values::Values;
 
 /// How a copy of a file is spoilt, with another file at hand.
 type Spoil = fn(&mut Random, &mut Vec<u8>, &[u8]);
 
 /// Compares each file, and copies of it that are damaged; packs the rows of each; then salvages
-/// each, and damaged copies.
+/// each, and damaged copies; and resolves the literals of each, and the fields.
 pub fn run(judge: &mut Judge, paths: &[PathBuf], copies: usize, seed: u64) {
     let texts = cases::files(paths);
     let bytes: usize = texts.iter().map(Vec::len).sum();
@@ -36,6 +40,16 @@ pub fn run(judge: &mut Judge, paths: &[PathBuf], copies: usize, seed: u64) {
             spoilt(j, &texts, copies, random, spoil)
         });
     }
+    judge.group("literals of files", |j| {
+        let mut resolves = Resolves::new();
+        let all = texts.iter();
+        all.for_each(|text| literals::of_file(j, &mut resolves, text))
+    });
+    judge.group("fields of files", |j| {
+        let mut values = Values::new();
+        let all = texts.iter();
+        all.for_each(|text| fields::of_file(j, &mut values, text))
+    });
 }
 
 fn spoilt(judge: &mut Judge, texts: &[Vec<u8>], copies: usize, mut random: Random, spoil: Spoil) {

@@ -44,6 +44,8 @@ pub struct Judge {
     pub cases: u64,
     pub differ: u64,
     accepted: u64,
+    /// What the names of groups must have to be run.
+    only: String,
     asked: Asked,
     /// The Rust's rows.
     rows: Vec<Row>,
@@ -53,11 +55,12 @@ pub struct Judge {
 }
 
 impl Judge {
-    pub fn new() -> Self {
+    pub fn new(only: &str) -> Self {
         Self {
             cases: 0,
             differ: 0,
             accepted: 0,
+            only: only.into(),
             asked: READING,
             rows: Vec::new(),
             file: Vec::new(),
@@ -72,6 +75,9 @@ impl Judge {
 
     /// Runs a group of cases and prints its counts.
     pub fn group(&mut self, name: &str, run: impl FnOnce(&mut Self)) {
+        if !name.contains(&self.only) {
+            return;
+        }
         let before = (self.cases, self.accepted, self.differ);
         let start = Instant::now();
         run(self);
@@ -122,7 +128,7 @@ impl Judge {
     }
 
     fn compare(&mut self, file: &[u8], rust: Result<(), Refusal>, room: usize) {
-        let expected = self.expected(rust, room);
+        let expected = expected(rust.map(|()| self.rows.len()), room / 4);
         let lent = self.room.lend(room);
         let answer = (self.asked.proved)(&self.file[..file.len()], lent);
         let written = 4 * expected.count as usize;
@@ -138,20 +144,6 @@ impl Judge {
         }
     }
 
-    /// 01's order: what the file is refused with, and only then the room.
-    fn expected(&self, rust: Result<(), Refusal>, room: usize) -> Answer {
-        match rust {
-            Err(refusal) => Answer {
-                number: refusal.number,
-                count: 0,
-                start: refusal.start.into(),
-                end: refusal.end.into(),
-            },
-            Ok(()) if self.rows.len() > room / 4 => Answer::refused(NO_ROOM),
-            Ok(()) => Answer::accepted(self.rows.len() as u64),
-        }
-    }
-
     /// Whether the room holds the Rust's rows where they are to be written, and else is as it was.
     fn room_is_right(&self, room: usize, written: usize) -> bool {
         let rows = self.room.front(written).chunks_exact(4);
@@ -161,5 +153,20 @@ impl Judge {
 
     fn file_is(&self, file: &[u8]) -> bool {
         self.file[..file.len()] == *file && self.file[file.len()..] == *self.asked.behind
+    }
+}
+
+/// 01's order: what the input is refused with, and only then the room. The Rust's answer is that
+/// many rows or bytes, and so is the room.
+pub fn expected(rust: Result<usize, Refusal>, room: usize) -> Answer {
+    match rust {
+        Err(refusal) => Answer {
+            number: refusal.number,
+            count: 0,
+            start: refusal.start.into(),
+            end: refusal.end.into(),
+        },
+        Ok(count) if count > room => Answer::refused(NO_ROOM),
+        Ok(count) => Answer::accepted(count as u64),
     }
 }

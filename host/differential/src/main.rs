@@ -1,10 +1,11 @@
 //! Compares the proved reader with the Rust, row by row and refusal by refusal; then packing and
-//! unpacking with a Rust packer, salvage with 01's cutting around the Rust, and the writers of
-//! chunks with the Rust's.
+//! unpacking with a Rust packer, salvage with 01's cutting around the Rust, the writers of chunks
+//! with the Rust's, and resolving of literals and fields, chunk by chunk, with the Rust's.
 //!
-//!     cargo run --release -p differential                    some 1,600,000 cases, in seconds
-//!     cargo run --release -p differential -- --long          more than seventy million
+//!     cargo run --release -p differential                    some 2,850,000 cases, in a minute at most
+//!     cargo run --release -p differential -- --long          some hundred million
 //!     cargo run --release -p differential -- --seed 7        other random cases
+//!     cargo run --release -p differential -- --only literals   the groups whose names have this word
 //!     cargo run --release -p differential -- FILE FOLDER     these .bib files, folders searched
 //!     cargo run --release -p differential -- --damage 20 FOLDER    and 20 damaged copies of each
 //!
@@ -16,13 +17,17 @@ mod blocks;
 mod drawn;
 mod edges;
 mod exhaustive;
+mod fields;
 mod files;
 mod judge;
+mod literals;
 mod packing;
 mod packs;
 mod report;
+mod resolves;
 mod room;
 mod salvage;
+mod values;
 mod writes;
 mod writing;
 
@@ -36,6 +41,7 @@ struct Wanted {
     long: bool,
     seed: u64,
     damage: usize,
+    only: String,
     paths: Vec<PathBuf>,
 }
 
@@ -47,13 +53,19 @@ fn main() -> ExitCode {
             return ExitCode::from(2);
         }
     };
-    println!("seed {}", wanted.seed);
-    let mut judge = Judge::new();
+    println!(
+        "seed {}; composition by {}",
+        wanted.seed,
+        oracle::COMPOSITION
+    );
+    let mut judge = Judge::new(&wanted.only);
     if wanted.paths.is_empty() {
         reading(&mut judge, &wanted);
         packing(&mut judge, &wanted);
         salvaging(&mut judge, &wanted);
         writing(&mut judge, &wanted);
+        resolving(&mut judge, &wanted);
+        resolving_fields(&mut judge, &wanted);
     } else {
         files::run(&mut judge, &wanted.paths, wanted.damage, wanted.seed);
     }
@@ -123,11 +135,49 @@ fn writing(judge: &mut Judge, wanted: &Wanted) {
     judge.group("writing, room", |j| writing::rooms(j, seed, long));
 }
 
+fn resolving(judge: &mut Judge, wanted: &Wanted) {
+    let Wanted { long, seed, .. } = *wanted;
+    judge.group("literals, all short strings", |j| literals::short(j, long));
+    judge.group("literals, all short commands", |j| {
+        literals::tokens(j, long)
+    });
+    judge.group("literals, every command", literals::commands);
+    judge.group("literals, every accent", literals::accents);
+    judge.group("literals, characters", |j| literals::characters(j, long));
+    judge.group("literals, drawn", |j| literals::drawn(j, seed, long));
+    judge.group("literals, deep", |j| literals::deep(j, seed, long));
+    judge.group("literals, lengths", |j| literals::lengths(j, long));
+    judge.group("literals, room", |j| literals::rooms(j, seed, long));
+    judge.group("literals, places and scratch", literals::places);
+    judge.group("literals, longest files", literals::files);
+}
+
+fn resolving_fields(judge: &mut Judge, wanted: &Wanted) {
+    let Wanted { long, seed, .. } = *wanted;
+    judge.group("fields, names and months", fields::names);
+    judge.group("fields, chains", |j| fields::chains(j, long));
+    judge.group("fields, counts", |j| fields::counts(j, long));
+    judge.group("fields, long literals", fields::literals);
+    judge.group("fields, deep literals", fields::deep);
+    judge.group("fields, many definitions", |j| {
+        fields::definitions(j, seed, long)
+    });
+    judge.group("fields, drawn", |j| fields::drawn(j, seed, long));
+    judge.group("fields, room", |j| fields::rooms(j, seed, long));
+    judge.group("fields, broken", |j| fields::broken(j, seed, long));
+    judge.group("fields, all short sequences", |j| {
+        fields::sequences(j, long)
+    });
+    judge.group("fields, every number", fields::numbers);
+    judge.group("fields, order of refusals", fields::order);
+}
+
 fn wanted() -> Result<Wanted, String> {
     let mut wanted = Wanted {
         long: false,
         seed: 1,
         damage: 0,
+        only: String::new(),
         paths: Vec::new(),
     };
     let mut words = std::env::args().skip(1);
@@ -137,6 +187,7 @@ fn wanted() -> Result<Wanted, String> {
             "--long" => wanted.long = true,
             "--seed" => wanted.seed = number(&word, words.next())?,
             "--damage" => wanted.damage = number(&word, words.next())?,
+            "--only" => wanted.only = words.next().ok_or("--only takes a word")?,
             _ if word.starts_with("--") => return Err(format!("no option {word}")),
             _ => wanted.paths.push(word.into()),
         }

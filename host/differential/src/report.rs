@@ -1,9 +1,11 @@
 //! Prints a difference in full.
 
-use oracle::Row;
-use proved::Answer;
+use oracle::{Row, CHUNK_NUMBERS};
+use proved::{Answer, File, Resolved};
 
+use crate::resolves::{Asked, Rooms};
 use crate::room::{Lent, Room};
+use crate::values;
 
 /// Longer files and lists are cut.
 const MOST_BYTES: usize = 2_000;
@@ -59,6 +61,70 @@ pub fn packing<T: Lent, U: Lent>(case: u64, name: &str, room: usize, input: &[T]
         println!("        {}", U::list(cut));
     }
     println!("  proved {}", said(given.answer, given.unit));
+}
+
+/// The literal and what both answer: what is wanted, with its rows and text, and what is given.
+pub fn literal(
+    case: u64,
+    file: &[u8],
+    asked: Asked,
+    rooms: Rooms,
+    (wanted, rows, text): (Resolved, &[u32], &[u8]),
+    answer: Resolved,
+) {
+    let Asked {
+        span: (from, to),
+        verbatim,
+        scratch,
+    } = asked;
+    println!(
+        "case {case} differs: the literal {from}..{to} of a file, verbatim {verbatim}, scratch \
+         {scratch}, room for {} numbers and {} bytes",
+        rooms.0, rooms.1
+    );
+    let shown = file.get(from..to).unwrap_or(file);
+    let shown = &shown[..shown.len().min(MOST_BYTES)];
+    println!("  literal b\"{}\"", shown.escape_ascii());
+    resolved((wanted, rows, text), answer);
+}
+
+/// The field and what both answer.
+pub fn field(
+    case: u64,
+    file: &File,
+    asked: values::Asked,
+    rooms: Rooms,
+    given: (Resolved, &[u32], &[u8]),
+    answer: Resolved,
+) {
+    println!(
+        "case {case} differs: a field, {asked:?}, room for {} numbers and {} bytes",
+        rooms.0, rooms.1
+    );
+    let shown = &file.bytes[..file.bytes.len().min(MOST_BYTES)];
+    println!("  file   b\"{}\"", shown.escape_ascii());
+    for row in file.rows.chunks(4).take(MOST_ROWS) {
+        println!("        {}", u32::list(row));
+    }
+    let shown = &file.words[..file.words.len().min(MOST_BYTES)];
+    println!(
+        "  months {} of b\"{}\"",
+        u32::list(file.months),
+        shown.escape_ascii()
+    );
+    resolved(given, answer);
+}
+
+fn resolved((wanted, rows, text): (Resolved, &[u32], &[u8]), answer: Resolved) {
+    println!("  Rust   {wanted:?}");
+    for row in rows.chunks(CHUNK_NUMBERS).take(MOST_ROWS) {
+        println!("        {}", u32::list(row));
+    }
+    println!(
+        "        b\"{}\"",
+        text[..text.len().min(MOST_BYTES)].escape_ascii()
+    );
+    println!("  proved {answer:?}");
 }
 
 /// What the proved function changed in the room: all rows that are not as they were, and whether

@@ -5,12 +5,9 @@ use oracle::chunk::Chunk;
 use oracle::{ChunksExt, Refusal, Spanned};
 use proved::Answer;
 
-use crate::judge::Judge;
+use crate::judge::{self, Judge};
 use crate::report::{self, Given};
 use crate::room::Room;
-
-/// The refusal for want of room.
-const NO_ROOM: u32 = 16;
 
 /// Rooms lent where the input is refused: any room must give that refusal.
 const ROOMS_AT_REFUSAL: [usize; 2] = [0, 33];
@@ -138,7 +135,7 @@ impl Writes {
         rust: Result<&[u8], Refusal>,
         room: usize,
     ) {
-        let expected = expected(rust, room);
+        let expected = judge::expected(rust.map(<[u8]>::len), room);
         let written = &rust.unwrap_or_default()[..expected.count as usize];
         let text = &self.text[..self.text.len() - BEHIND_TEXT.len()];
         let rows = &self.rows[..self.rows.len() - BEHIND_ROWS.len()];
@@ -162,19 +159,5 @@ impl Writes {
         } else {
             self.room.restore_all();
         }
-    }
-}
-
-/// 01's order: what the text and the rows are refused with, and only then the room.
-fn expected(rust: Result<&[u8], Refusal>, room: usize) -> Answer {
-    match rust {
-        Err(refusal) => Answer {
-            number: refusal.number,
-            count: 0,
-            start: refusal.start.into(),
-            end: refusal.end.into(),
-        },
-        Ok(written) if written.len() > room => Answer::refused(NO_ROOM),
-        Ok(written) => Answer::accepted(written.len() as u64),
     }
 }

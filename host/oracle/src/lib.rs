@@ -4,9 +4,12 @@
 //! that build.rs finds; nothing of them is kept in this repository. This crate root gives them what
 //! they import from theirs (`Span`, `Spanned`, and the stand-ins in `types` and `mechanics`), and
 //! `read` turns what the Rust answers into the rows and the numbers of document 01. `chunks` turns
-//! rows of chunks into the Rust's own.
+//! rows of chunks into the Rust's own, and `resolve_literal` the Rust's chunks of a literal into rows,
+//! as `Fields` those of a field.
 
 mod chunks;
+mod fields;
+mod literals;
 pub mod mechanics;
 mod places;
 mod rows;
@@ -19,9 +22,14 @@ use std::fmt;
 
 pub use chunk::ChunksExt;
 pub use chunks::{chunks, CHUNK_NUMBERS};
+pub use fields::{Fields, Given, DEEPEST_NAME, MOST_NAMES};
+pub use literals::{chunks_of, resolve_literal, Resolved, LEAST_SCRATCH, LONGEST_LITERAL};
 pub use rows::{read, read_into, Kind, Refusal, Row, LONGEST_FILE};
 pub use salvage::{salvage, salvage_into};
 pub use types::{TypeError, TypeErrorKind};
+
+/// Where composition comes from, and the letters that it does not know yet.
+pub use unicode_normalization::{LATER, SOURCE as COMPOSITION};
 
 /// A range of bytes.
 pub type Span = std::ops::Range<usize>;

@@ -1,5 +1,7 @@
 //! Stand-ins for what the three modules take from the Rust's `types`.
 
+use std::cell::RefCell;
+use std::collections::HashSet;
 use std::convert::Infallible;
 use std::fmt;
 
@@ -28,26 +30,43 @@ pub trait Type: Sized {
     fn from_chunks(chunks: ChunksRef) -> Result<Self, TypeError>;
 }
 
-const MONTHS: [(&str, &str); 12] = [
-    ("jan", "January"),
-    ("feb", "February"),
-    ("mar", "March"),
-    ("apr", "April"),
-    ("may", "May"),
-    ("jun", "June"),
-    ("jul", "July"),
-    ("aug", "August"),
-    ("sep", "September"),
-    ("oct", "October"),
-    ("nov", "November"),
-    ("dec", "December"),
-];
+/// Month words with their texts.
+pub(crate) type Months = Vec<(String, &'static str)>;
 
-/// The text of a month word and the month's number from 0.
+thread_local! {
+    /// The month words that are lent, and the texts of all that were.
+    static MONTHS: RefCell<Months> = const { RefCell::new(Vec::new()) };
+    static TEXTS: RefCell<HashSet<&'static str>> = RefCell::new(HashSet::new());
+}
+
+/// A text that stays, as the Rust wants a month's: each is kept once.
+pub(crate) fn kept(text: &str) -> &'static str {
+    TEXTS.with_borrow_mut(|texts| match texts.get(text) {
+        Some(kept) => kept,
+        None => {
+            let text: &'static str = Box::leak(text.into());
+            texts.insert(text);
+            text
+        }
+    })
+}
+
+/// Calls with these month words lent.
+pub(crate) fn with_months<T>(months: &Months, call: impl FnOnce() -> T) -> T {
+    MONTHS.with_borrow_mut(|lent| lent.clone_from(months));
+    let answer = call();
+    MONTHS.with_borrow_mut(Vec::clear);
+    answer
+}
+
+/// The text of a month word, and its number from 0, which nobody asks for. Of equal words the first
+/// counts.
 ///
 /// Only resolving asks; strict reading never does. The Rust's own list is in a file that cannot be
 /// had, and 01 has the caller lend the words.
 pub fn get_month_for_abbr(word: &str) -> Option<(&'static str, u8)> {
-    let month = MONTHS.iter().position(|(short, _)| *short == word)?;
-    Some((MONTHS[month].1, month as u8))
+    MONTHS.with_borrow(|months| {
+        let month = months.iter().position(|(lent, _)| lent == word)?;
+        Some((months[month].1, month as u8))
+    })
 }

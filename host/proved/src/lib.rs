@@ -1,11 +1,15 @@
 //! Safe wrappers over the proved library's C functions, as include/bib.h declares them.
 
+mod resolving;
 mod writing;
 
+pub use resolving::{
+    resolve_field, resolve_literal, File, Lent, Resolved, LEAST_SCRATCH, MOST_LITERAL,
+};
 pub use writing::{format_verbatim, to_biblatex_string};
 
-/// Declares the functions in the one form that all but the writers have, and a safe wrapper of
-/// each: what is lent to be read and its length, what is lent to be written and its length, and the
+/// Declares the functions in the one form that all have but the writers and those that resolve, and
+/// a safe wrapper of each: what is lent to be read and its length, what is lent to be written and its length, and the
 /// three numbers that come back.
 macro_rules! functions {
     ($($(#[$comment:meta])* $name:ident($c:ident): $from:ty => $to:ty;)*) => {

@@ -1,12 +1,12 @@
-//! A stand-in for the crate `unicode-normalization`, which cannot be had here.
+//! The crate `unicode-normalization` where it is installed, or a stand-in for it: build.rs says how
+//! either comes here. The release that the Rust would be built with cannot be had.
+
+include!(concat!(env!("OUT_DIR"), "/compose.rs"));
 
 /// Functions on characters.
 pub mod char {
     /// The character that a letter and a mark compose to.
-    ///
-    /// Only resolving asks; strict reading never does. The table comes with resolving: until then
-    /// nothing composes, and no answer that is compared depends on it.
-    pub fn compose(_letter: char, _mark: char) -> Option<char> {
-        None
+    pub fn compose(letter: char, mark: char) -> Option<char> {
+        crate::compose(letter, mark)
     }
 }

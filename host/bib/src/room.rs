@@ -1,0 +1,72 @@
+//! The room for a field's chunks and text. How much it needs is not known before its names are
+//! resolved, so that it grows until it is enough.
+
+use proved::{File, Lent};
+
+use crate::chunk::{self, Resolved};
+use crate::row::NUMBERS;
+use crate::{memory, Reason, Refusal};
+
+/// Chunks, and bytes of text, that are lent beside what the value's own literals can need.
+const FOR_NAMES: usize = 256;
+
+/// The most chunks, and the most text, that are ever written (`mostWritten` of
+/// crates/resolve/specs/Resolves.antt). More is refused whatever is lent.
+const MOST_WRITTEN: usize = 4_294_000_000;
+
+pub(crate) struct Room {
+    chunks: usize,
+    text: usize,
+}
+
+impl Room {
+    /// At first: a literal of n bytes has at most n + 1 chunks and 2 * n bytes of text, and a value's
+    /// literals stand inside it.
+    pub(crate) fn of(rows: &[u32], which: usize, file: usize) -> Self {
+        let row = rows.chunks_exact(NUMBERS).nth(which);
+        let length = row.map_or(0, |row| row[3].saturating_sub(row[2]) as usize);
+        let length = length.min(file);
+        Self {
+            chunks: length + FOR_NAMES,
+            text: 2 * length + FOR_NAMES,
+        }
+    }
+
+    /// More of both, since the refusal does not say which was short. Where it is as much as is ever
+    /// written there is no more.
+    pub(crate) fn grow(&mut self) -> Result<(), Refusal> {
+        if self.chunks >= MOST_WRITTEN && self.text >= MOST_WRITTEN {
+            return Err(Refusal::NO_MEMORY);
+        }
+        self.chunks = (4 * self.chunks).min(MOST_WRITTEN);
+        self.text = (4 * self.text).min(MOST_WRITTEN);
+        Ok(())
+    }
+
+    /// What the call gives in this room; nothing where the room is too short.
+    pub(crate) fn resolve(
+        &self,
+        file: File,
+        which: usize,
+        is_verbatim: bool,
+    ) -> Result<Option<Resolved>, Refusal> {
+        let zeros = |count| memory::zeros(count).ok_or(Refusal::NO_MEMORY);
+        let (mut scratch, mut text) = (zeros(proved::LEAST_SCRATCH)?, zeros(self.text)?);
+        let numbers = memory::zeros(self.chunks * chunk::NUMBERS);
+        let mut chunks = numbers.ok_or(Refusal::NO_MEMORY)?;
+        let mut lent = Lent {
+            scratch: &mut scratch,
+            chunks: &mut chunks,
+            text: &mut text,
+        };
+        let answer = proved::resolve_field(file, which, is_verbatim.into(), &mut lent);
+        if answer.number == 0 {
+            return Ok(Some(Resolved::new(chunks, text, answer)));
+        }
+        let refusal = Refusal::of(answer.number, answer.start, answer.end);
+        match refusal.reason {
+            Reason::NoRoom => Ok(None),
+            _ => Err(refusal),
+        }
+    }
+}
