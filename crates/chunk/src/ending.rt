@@ -1,6 +1,6 @@
 // The last character of a text, and where its lines end.
+use reader;
 use text::class;
-use text::scanner;
 use text::scanner::Seen;
 use text::utf8;
 ghost use mathlib.Core.Path.{_≡_};
@@ -31,7 +31,7 @@ pub fn code_at(t: &[u8], at: usize, to: usize) -> u32
     requires { ⌜ (at < to) × (to ≤ length (now t)) ⌝ }
     ensures { λ r. ⌜ r ≡ codeOf (part (now (t .entry)) at to) ⌝ }
 {
-    match scanner::peek(&t[..to], at) {
+    match reader::seen(&t[..to], at) {
         Seen::End => 0,
         Seen::Char { code, next: _ } => code,
     }

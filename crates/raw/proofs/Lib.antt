@@ -8,8 +8,6 @@ pub mod grammar
 pub mod contracts
 -- one law for each way through each function
 pub mod ways
--- the cases of specs/Worked.antt compute
-pub mod Worked
 -- the proof of specs/Strict.antt
 pub mod Strict
 -- the proof of specs/Steps.antt

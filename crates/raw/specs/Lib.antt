@@ -5,7 +5,6 @@ pub mod Read
 pub mod Strict
 pub mod Steps
 pub mod Refusals
-pub mod Worked
 pub mod Braces
 pub mod Comments
 pub mod Inner

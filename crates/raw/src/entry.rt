@@ -4,6 +4,7 @@ use crate::answer::Step;
 use crate::field;
 use crate::token;
 use crate::value;
+use reader;
 use row::form;
 use row::form::Kind;
 use text::class::Test;
@@ -135,7 +136,7 @@ fn rest(
         Form::Strings => field::fields(s, base, p1, rows, n, Kind::DefinitionName),
         Form::Preambles => preamble(s, base, p1, rows, n),
         Form::Comments => Answer::Next {
-            at: scanner::eat_until(s, p1, Test::ClosingBrace),
+            at: reader::until(s, p1, Test::ClosingBrace),
             n,
         },
         Form::Other => {

@@ -4,6 +4,7 @@ use crate::answer::Reading;
 use crate::answer::Turn;
 use crate::entry;
 use crate::token;
+use reader;
 use row::fault::Fault;
 use row::fault::Reason;
 use row::limits::MOST_BYTES;
@@ -47,7 +48,7 @@ fn file_turn(s: &[u8], base: usize, at: usize, rows: &mut [u32], n: usize) -> Tu
         };
     }
     Turn::Again {
-        at: scanner::eat(s, p1),
+        at: reader::after(s, p1),
         n,
     }
 }

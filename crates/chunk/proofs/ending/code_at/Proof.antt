@@ -6,22 +6,22 @@ use Rattle.chunk.proofs.texts.LastCharacter.{code-seen}
 use Rattle.chunk.proofs.ending.code_at.Statement.{statement}
 use Rattle.chunk.proofs.ending.code_at.Tie as tie
 
-slice-aggregate-peek : tie.Need-slice-aggregate-peek
-slice-aggregate-peek c = sym (length-take-le (c .before .before .args .to) (c .before .before .args .t .now) (c .before .before .pre .1))
+slice-aggregate-seen : tie.Need-slice-aggregate-seen
+slice-aggregate-seen c = sym (length-take-le (c .before .before .args .to) (c .before .before .args .t .now) (c .before .before .pre .1))
 
 returns : tie.Need-returns
 returns c =
     let a = c .before .before .before .before .before .args in
     let p = c .before .before .before .before .before .pre in
-    code-seen (a .t .now) _ (a .at) (a .to) _ _ refl (p .0) (p .1) (c .before .before .peek .ensures .0) (c .enum-told .given .1)
+    code-seen (a .t .now) _ (a .at) (a .to) _ _ refl (p .0) (p .1) (c .before .before .seen .ensures .0) (c .enum-told .given .1)
 
 returns-2 : tie.Need-returns-2
 returns-2 c =
     let asked = c .before .before .before .before .before .before in
     let a = asked .args in
-    code-seen (a .t .now) _ (a .at) (a .to) _ _ refl (asked .pre .0) (asked .pre .1) (c .before .before .before .peek .ensures .0) (c .before .code .given .1)
+    code-seen (a .t .now) _ (a .at) (a .to) _ _ refl (asked .pre .0) (asked .pre .1) (c .before .before .before .seen .ensures .0) (c .before .code .given .1)
 
 pub code-at-spec : {M : Type 1} → statement M
 code-at-spec =
     tie.close
-    (tie.spec slice-aggregate-peek (λ c κs. search needs) (λ c. search needs) (λ c. search needs) returns returns-2)
+    (tie.spec slice-aggregate-seen (λ c κs. search needs) (λ c. search needs) (λ c. search needs) returns returns-2)

@@ -113,7 +113,7 @@ returns-5 c =
     let k = step-place (length (a .s .now)) 1 (a .end) (l .r1 .given .1) (l .before .before .lead .ensures .1)
     (l .before .before .before .before .before .pre .0 .place) in (
       rest-comment (a .s .now) (a .start) (a .at) (a .end) (l .before .before .lead .ensures .0) (a .form) (l .r1 .given .1) (enum-told4 .given .1)
-          (c .eat-until .ensures .0),
+          (c .until .ensures .0),
       (omega arith, omega arith, omega arith),
     )
 

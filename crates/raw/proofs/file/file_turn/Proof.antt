@@ -60,7 +60,7 @@ returns-5 c =
     let eat-gap = if1 .before in
     let asked = eat-gap .before .before .before in
     let a = asked .args in
-    let k = file-other (a .s .now) (a .at) (eat-gap .eat-gap .ensures .0) (if1 .if1 .left) (if2 .if2 .left) (if3 .if3 .left) (c .eat .ensures .0) in
+    let k = file-other (a .s .now) (a .at) (eat-gap .eat-gap .ensures .0) (if1 .if1 .left) (if2 .if2 .left) (if3 .if3 .left) (c .after .ensures .0) in
     (turn-again (k .0), (omega arith, omega arith, omega arith))
 
 pub file-turn-spec : {M : Type 1} → statement M
