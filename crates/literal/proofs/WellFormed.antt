@@ -17,7 +17,7 @@ use Rattle.literal.specs.Literal.{Resolved, chunks, refused, mostLiteral
 use Rattle.literal.specs.Rows.{rowsFrom, textsOf}
 use Rattle.literal.specs.WellFormed.{Passes, WellFormed}
 use Rattle.literal.proofs.characters.Pieces.{part-text, first-place}
-use Rattle.literal.proofs.characters.PartsToChunks.{chunks-texts, chunks-text}
+use Rattle.literal.proofs.characters.PartsToChunks.{chunks-texts, chunks-text, chunks-few}
 use Rattle.literal.proofs.characters.Moves.{owed-inside, Move, Leads}
 use Rattle.literal.proofs.characters.ContentMoves.{content-reads}
 use Rattle.literal.proofs.characters.RowRanges.{texts-octets, flat-texts, flat-text, rows-pass, check-passes}
@@ -83,6 +83,16 @@ literal-twice verb s base cs e =
     let same = sym (ap textsOf (k .made)) ∙ up-text base (chunksOf 0 (k .end) (k .parts)) in
     omega (arith, ap length same, chunks-text 0 (k .end) (k .parts), k .way .size, owed-inside s (k .end) (k .way .to))
 
+up-length : (base : ℕ) (cs : List Chunk) → length (map (chunkUp base) cs) ≡ length cs
+up-length base [] = refl
+up-length base (c ∷ cs) = omega (arith, up-length base cs)
+
+literal-few : (verb : Bool) (s : List ℕ) (base : ℕ) (cs : List Chunk) → resolveLiteral verb s base ≡ chunks cs → length cs ≤ length s + 1
+literal-few verb s base cs e =
+    let k = comes verb s base cs e in
+    let made = chunksOf 0 (k .end) (k .parts) in
+    omega (arith, ap length (k .made), up-length base made, chunks-few 0 (k .end) (k .parts), k .way .few, k .way .to)
+
 pub well-formed : WellFormed
 well-formed = record {
   spans = part-text;
@@ -91,4 +101,5 @@ well-formed = record {
   value = chunks-pass;
   joins = flat-texts;
   twice = literal-twice;
+  few = literal-few;
 }

@@ -8,13 +8,13 @@ pub mod TextTurns
 pub mod TextWays
 -- what the functions of src/turn.rt answer, in the form of their proofs
 pub mod TextAnswers
--- what `command`, `backslash` and `text_at` answer, in the form of their proofs
+-- what `command`, `backslash` and `text_at` answer, in the form of their proofs; and which bytes end a text or a chunk
 pub mod CommandAnswers
 -- one row more: `rows::push`
 pub mod PushWays
 -- a chunk is done: `turnaround` and `put_math`
 pub mod MakingWays
--- the functions of src/content.rt that take one turn
+-- the functions of src/content.rt that take one turn, and what a turn of text leaves
 pub mod StepWays
 -- a command and its argument: `begin` and `finish`
 pub mod ArgumentWays

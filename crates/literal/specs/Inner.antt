@@ -1,18 +1,18 @@
 -- The contracts' words of the inner functions: what the text under construction and the rows hold while content is read.
 --     Holds, Goes             a state of specs/Content.antt as the code has it; from one to the next
---     SaysText, SaysStep      a turn that writes text; a turn
+--     SaysText, SaysSign      a turn that writes text; one that ends a chunk
 --     Begun, Finished         how a command's argument begins and ends
 --     Says, SaysArgument      content, and a command with its argument, which call each other
 --     SaysParsed              a literal. For `parse`, which the crates above call
 --     Ahead, Ready            bounds: the text grows by at most two bytes for each byte read
--- Nothing is said of the text and the rows after a refusal: a literal is counted first, over no rows, and its bytes are wiped at last.
+-- Nothing is said of the text and the rows after a refusal: a literal is resolved over a small room first, and its bytes are wiped at last.
 -- Assumes nothing.
 use Prim.Native.Nat.{ℕ, suc, _+_, _*_, _≤_, _<_, max}
 use mathlib.Core.Path.{_≡_}
-use mathlib.Core.Bool.{Bool, true, false, not, _&&_}
+use mathlib.Core.Bool.{Bool, true, false, not, _&&_, _||_}
 use mathlib.Core.List.{List, [], _∷_, _++_, map}
 use lib.ListN.{length, take, getD}
-use lib.Dec.{ltb}
+use lib.Dec.{eqb, ltb}
 use Rattle.text.specs.Class.{mark}
 use Rattle.text.specs.Scan.{part, see}
 use Rattle.text.specs.declared.scanner.Seen.the-variants.{Char}
@@ -34,10 +34,8 @@ use Rattle.literal.specs.declared.making.Making.{Making}
 use Rattle.literal.specs.declared.making.Place.{Place}
 use Rattle.literal.specs.declared.turn.Text.{Text}
 use Rattle.literal.specs.declared.turn.Text.the-variants as text
-use Rattle.literal.specs.declared.content.Stepped.{Stepped}
-use Rattle.literal.specs.declared.content.Stepped.the-variants as stepped
-use Rattle.literal.specs.declared.parse.Made.{Made}
-use Rattle.literal.specs.declared.parse.Made.the-variants as made
+use Rattle.literal.specs.declared.content.Made.{Made}
+use Rattle.literal.specs.declared.content.Made.the-variants as made
 use Rattle.literal.specs.declared.parse.Parsed.{Parsed}
 use Rattle.literal.specs.declared.parse.Parsed.the-variants as parsed
 use Rattle.literal.specs.Content.{Part, put, cut, math, Reader, State, beginning, steps, chunksOf, contentTurn, ran, isEscape, flatten}
@@ -111,9 +109,13 @@ pub record Calculated (s : List ℕ) (a e : ℕ) (place : Place) (m : Making) (o
 unfoldable pub isPlain : ℕ → Bool
 isPlain b = ltb 0x20 b && ltb b 0x7F && not (mark (0x24 ∷ 0x2D ∷ 0x5C ∷ 0x7B ∷ 0x7D ∷ []) b)
 
--- the bytes from p to r do
-abbrev pub PlainTo : List ℕ → ℕ → ℕ → Type 0
-PlainTo s p r = (p ≤ r) × (r ≤ max p (length s)) × ((i : ℕ) → p ≤ i → i < r → isPlain (getD s i 0) ≡ true)
+-- a byte before which a chunk ends: a brace, or a dollar sign unless the field is verbatim
+abbrev pub isSign : Bool → ℕ → Bool
+isSign verb b = eqb b 0x7B || eqb b 0x7D || (eqb b 0x24 && not verb)
+
+-- and one before which text ends: a backslash too
+abbrev pub endsText : Bool → ℕ → Bool
+endsText verb b = eqb b 0x5C || isSign verb b
 
 -- where a turn writes text only: not at a brace, nor at a dollar sign unless the field is verbatim
 abbrev pub Ordinary : Bool → ℕ → Type 0
@@ -145,6 +147,24 @@ from argument verb s m = turns argument verb (m .braces) s (m .at)
 unfoldable pub concat : List (List ℕ) → List ℕ
 concat [] = []
 concat (w ∷ ws) = w ++ concat ws
+
+-- whatever arguments come to, the turn from p to r copies what stands there
+abbrev pub Copies : List ℕ → ℕ → ℕ → Type 0
+Copies s p r = (argument : Reader) (verb : Bool) (d : ℕ) → contentTurn argument verb d s p ≡ again r (put (part s p r) ∷ []) d
+
+-- r is p itself, or behind a turn that does
+pub record Steps (s : List ℕ) (p r : ℕ) : Type 0 where
+  pub from : p ≤ r
+  pub to : r ≤ length s
+  pub copies : p < r → Copies s p r
+
+-- all turns from p to r do
+pub record Runs (s : List ℕ) (p r : ℕ) : Type 0 where
+  pub from : p ≤ r
+  pub to : r ≤ max p (length s)
+  pub texts : List (List ℕ)
+  pub same : concat texts ≡ part s p r
+  pub leads : (argument : Reader) (verb : Bool) (d : ℕ) → turns argument verb d s p ≡ more (map put texts) (turns argument verb d s r)
 
 -- where an argument that begins at p ends
 abbrev pub endOf : OutOf Part → Step
@@ -191,14 +211,10 @@ pub record Onto (place : Place) (verb : Bool) (s : List ℕ) (m : Making) (o b :
   pub leads : (argument : Reader) → from argument verb s m ≡ more parts (from argument verb s m′)
   pub goes : Goes place parts m o b m′ o′ b′
 
-abbrev pub SaysStep : Place → Bool → List ℕ → Making → List ℕ → List ℕ → Stepped → List ℕ → List ℕ → Type 0
-SaysStep place verb s m o b (stepped.Again m′) o′ b′ = Onto place verb s m o b m′ o′ b′
-SaysStep place verb s m o b (stepped.Done m′) o′ b′ =
-    ((argument : Reader) → from argument verb s m ≡ ok (m .at) []) × (m′ ≡ m) × (o′ ≡ o) × (b′ ≡ b)
-SaysStep place verb s m o b (stepped.Refused f) o′ b′ = (argument : Reader) → from argument verb s m ≡ bad f
-SaysStep place verb s m o b (stepped.Argument k end a e) o′ b′ =
-    ((argument : Reader) → from argument verb s m ≡ opened argument verb (m .braces) s (m .at) end a e)
-    × (k ≡ meaningOf (part s (m .at + 1) end)) × (o′ ≡ o) × (b′ ≡ b)
+-- a turn that ends a chunk
+abbrev pub SaysSign : Place → Bool → List ℕ → Making → List ℕ → List ℕ → Made → List ℕ → List ℕ → Type 0
+SaysSign place verb s m o b (made.Done m′) o′ b′ = Onto place verb s m o b m′ o′ b′
+SaysSign place verb s m o b (made.Refused f) o′ b′ = (argument : Reader) → from argument verb s m ≡ bad f
 
 -- ---- a command with its argument
 
@@ -323,12 +339,6 @@ pub record Ahead (len v : ℕ) (m m′ : Making) : Type 0 where
   pub from : m′ .from ≤ m′ .len
   pub start : m′ .start ≤ m′ .at
 
-abbrev pub AheadStep : ℕ → Making → Stepped → Type 0
-AheadStep len m (stepped.Again m′) = Ahead len 1 m m′
-AheadStep len m (stepped.Done m′) = Unit {0}
-AheadStep len m (stepped.Refused f) = Placed len f
-AheadStep len m (stepped.Argument k end a e) = Spans len (m .at) end a e
-
 abbrev pub AheadMade : ℕ → ℕ → Making → Made → Type 0
 AheadMade len v m (made.Done m′) = Ahead len v m m′
 AheadMade len v m (made.Refused f) = Placed len f
@@ -350,6 +360,17 @@ pub record ReadyText (s : List ℕ) (p n : ℕ) (o byName byMark : List ℕ) : T
 pub record Ready (s : List ℕ) (place : Place) (m : Making) (o byName byMark : List ℕ) : Type 0 where
   pub literal : length s ≤ 16384
   pub text : ReadyText s (m .at) (m .len) o byName byMark
+  pub from : m .from ≤ m .len
+  pub start : m .start ≤ m .at
+  pub braces : m .braces ≤ m .at
+  pub rows : m .rows .n ≤ 1000000000000 + m .at
+  pub value : place .text + m .len + 2 * length s ≤ 4294900000 + 2 * m .at
+  pub file : place .base ≤ 16777215
+
+-- the same without the tables, for a turn that ends a chunk
+pub record Within (s : List ℕ) (place : Place) (m : Making) (o : List ℕ) : Type 0 where
+  pub literal : length s ≤ 16384
+  pub room : m .len + 2 * length s ≤ length o + 2 * m .at
   pub from : m .from ≤ m .len
   pub start : m .start ≤ m .at
   pub braces : m .braces ≤ m .at

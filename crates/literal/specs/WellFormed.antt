@@ -1,7 +1,7 @@
--- What a literal is resolved into is well-formed: its text is UTF-8, the rows of its chunks pass the writers' check, and its text has at most
--- twice its bytes. The proof is `well-formed` of proofs/WellFormed.antt.
+-- What a literal is resolved into is well-formed: its text is UTF-8, the rows of its chunks pass the writers' check, its text has at most twice
+-- its bytes, and it has at most one chunk more than bytes. The proof is `well-formed` of proofs/WellFormed.antt.
 -- Assumes nothing.
-use Prim.Native.Nat.{ℕ, _*_, _≤_}
+use Prim.Native.Nat.{ℕ, _+_, _*_, _≤_}
 use mathlib.Core.Path.{_≡_}
 use mathlib.Core.Bool.{Bool, true}
 use mathlib.Core.List.{List}
@@ -38,3 +38,4 @@ pub record WellFormed : Type 0 where
   pub joins : (cs : List Chunk) → Texts cs → Texts (flatten cs)
   -- [01:From file to field] a literal of 16,384 bytes has a text of at most 32,768: whatever its bytes are
   pub twice : (verb : Bool) (s : List ℕ) (base : ℕ) (cs : List Chunk) → resolveLiteral verb s base ≡ chunks cs → length (textsOf cs) ≤ 2 * length s
+  pub few : (verb : Bool) (s : List ℕ) (base : ℕ) (cs : List Chunk) → resolveLiteral verb s base ≡ chunks cs → length cs ≤ length s + 1

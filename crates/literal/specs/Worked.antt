@@ -1,4 +1,4 @@
--- The "resolve" cases of the edge table [01:Edge table], line by line, and others. Each is a value of one literal at place 0.
+-- Cases of resolving besides those of the edge table, which stand in `bib`. Each is a value of one literal at place 0.
 --     table, Worked       the proof of `Worked` is `worked` of proofs/Worked.antt
 --     Deep                arguments at the limit of 64
 -- Assumes nothing.
@@ -43,16 +43,8 @@ infix 80 _of_from_to_
 abbrev pub _of_from_to_ : Kind → String → ℕ → ℕ → Chunk
 _of_from_to_ k t a e = chunk k (utf8 t) a e
 
--- the first seven are document 01's
 unfoldable pub table : List Case
 table =
-    literal "a----b" gives chunks (Normal of "a—-b" from 0 to 6 ∷ []) ∷
-    literal "\\'{\\i}" gives chunks (Normal of "í" from 0 to 6 ∷ []) ∷
-    literal "\\o{x}" gives chunks (Normal of "x̸" from 0 to 5 ∷ []) ∷
-    literal "a\\ b" gives chunks (Normal of "a\\  b" from 0 to 4 ∷ []) ∷
-    literal "{a}" gives chunks (Normal of "" from 0 to 0 ∷ Verbatim of "a" from 1 to 2 ∷ []) ∷
-    literal "$x" gives refused 3 2 2 ∷
-    verbatim "$x" gives chunks (Normal of "$x" from 0 to 2 ∷ []) ∷
     literal "" gives chunks (Normal of "" from 0 to 0 ∷ []) ∷
     literal "Stra\\ss." gives chunks (Normal of "Stra\\ss. " from 0 to 8 ∷ []) ∷
     literal "{\\'}" gives chunks (Normal of "" from 0 to 0 ∷ Verbatim of "}́" from 1 to 4 ∷ []) ∷

@@ -1,10 +1,8 @@
-// The turns of content, and how a command's argument begins and ends.
+// The turns of content that end a chunk, and how a command's argument begins and ends.
 use crate::making;
 use crate::making::Making;
 use crate::making::Place;
 use crate::rows::Rows;
-use crate::turn;
-use crate::turn::Text;
 use command::execute;
 use command::meaning::Meaning;
 use command::settle;
@@ -13,7 +11,7 @@ use row::fault::Reason;
 use text::class::Test;
 use text::scanner;
 ghost use mathlib.Core.Path.{_≡_};
-ghost use mathlib.Core.Bool.{false};
+ghost use mathlib.Core.Bool.{true, false};
 ghost use Prim.Native.Nat.{_+_, _*_, _≤_, _<_};
 ghost use lib.ListN.{length, getD};
 ghost use Rattle.text.specs.Scan.{part};
@@ -21,23 +19,16 @@ ghost use Rattle.compose.specs.Lookup.{numbers};
 ghost use Rattle.compose.specs.Composites.{composites};
 ghost use Rattle.command.specs.Commands.{meaningOf};
 ghost use Rattle.command.specs.Execute.{leading};
-ghost use Rattle.literal.specs.Inner.{Further, Ready, Ordinary, SaysStep, AheadStep, Begun, Finished, Closes};
+ghost use Rattle.literal.specs.Inner.{isSign, Further, Within, SaysSign, AheadMade, Begun, Finished, Closes};
 
-// What a turn came to: content goes on, is done or refused; or a command has an argument.
-pub enum Stepped {
-    Again(Making),
+// What content came to.
+pub enum Made {
     Done(Making),
     Refused(Fault),
-    Argument {
-        m: Meaning,
-        end: usize,
-        from: usize,
-        to: usize,
-    },
 }
 
 // The state at another place, with another end of the text.
-fn further(st: Making, at: usize, len: usize) -> Making
+pub fn further(st: Making, at: usize, len: usize) -> Making
     ensures { λ r. ⌜ Further st at len r ⌝ }
 {
     let rows = st.rows;
@@ -54,24 +45,16 @@ fn further(st: Making, at: usize, len: usize) -> Making
 }
 
 // A dollar sign: the chunk before it is done, and what stands up to the next dollar sign is a chunk of math.
-fn math(
-    s: &[u8],
-    st: Making,
-    place: Place,
-    out: &mut [u8],
-    numbers: &mut [u32],
-    names: &[u8],
-    marks: &[u32],
-) -> Stepped
-    requires { ⌜ Ready (now s) place st (now out) (now names) (now marks) × (st .at < length (now s)) × (getD (now s) (st .at) 0 ≡ 0x24) ⌝ }
-    ensures { λ r. ⌜ SaysStep place false (now (s .entry)) st (now (out .entry)) (now (numbers .entry)) r (now (out .exit)) (now (numbers .exit)) ⌝ }
-    ensures { λ r. ⌜ AheadStep (length (now (s .entry))) st r ⌝ }
+fn math(s: &[u8], st: Making, place: Place, out: &mut [u8], numbers: &mut [u32]) -> Made
+    requires { ⌜ Within (now s) place st (now out) × (st .at < length (now s)) × (getD (now s) (st .at) 0 ≡ 0x24) ⌝ }
+    ensures { λ r. ⌜ SaysSign place false (now (s .entry)) st (now (out .entry)) (now (numbers .entry)) r (now (out .exit)) (now (numbers .exit)) ⌝ }
+    ensures { λ r. ⌜ AheadMade (length (now (s .entry))) 1 st r ⌝ }
 {
     let at = st.at;
     let braces = st.braces;
     let to = scanner::eat_until(s, at + 1, Test::Dollar);
     if s.len() <= to {
-        return Stepped::Refused(Fault {
+        return Made::Refused(Fault {
             reason: Reason::UnexpectedEof,
             start: to,
             end: to,
@@ -79,117 +62,41 @@ fn math(
     }
     let t = making::turnaround(st, place, at, braces, to + 1, out, numbers);
     let m = making::put_math(s, at + 1, to, t, place, out, numbers);
-    Stepped::Again(m)
+    Made::Done(m)
 }
 
-// An opening brace: the chunk before it is done, and a Verbatim one begins.
-fn opening(
+// A brace or a dollar sign: the chunk before it is done. An opening brace begins a Verbatim one; a closing one is refused where no brace is open.
+pub fn sign(
     s: &[u8],
     verb: bool,
     st: Making,
     place: Place,
     out: &mut [u8],
     numbers: &mut [u32],
-    names: &[u8],
-    marks: &[u32],
-) -> Stepped
-    requires { ⌜ Ready (now s) place st (now out) (now names) (now marks) × (st .at < length (now s)) × (getD (now s) (st .at) 0 ≡ 0x7B) ×
-        (st .braces ≤ st .at) ⌝ }
-    ensures { λ r. ⌜ SaysStep place verb (now (s .entry)) st (now (out .entry)) (now (numbers .entry)) r (now (out .exit)) (now (numbers .exit)) ⌝ }
-    ensures { λ r. ⌜ AheadStep (length (now (s .entry))) st r ⌝ }
+) -> Made
+    requires { ⌜ Within (now s) place st (now out) × (isSign verb (getD (now s) (st .at) 0) ≡ true) × (st .at < length (now s)) ⌝ }
+    ensures { λ r. ⌜ SaysSign place verb (now (s .entry)) st (now (out .entry)) (now (numbers .entry)) r (now (out .exit)) (now (numbers .exit)) ⌝ }
+    ensures { λ r. ⌜ AheadMade (length (now (s .entry))) 1 st r ⌝ }
 {
     let at = st.at;
     let braces = st.braces;
-    let t = making::turnaround(st, place, at, braces + 1, at + 1, out, numbers);
-    Stepped::Again(t)
-}
-
-// A closing brace: the chunk before it is done, unless no brace is open.
-fn closing(
-    s: &[u8],
-    verb: bool,
-    st: Making,
-    place: Place,
-    out: &mut [u8],
-    numbers: &mut [u32],
-    names: &[u8],
-    marks: &[u32],
-) -> Stepped
-    requires { ⌜ Ready (now s) place st (now out) (now names) (now marks) × (st .at < length (now s)) × (getD (now s) (st .at) 0 ≡ 0x7D) ⌝ }
-    ensures { λ r. ⌜ SaysStep place verb (now (s .entry)) st (now (out .entry)) (now (numbers .entry)) r (now (out .exit)) (now (numbers .exit)) ⌝ }
-    ensures { λ r. ⌜ AheadStep (length (now (s .entry))) st r ⌝ }
-{
-    let at = st.at;
-    let braces = st.braces;
+    let b = s[at];
+    if b == 0x7b {
+        let t = making::turnaround(st, place, at, braces + 1, at + 1, out, numbers);
+        return Made::Done(t);
+    }
+    if b == 0x24 {
+        return math(s, st, place, out, numbers);
+    }
     if braces == 0 {
-        return Stepped::Refused(Fault {
+        return Made::Refused(Fault {
             reason: Reason::UnexpectedClosingBrace,
             start: at,
             end: at + 1,
         });
     }
     let t = making::turnaround(st, place, at, braces - 1, at + 1, out, numbers);
-    Stepped::Again(t)
-}
-
-// Text, or the end of the content, or a command with an argument.
-fn text_step(
-    s: &[u8],
-    verb: bool,
-    st: Making,
-    place: Place,
-    out: &mut [u8],
-    numbers: &mut [u32],
-    names: &[u8],
-    marks: &[u32],
-) -> Stepped
-    requires { ⌜ Ready (now s) place st (now out) (now names) (now marks) × Ordinary verb (getD (now s) (st .at) 0) ⌝ }
-    ensures { λ r. ⌜ SaysStep place verb (now (s .entry)) st (now (out .entry)) (now (numbers .entry)) r (now (out .exit)) (now (numbers .exit)) ⌝ }
-    ensures { λ r. ⌜ AheadStep (length (now (s .entry))) st r ⌝ }
-{
-    let at = st.at;
-    let len = st.len;
-    match turn::text_at(s, verb, at, out, len, names, marks) {
-        Text::End => Stepped::Done(st),
-        Text::Put { next, len } => {
-            let t = further(st, next, len);
-            Stepped::Again(t)
-        }
-        Text::Refused(f) => Stepped::Refused(f),
-        Text::Argument { m, end, from, to } => Stepped::Argument { m, end, from, to },
-    }
-}
-
-// One turn of content, or several over a run of characters; everything but a command's argument.
-pub fn step(
-    s: &[u8],
-    verb: bool,
-    st: Making,
-    place: Place,
-    out: &mut [u8],
-    numbers: &mut [u32],
-    names: &[u8],
-    marks: &[u32],
-) -> Stepped
-    requires { ⌜ Ready (now s) place st (now out) (now names) (now marks) ⌝ }
-    ensures { λ r. ⌜ SaysStep place verb (now (s .entry)) st (now (out .entry)) (now (numbers .entry)) r (now (out .exit)) (now (numbers .exit)) ⌝ }
-    ensures { λ r. ⌜ AheadStep (length (now (s .entry))) st r ⌝ }
-{
-    let at = st.at;
-    if at < s.len() {
-        let b = s[at];
-        if b == 0x7b {
-            return opening(s, verb, st, place, out, numbers, names, marks);
-        }
-        if b == 0x7d {
-            return closing(s, verb, st, place, out, numbers, names, marks);
-        }
-        if (b == 0x24) & !verb {
-            return math(s, st, place, out, numbers, names, marks);
-        }
-        return text_step(s, verb, st, place, out, numbers, names, marks);
-    }
-    text_step(s, verb, st, place, out, numbers, names, marks)
+    Made::Done(t)
 }
 
 // What a command writes before its argument, and the state with which the argument's content begins.

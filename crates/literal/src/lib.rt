@@ -1,7 +1,7 @@
 // Content resolved into chunks, after `ContentParser` of resolve.rs.
 //
 // A turn of content either writes text (`turn`) or ends a chunk (`making`), which becomes a row of a literal (`rows`). `content` has the turns
-// together, and how a command's argument begins and ends; `parse` has content and argument, which call each other, and a whole literal.
+// that end a chunk, and how a command's argument begins and ends; `parse` has content and argument, which call each other, and a whole literal.
 pub mod content;
 pub mod making;
 pub mod parse;

@@ -1,10 +1,12 @@
 // A literal, after `ContentParser::parse`: content and a command's argument, which call each other with the depth falling.
 use crate::content;
-use crate::content::Stepped;
+use crate::content::Made;
 use crate::making;
 use crate::making::Making;
 use crate::making::Place;
 use crate::rows::Rows;
+use crate::turn;
+use crate::turn::Text;
 use command::meaning::Meaning;
 use row::fault::Fault;
 use row::fault::Reason;
@@ -23,12 +25,6 @@ ghost use Rattle.literal.specs.Inner.{from, Ready, Spans, inArgument, Fi
 const MOST_LITERAL: usize = 16_384;
 
 const MOST_ARGUMENTS: usize = 64;
-
-// What content came to.
-pub enum Made {
-    Done(Making),
-    Refused(Fault),
-}
 
 // What a literal came to: the rows of the value so far, and the bytes of the literal's text.
 pub enum Parsed {
@@ -55,23 +51,35 @@ fn content(
 {
     let mut st = first;
     loop {
-        match content::step(s, verb, st, place, out, numbers, names, marks) {
-            Stepped::Again(t) => {
-                st = t;
+        let at = st.at;
+        if turn::sign_at(s, verb, at) {
+            match content::sign(s, verb, st, place, out, numbers) {
+                Made::Done(t) => {
+                    st = t;
+                }
+                Made::Refused(f) => {
+                    return Made::Refused(f);
+                }
             }
-            Stepped::Done(t) => {
-                return Made::Done(t);
-            }
-            Stepped::Refused(f) => {
-                return Made::Refused(f);
-            }
-            Stepped::Argument { m, end, from, to } => {
-                match argument(s, m, end, from, to, depth, st, out, names, marks) {
-                    Made::Done(t) => {
-                        st = t;
-                    }
-                    Made::Refused(f) => {
-                        return Made::Refused(f);
+        } else {
+            match turn::text_at(s, verb, at, out, st.len, names, marks) {
+                Text::End => {
+                    return Made::Done(st);
+                }
+                Text::Put { next, len } => {
+                    st = content::further(st, next, len);
+                }
+                Text::Refused(f) => {
+                    return Made::Refused(f);
+                }
+                Text::Argument { m, end, from, to } => {
+                    match argument(s, m, end, from, to, depth, st, out, names, marks) {
+                        Made::Done(t) => {
+                            st = t;
+                        }
+                        Made::Refused(f) => {
+                            return Made::Refused(f);
+                        }
                     }
                 }
             }

@@ -19,7 +19,7 @@ ghost use Rattle.text.specs.Class.{isWhitespace, isControl};
 ghost use Rattle.text.specs.Scan.{see, nextOf, part, Ahead};
 ghost use Rattle.command.specs.Execute.{given, absent};
 ghost use Rattle.literal.specs.Content.{isEscape, begins, argumentEnd, nameEnd, opensAt, takesOne};
-ghost use Rattle.literal.specs.Inner.{isPlain, PlainTo, Ordinary, Behind, Command, Took, SaysText, GrowsText, ReadyText, endOf, EndInside};
+ghost use Rattle.literal.specs.Inner.{isPlain, isSign, endsText, Ordinary, Behind, Command, Steps, Runs, Wrote, Grows, Took, SaysText, GrowsText, ReadyText, endOf, EndInside};
 
 // What came of it: the content has ended; text was written, up to a place of the content and a new end of the text; it is refused; or a command
 // has an argument in braces: what its name means, where the name ends, and where the argument begins and ends.
@@ -38,6 +38,12 @@ pub enum Text {
     },
 }
 
+// A place of the content, and the end of the text there.
+struct Grown {
+    at: usize,
+    len: usize,
+}
+
 // The characters that stand for themselves behind a backslash.
 fn is_escape(c: u32, verb: bool) -> bool
     ensures { λ r. ⌜ r ≡ isEscape verb c ⌝ }
@@ -51,65 +57,161 @@ fn is_plain(b: u8) -> bool
     (0x20 < b) & (b < 0x7f) & (b != 0x24) & (b != 0x2d) & (b != 0x5c) & (b != 0x7b) & (b != 0x7d)
 }
 
-// The place after the bytes from a place on that stand for themselves.
-fn plain(s: &[u8], at: usize) -> usize
-    ensures { λ r. ⌜ PlainTo (now (s .entry)) at r ⌝ }
+// Whether a character is white space. Most that are not ASCII are settled by where they stand: none is white between 0xA0 and 0x1680, nor past 0x3000.
+fn is_white(c: u32) -> bool
+    ensures { λ r. ⌜ r ≡ isWhitespace c ⌝ }
+{
+    if ((0xa0 < c) & (c < 0x1680)) | (0x3000 < c) {
+        return false;
+    }
+    class::is_whitespace(c)
+}
+
+// The place after a blank by itself, or after a character of several bytes that is no white space; at any other, the place itself.
+fn past_rare(s: &[u8], at: usize) -> usize
+    requires { ⌜ at < length (now s) ⌝ }
+    ensures { λ r. ⌜ Steps (now (s .entry)) at r ⌝ }
+{
+    if s[at] == 0x20 {
+        let after = scanner::eat_whitespace(s, at);
+        if after == at + 1 {
+            return after;
+        }
+        return at;
+    }
+    if s[at] < 0x80 {
+        return at;
+    }
+    match scanner::peek(s, at) {
+        Seen::End => at,
+        Seen::Char { code, next } => {
+            if is_white(code) {
+                return at;
+            }
+            next
+        }
+    }
+}
+
+// The place after the characters from a place on that stand for themselves, and single blanks between them.
+fn run(s: &[u8], at: usize) -> usize
+    ensures { λ r. ⌜ Runs (now (s .entry)) at r ⌝ }
 {
     let mut i = at;
     while i < s.len() {
-        if !is_plain(s[i]) {
-            return i;
+        if is_plain(s[i]) {
+            i += 1;
+        } else {
+            let next = past_rare(s, i);
+            if next <= i {
+                return i;
+            }
+            i = next;
         }
-        i += 1;
     }
     i
 }
 
 // One to three hyphens.
-fn hyphens(s: &[u8], at: usize, out: &mut [u8], len: usize) -> Text
+fn hyphens(s: &[u8], at: usize, out: &mut [u8], len: usize) -> Grown
     requires { ⌜ (at < length (now s)) × (getD (now s) at 0 ≡ 0x2D) × (len + 2 * length (now s) ≤ length (now out) + 2 * at) ⌝ }
-    ensures { λ r. ⌜ SaysText false (now (s .entry)) at len (now (out .entry)) r (now (out .exit)) ⌝ }
-    ensures { λ r. ⌜ GrowsText (length (now (s .entry))) at len r ⌝ }
+    ensures { λ r. ⌜ Wrote false (now (s .entry)) at len (now (out .entry)) (r .at) (r .len) (now (out .exit)) ⌝ }
+    ensures { λ r. ⌜ Grows (length (now (s .entry))) 1 at len (r .at) (r .len) ⌝ }
 {
     let one = at + 1;
     let two = scanner::eat_byte(s, one, 0x2d);
     if two == one {
         let l = stack::push(out, len, 0x2d);
-        return Text::Put { next: one, len: l };
+        return Grown { at: one, len: l };
     }
     let three = scanner::eat_byte(s, two, 0x2d);
     if three == two {
         let l = stack::put_code(out, len, 0x2013);
-        return Text::Put { next: two, len: l };
+        return Grown { at: two, len: l };
     }
     let l = stack::put_code(out, len, 0x2014);
-    Text::Put {
-        next: three,
-        len: l,
-    }
+    Grown { at: three, len: l }
 }
 
 // White space, which is one blank; or any other character.
-fn other(s: &[u8], verb: bool, at: usize, out: &mut [u8], len: usize) -> Text
-    requires { ⌜ (at ≤ length (now s)) × Ordinary verb (getD (now s) at 0) × (getD (now s) at 0 ≡ 0x5C → ⊥) × (getD (now s) at 0 ≡ 0x2D → verb ≡ true)
+fn other(s: &[u8], verb: bool, at: usize, out: &mut [u8], len: usize) -> Grown
+    requires { ⌜ (at < length (now s)) × Ordinary verb (getD (now s) at 0) × (getD (now s) at 0 ≡ 0x5C → ⊥) × (getD (now s) at 0 ≡ 0x2D → verb ≡ true)
         × (len + 2 * length (now s) ≤ length (now out) + 2 * at) ⌝ }
-    ensures { λ r. ⌜ SaysText verb (now (s .entry)) at len (now (out .entry)) r (now (out .exit)) ⌝ }
-    ensures { λ r. ⌜ GrowsText (length (now (s .entry))) at len r ⌝ }
+    ensures { λ r. ⌜ Wrote verb (now (s .entry)) at len (now (out .entry)) (r .at) (r .len) (now (out .exit)) ⌝ }
+    ensures { λ r. ⌜ Grows (length (now (s .entry))) 1 at len (r .at) (r .len) ⌝ }
 {
     match scanner::peek(s, at) {
-        Seen::End => Text::End,
+        Seen::End => Grown { at, len },
         Seen::Char { code, next } => {
             if class::is_whitespace(code) {
                 let l = stack::push(out, len, 0x20);
                 let after = scanner::eat_whitespace(s, at);
-                return Text::Put {
-                    next: after,
-                    len: l,
-                };
+                return Grown { at: after, len: l };
             }
             let l = stack::copy(s, at, next, out, len);
-            Text::Put { next, len: l }
+            Grown { at: next, len: l }
         }
+    }
+}
+
+// Hyphens, white space, or any other character.
+fn one_text(s: &[u8], verb: bool, at: usize, out: &mut [u8], len: usize) -> Grown
+    requires { ⌜ (at < length (now s)) × Ordinary verb (getD (now s) at 0) × (getD (now s) at 0 ≡ 0x5C → ⊥) ×
+        (len + 2 * length (now s) ≤ length (now out) + 2 * at) ⌝ }
+    ensures { λ r. ⌜ Wrote verb (now (s .entry)) at len (now (out .entry)) (r .at) (r .len) (now (out .exit)) ⌝ }
+    ensures { λ r. ⌜ Grows (length (now (s .entry))) 1 at len (r .at) (r .len) ⌝ }
+{
+    if (s[at] == 0x2d) & !verb {
+        return hyphens(s, at, out, len);
+    }
+    other(s, verb, at, out, len)
+}
+
+// Whether a chunk ends before a byte: a brace, or a dollar sign unless the field is verbatim.
+fn is_sign(b: u8, verb: bool) -> bool
+    ensures { λ r. ⌜ r ≡ isSign verb b ⌝ }
+{
+    (b == 0x7b) | (b == 0x7d) | ((b == 0x24) & !verb)
+}
+
+// Whether such a byte stands at a place.
+pub fn sign_at(s: &[u8], verb: bool, at: usize) -> bool
+    ensures { λ r. ⌜ r ≡ isSign verb (getD (now (s .entry)) at 0) ⌝ }
+{
+    if s.len() <= at {
+        return false;
+    }
+    is_sign(s[at], verb)
+}
+
+// Whether text ends before a byte: a backslash too.
+fn ends_text(b: u8, verb: bool) -> bool
+    ensures { λ r. ⌜ r ≡ endsText verb b ⌝ }
+{
+    (b == 0x5c) | is_sign(b, verb)
+}
+
+// Text from a place on, up to the end, a backslash, a brace, or a dollar sign unless the field is verbatim.
+fn texts(s: &[u8], verb: bool, at: usize, out: &mut [u8], len: usize) -> Grown
+    requires { ⌜ (at ≤ length (now s)) × (len + 2 * length (now s) ≤ length (now out) + 2 * at) ⌝ }
+    ensures { λ r. ⌜ Wrote verb (now (s .entry)) at len (now (out .entry)) (r .at) (r .len) (now (out .exit)) ⌝ }
+    ensures { λ r. ⌜ Grows (length (now (s .entry))) 0 at len (r .at) (r .len) ⌝ }
+    ensures { λ r. ⌜ (r .at < length (now (s .entry)) → endsText verb (getD (now (s .entry)) (r .at) 0) ≡ true) ⌝ }
+{
+    let mut i = at;
+    let mut l = len;
+    loop {
+        let j = run(s, i);
+        let k = stack::copy(s, i, j, out, l);
+        if s.len() <= j {
+            return Grown { at: j, len: k };
+        }
+        if ends_text(s[j], verb) {
+            return Grown { at: j, len: k };
+        }
+        let t = one_text(s, verb, j, out, k);
+        i = t.at;
+        l = t.len;
     }
 }
 
@@ -345,20 +447,23 @@ pub fn text_at(
     ensures { λ r. ⌜ SaysText verb (now (s .entry)) at len (now (out .entry)) r (now (out .exit)) ⌝ }
     ensures { λ r. ⌜ GrowsText (length (now (s .entry))) at len r ⌝ }
 {
-    let run = plain(s, at);
-    if at < run {
-        let l = stack::copy(s, at, run, out, len);
-        return Text::Put { next: run, len: l };
-    }
     if s.len() <= at {
         return Text::End;
     }
-    let b = s[at];
-    if b == 0x5c {
-        return backslash(s, verb, at, out, len, names, marks);
+    if s[at] == 0x5c {
+        let r = backslash(s, verb, at, out, len, names, marks);
+        let Text::Put { next, len: l } = r else {
+            return r;
+        };
+        let t = texts(s, verb, next, out, l);
+        return Text::Put {
+            next: t.at,
+            len: t.len,
+        };
     }
-    if (b == 0x2d) & !verb {
-        return hyphens(s, at, out, len);
+    let t = texts(s, verb, at, out, len);
+    Text::Put {
+        next: t.at,
+        len: t.len,
     }
-    other(s, verb, at, out, len)
 }

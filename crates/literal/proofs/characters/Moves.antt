@@ -17,7 +17,7 @@ use Rattle.text.specs.declared.scanner.Seen.the-variants.{End, Char}
 use Rattle.text.proofs.Seeing.{seeing}
 use Rattle.raw.specs.Reader.{OutOf, ok, again, bad, more, andThen, after, eaten, loop, many, turn}
 use Rattle.literal.specs.Content.{Part, put, Reader, begins}
-use Rattle.literal.proofs.characters.PartsToChunks.{PartTexts, append-texts, weights, weights-append}
+use Rattle.literal.proofs.characters.PartsToChunks.{PartTexts, append-texts, weights, weights-append, ends, ends-append}
 
 -- ---- what is owed
 
@@ -56,15 +56,16 @@ owed-inside s p h = by (see s p) refl
 
 -- ---- a way from p to q through the text s, which emits xs
 
--- It emits at most two octets for each one read. From a boundary of a text that is UTF-8 it leads to a boundary, and emits texts that are.
+-- It emits at most two octets for each one read, and ends at most one chunk. From a boundary of a text that is UTF-8 it leads to a boundary, and emits texts that are.
 pub record Move (s : List ℕ) (p q : ℕ) (xs : List Part) : Type 0 where
   pub from : p ≤ q
   pub to : q ≤ length s
   pub size : weights xs + (2 * p + owed s p) ≤ 2 * q + owed s q
+  pub few : ends xs + p ≤ q
   pub texts : Octets s → isBoundary s p ≡ true → (isBoundary s q ≡ true) × PartTexts xs
 
 pub move-none : (s : List ℕ) (p : ℕ) → p ≤ length s → Move s p p []
-move-none s p h = record { from = omega arith; to = h; size = omega arith; texts = λ o b. (b, tt) }
+move-none s p h = record { from = omega arith; to = h; size = omega arith; few = omega arith; texts = λ o b. (b, tt) }
 
 pub move-on : (s : List ℕ) (p q r : ℕ) (xs ys : List Part) → Move s p q xs → Move s q r ys → Move s p r (xs ++ ys)
 move-on s p q r xs ys m n =
@@ -72,6 +73,7 @@ move-on s p q r xs ys m n =
       from = omega (arith, m .from, n .from);
       to = n .to;
       size = omega (arith, m .size, n .size, weights-append xs ys);
+      few = omega (arith, m .few, n .few, ends-append xs ys);
       texts = λ o b. let x = m .texts o b in let y = n .texts o (x .0) in (y .0, append-texts xs ys (x .1) (y .1));
     }
 
@@ -83,6 +85,7 @@ move-put s p q w h l z f =
       from = h;
       to = l;
       size = omega (arith, z);
+      few = omega (arith, h);
       texts = λ o b. let x = f o b in (x .0, (x .1, tt));
     }
 

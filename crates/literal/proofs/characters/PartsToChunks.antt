@@ -1,8 +1,10 @@
 -- What parts come to: the texts and the sizes of their chunks.
---     PartTexts, weights                the texts of parts are UTF-8; how much parts write, a chunk of math with its dollar signs
---     append-texts, weights-append      of parts one after another
+--     PartTexts, weights, ends          the texts of parts are UTF-8; how much parts write, a chunk of math with its dollar signs; how many chunks
+--                                       they end
+--     append-texts, weights-append, ends-append     of parts one after another
 --     chunks-texts                      the texts of their chunks are UTF-8
 --     chunks-text, chunks-formatted     the text of their chunks, and that text formatted, is no more than the parts write
+--     chunks-few                        there is at most one chunk more than the parts end
 -- Assumes nothing.
 use Prim.Native.Nat.{ℕ, zero, suc, _+_, _≤_}
 use native.Mathlib.Omega.{arith}
@@ -42,6 +44,15 @@ abbrev pub weights : List Part → ℕ
 weights [] = 0
 weights (x ∷ xs) = weight x + weights xs
 
+abbrev pub end : Part → ℕ
+end (put w) = 0
+end (cut d e b) = 1
+end (math w a e) = 1
+
+abbrev pub ends : List Part → ℕ
+ends [] = 0
+ends (x ∷ xs) = end x + ends xs
+
 pub append-texts : (xs ys : List Part) → PartTexts xs → PartTexts ys → PartTexts (xs ++ ys)
 append-texts [] ys h k = k
 append-texts (x ∷ xs) ys h k = (h .0, append-texts xs ys (h .1) k)
@@ -49,6 +60,10 @@ append-texts (x ∷ xs) ys h k = (h .0, append-texts xs ys (h .1) k)
 pub weights-append : (xs ys : List Part) → weights (xs ++ ys) ≡ weights xs + weights ys
 weights-append [] ys = omega arith
 weights-append (x ∷ xs) ys = omega (arith, weights-append xs ys)
+
+pub ends-append : (xs ys : List Part) → ends (xs ++ ys) ≡ ends xs + ends ys
+ends-append [] ys = omega arith
+ends-append (x ∷ xs) ys = omega (arith, ends-append xs ys)
 
 -- ---- the texts of their chunks
 
@@ -171,3 +186,24 @@ chunks-text p e xs = omega (arith, text-size (chunksOf p e xs), chunks-size p e 
 
 pub chunks-formatted : (p e : ℕ) (xs : List Part) → length (formatVerbatim (chunksOf p e xs)) ≤ weights xs
 chunks-formatted p e xs = omega (arith, format-size (chunksOf p e xs) false, chunks-size p e xs)
+
+-- ---- how many chunks
+
+step-few : (σ : State) (x : Part) → length (step σ x .done) ≡ length (σ .done) + end x
+step-few σ (put w) = omega arith
+step-few σ (cut d e b) = length-append (σ .done) (chunk (σ .kind) (σ .text) (σ .start) e ∷ [])
+step-few σ (math w a e) = length-append (σ .done) (chunk Math w a e ∷ [])
+
+steps-few : (xs : List Part) (σ : State) → length (steps σ xs .done) ≡ length (σ .done) + ends xs
+unfolding steps
+steps-few [] σ = omega arith
+steps-few (x ∷ xs) σ = omega (arith, step-few σ x, steps-few xs (step σ x))
+
+closed-few : (σ : State) (e : ℕ) (t : List ℕ) (cs : List Chunk) → length (closed σ e t cs) ≤ length (σ .done) + 1
+closed-few σ e [] [] = omega (arith, length-append (σ .done) (chunk (σ .kind) (σ .text) (σ .start) e ∷ []))
+closed-few σ e [] (c ∷ cs) = omega arith
+closed-few σ e (b ∷ t) cs = omega (arith, length-append (σ .done) (chunk (σ .kind) (σ .text) (σ .start) e ∷ []))
+
+pub chunks-few : (p e : ℕ) (xs : List Part) → length (chunksOf p e xs) ≤ ends xs + 1
+chunks-few p e xs =
+    let σ : State = steps (beginning p) xs in omega (arith, closed-few σ e (σ .text) (σ .done), steps-few xs (beginning p))

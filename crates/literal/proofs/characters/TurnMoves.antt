@@ -106,6 +106,7 @@ module _ (s : List ℕ) (p c n : ℕ) (e : see s p ≡ Char c n) where
           from = omega arith;
           to = omega (arith, past .1, one);
           size = omega (arith, free);
+          few = omega arith;
           texts = λ o b. (one-place o b, (tt, tt));
         }
 
@@ -118,6 +119,7 @@ module _ (s : List ℕ) (p c n : ℕ) (e : see s p ≡ Char c n) where
           from = omega (arith, i);
           to = omega (arith, k);
           size = omega (arith, free, i, length-part s (p + 1) e₁ i (omega (arith, k)));
+          few = omega (arith, i);
           texts = λ o b. let x = to-end o b in (dollar-place s (p + 1) e₁ q k o x, (tt, (part-text s (p + 1) e₁ o i (one-place o b) x, tt)));
         }
       where

@@ -1,13 +1,13 @@
--- What `command`, `backslash` and `text_at` of src/turn.rt answer, in the form of their proofs.
+-- What `command`, `backslash` and `text_at` of src/turn.rt answer, in the form of their proofs; and which bytes end a text or a chunk.
 -- Assumes nothing.
-use Prim.Native.Nat.{ℕ, suc, _+_, _-_, _*_, _≤_, _<_, max}
+use Prim.Native.Nat.{ℕ, zero, suc, _+_, _-_, _*_, _≤_, _<_, max}
 use native.Mathlib.Omega.{arith}
 use mathlib.Core.Path.{_≡_, refl, sym, ap, ap₂, subst, _∙_}
-use mathlib.Core.Bool.{Bool, true, false, cond, not, _&&_}
+use mathlib.Core.Bool.{Bool, true, false, cond, not, _&&_, _||_}
 use mathlib.Core.List.{List, [], _∷_, _++_}
 use lib.ListN.{length, take, drop, getD}
-use lib.Dec.{eqb}
-use borrow.Author.Tests.{eqb-true, eq-eqb}
+use lib.Dec.{eqb, ltb}
+use borrow.Author.Tests.{eqb-true, eqb-false, eq-eqb, ne-eqb, ltb-true, ltb-false}
 use Rattle.text.specs.Class.{isWhitespace, isControl}
 use Rattle.text.specs.Scan.{see, nextOf, skip, part, Inside}
 use Rattle.text.specs.declared.scanner.Seen.{Seen}
@@ -28,7 +28,7 @@ use Rattle.command.proofs.stacks.LaysLaws.{lays-as, lays-over, both-second, bot
 use Rattle.literal.specs.Content.{Part, Reader, isEscape, begins, nameEnd, takesOne, opensAt, argumentEnd}
 use Rattle.literal.specs.declared.turn.Text.{Text}
 use Rattle.literal.specs.declared.turn.Text.the-variants as text
-use Rattle.literal.specs.Inner.{turns, opened, SaysText, Behind, Took, endOf, EndInside, Ordinary, Spans}
+use Rattle.literal.specs.Inner.{turns, opened, isSign, endsText, SaysText, Grows, Behind, Took, endOf, EndInside, Ordinary, Spans}
 use Rattle.literal.proofs.contents.TurnsAdvance.{Ends, end-inside, opens-inside}
 use Rattle.literal.proofs.contents.TurnsSeen.{stopped, slash-end-verb, slash-end, slash-escape, slash-verb, took-one, took-none, took-endless, took-argument}
 use Rattle.literal.proofs.ways.TextTurns.{wrote-one, says-put, says-as}
@@ -173,16 +173,84 @@ begins-so c h e k f = rw (sym h ∙ e, sym k ∙ f) refl
 
 -- ---- `text_at`
 
-pub hyphen-tests : (b : ℕ) (verb : Bool) → (eqb b 0x2D && not verb) ≡ true → (b ≡ 0x2D) × (verb ≡ false)
-hyphen-tests b verb h = let x = both-true (eqb b 0x2D) (not verb) h in (eqb-true b 0x2D (x .0), no verb (x .1))
+-- a sign x that is one unless the field is verbatim
+pub sign-tests : (x b : ℕ) (verb : Bool) → (eqb b x && not verb) ≡ true → (b ≡ x) × (verb ≡ false)
+sign-tests x b verb h = let y = both-true (eqb b x) (not verb) h in (eqb-true b x (y .0), no verb (y .1))
   where
     no : (v : Bool) → not v ≡ true → v ≡ false
     no true h = sym h
     no false h = refl
 
-pub no-hyphen : (b : ℕ) (verb : Bool) → (eqb b 0x2D && not verb) ≡ false → b ≡ 0x2D → verb ≡ true
-no-hyphen b verb h e = by verb (ap (λ (w : Bool). w && not verb) (sym (eq-eqb b 0x2D e)) ∙ h)
+pub no-sign : (x b : ℕ) (verb : Bool) → (eqb b x && not verb) ≡ false → b ≡ x → verb ≡ true
+no-sign x b verb h e = by verb (ap (λ (w : Bool). w && not verb) (sym (eq-eqb b x e)) ∙ h)
   where
     by : (v : Bool) → not v ≡ false → v ≡ true
     by true h = refl
     by false h = sym h
+
+neither : (a b : Bool) → (a || b) ≡ false → (a ≡ false) × (b ≡ false)
+neither true b h = let z : _≡_ {A = ℕ} 0 1 = ap (λ (w : Bool). cond w 0 1) h in absurd (omega (arith, z))
+neither false b h = (refl, h)
+
+-- a place past the end has no sign
+none-there : (s : List ℕ) (i : ℕ) → length s ≤ i → getD s i 0 ≡ 0
+none-there [] i h = refl
+none-there (b ∷ s) zero h = absurd (omega (arith, h))
+none-there (b ∷ s) (suc i) h = none-there s i (omega (arith, h))
+
+pub no-sign-there : (verb : Bool) (s : List ℕ) (i : ℕ) → length s ≤ i → false ≡ isSign verb (getD s i 0)
+no-sign-there verb s i h = rw (none-there s i h) refl
+
+pub sign-inside : (verb : Bool) (s : List ℕ) (i : ℕ) → isSign verb (getD s i 0) ≡ true → i < length s
+sign-inside verb s i h = by (ltb i (length s)) refl
+  where
+    by : (w : Bool) → ltb i (length s) ≡ w → i < length s
+    by true e = ltb-true i (length s) e
+    by false e =
+        let z : _≡_ {A = ℕ} 0 1 = ap (λ (w : Bool). cond w 1 0) (no-sign-there verb s i (ltb-false i (length s) e) ∙ h) in
+        absurd (omega (arith, z))
+
+pub ordinary : (verb : Bool) (b : ℕ) → isSign verb b ≡ false → Ordinary verb b
+ordinary verb b h =
+    let x = neither (eqb b 0x7B || eqb b 0x7D) (eqb b 0x24 && not verb) h in
+    let y = neither (eqb b 0x7B) (eqb b 0x7D) (x .0) in
+    (eqb-false b 0x7B (y .0), eqb-false b 0x7D (y .1), no-sign 0x24 b verb (x .1))
+
+-- which sign it is
+pub sign-dollar : (verb : Bool) (b : ℕ) → isSign verb b ≡ true → b ≡ 0x24 → verb ≡ false
+sign-dollar verb b h e = by verb (sym (ap (isSign verb) e) ∙ h)
+  where
+    by : (v : Bool) → not v ≡ true → v ≡ false
+    by true h = sym h
+    by false h = refl
+
+pub sign-closing : (verb : Bool) (b : ℕ) → isSign verb b ≡ true → (b ≡ 0x7B → ⊥) → (b ≡ 0x24 → ⊥) → b ≡ 0x7D
+sign-closing verb b h x y = by (eqb b 0x7D) refl
+  where
+    by : (w : Bool) → eqb b 0x7D ≡ w → b ≡ 0x7D
+    by true e = eqb-true b 0x7D e
+    by false e =
+        let z : false ≡ true = sym (rw (ne-eqb b 0x7B x, e, ne-eqb b 0x24 y) refl) ∙ h in
+        let w : _≡_ {A = ℕ} 0 1 = ap (λ (v : Bool). cond v 1 0) z in
+        absurd (omega (arith, w))
+
+-- where text does not end, and where it does
+pub not-ends : (verb : Bool) (b : ℕ) → endsText verb b ≡ false → Ordinary verb b × (b ≡ 0x5C → ⊥)
+not-ends verb b h = let x = neither (eqb b 0x5C) (isSign verb b) h in (ordinary verb b (x .1), eqb-false b 0x5C (x .0))
+
+pub ends-not : (verb : Bool) (b : ℕ) → endsText verb b ≡ true → Ordinary verb b → (b ≡ 0x5C → ⊥) → ⊥
+ends-not verb b h k n = by (sign-tests 0x24 b verb (sym (rw (ne-eqb b 0x5C n, ne-eqb b 0x7B (k .0), ne-eqb b 0x7D (k .1)) refl) ∙ h))
+  where
+    by : (b ≡ 0x24) × (verb ≡ false) → ⊥
+    by e = let z : _≡_ {A = ℕ} 0 1 = ap (λ (w : Bool). cond w 0 1) (sym (k .2 (e .0)) ∙ e .1) in omega (arith, z)
+
+-- text that is not at its end goes on
+pub grows-some : (verb : Bool) (s : List ℕ) (p n q l : ℕ) → Grows (length s) 0 p n q l → (q < length s → endsText verb (getD s q 0) ≡ true)
+    → p < length s → Ordinary verb (getD s p 0) → (getD s p 0 ≡ 0x5C → ⊥) → Grows (length s) 1 p n q l
+grows-some verb s p n q l g e i k h = record { at = by (eqb p q) refl; inside = g .inside; text = g .text }
+  where
+    by : (w : Bool) → eqb p q ≡ w → p + 1 ≤ q
+    by true x =
+        let same = eqb-true p q x in
+        absurd (ends-not verb (getD s p 0) (ap (λ (j : ℕ). endsText verb (getD s j 0)) same ∙ e (omega (arith, same, i))) k h)
+    by false x = let other = eqb-false p q x in omega (arith, g .at, other)

@@ -1,5 +1,6 @@
 -- The ways through `content` of src/parse.rt.
---     turn-again, turn-done, turn-refused      a turn of `step`
+--     turn-again, sign-..                      a turn that goes on; one of `sign`
+--     turn-done, turn-refused                  a turn of `text_at`
 --     turn-argument, turn-stopped              a turn with an argument
 --     ahead-none, ahead-on, ready-on           bounds
 -- Assumes nothing.
@@ -17,12 +18,12 @@ use Rattle.command.specs.Commands.{meaningOf}
 use Rattle.command.proofs.stacks.LaysLaws.{lays-as}
 use Rattle.literal.specs.declared.making.Making.{Making}
 use Rattle.literal.specs.declared.making.Place.{Place}
-use Rattle.literal.specs.declared.content.Stepped.{Stepped}
-use Rattle.literal.specs.declared.content.Stepped.the-variants as stepped
-use Rattle.literal.specs.declared.parse.Made.{Made}
-use Rattle.literal.specs.declared.parse.Made.the-variants as made
+use Rattle.literal.specs.declared.turn.Text.{Text}
+use Rattle.literal.specs.declared.turn.Text.the-variants as text
+use Rattle.literal.specs.declared.content.Made.{Made}
+use Rattle.literal.specs.declared.content.Made.the-variants as made
 use Rattle.literal.specs.Content.{Part, put, Reader, State, step, steps, ran}
-use Rattle.literal.specs.Inner.{Holds, Goes, Says, SaysStep, SaysArgument, Further, Puts, Ahead, Ready, concat, from, inArgument, turns, wholeText}
+use Rattle.literal.specs.Inner.{Holds, Goes, Says, SaysSign, SaysText, Onto, SaysArgument, Further, Puts, Ahead, Ready, Within, concat, from, inArgument, turns, wholeText}
 use Rattle.literal.proofs.ways.StepWays.{goes-puts}
 
 -- ---- parts before other parts
@@ -54,47 +55,49 @@ goes-put place w e m o b m′ o′ h =
     goes-puts place m o b (e + 1) (m′ .len) m′ o′ (subst (λ (n : ℕ). Further m (e + 1) n m′) (sym (h .0 .len)) (h .0)) (w ∷ [])
     (lays-as (m .len) w (w ++ []) o (m′ .len) o′ (sym (append-nil w)) (h .1))
 
--- ---- a turn of `step`, which answered r
+-- ---- a turn that goes on, and one of `sign`, which answered r
 
-module _ (place : Place) (argument : Reader) (verb : Bool) (s : List ℕ) (m : Making) (o b : List ℕ) (r : Stepped) (o₁ b₁ : List ℕ)
-    (h : SaysStep place verb s m o b r o₁ b₁) where
-  answered : (r′ : Stepped) → r ≡ r′ → SaysStep place verb s m o b r′ o₁ b₁
-  answered r′ e = subst (λ (r : Stepped). SaysStep place verb s m o b r o₁ b₁) e h
-
-  pub turn-again : (m₁ : Making) → r ≡ stepped.Again m₁ → (r₂ : Made) (o₂ b₂ : List ℕ) → Says place (from argument verb s m₁) m₁ o₁ b₁ r₂ o₂ b₂
-      → Says place (from argument verb s m) m o b r₂ o₂ b₂
-  turn-again m₁ e r₂ o₂ b₂ k =
-      let y = answered (stepped.Again m₁) e in
+module _ (place : Place) (argument : Reader) (verb : Bool) (s : List ℕ) (m : Making) (o b : List ℕ) where
+  pub turn-again : (m₁ : Making) (o₁ b₁ : List ℕ) → Onto place verb s m o b m₁ o₁ b₁ → (r₂ : Made) (o₂ b₂ : List ℕ)
+      → Says place (from argument verb s m₁) m₁ o₁ b₁ r₂ o₂ b₂ → Says place (from argument verb s m) m o b r₂ o₂ b₂
+  turn-again m₁ o₁ b₁ y r₂ o₂ b₂ k =
       subst (λ (out : OutOf Part). Says place out m o b r₂ o₂ b₂) (sym (y .leads argument))
       (says-more place (y .parts) m o b m₁ o₁ b₁ (y .goes) (from argument verb s m₁) r₂ o₂ b₂ k)
 
-  pub turn-done : (m₁ : Making) → r ≡ stepped.Done m₁ → Says place (from argument verb s m) m o b (made.Done m₁) o₁ b₁
+  refusal : (f : Fault) (o₁ b₁ : List ℕ) → from argument verb s m ≡ bad f → Says place (from argument verb s m) m o b (made.Refused f) o₁ b₁
+  refusal f o₁ b₁ e = subst (λ (out : OutOf Part). Says place out m o b (made.Refused f) o₁ b₁) (sym e) refl
+
+  pub sign-again : {r : Made} (o₁ b₁ : List ℕ) → SaysSign place verb s m o b r o₁ b₁ → {m₁ : Making} → r ≡ made.Done m₁
+      → Onto place verb s m o b m₁ o₁ b₁
+  sign-again o₁ b₁ h e = rw e at h
+
+  pub sign-refused : {r : Made} (o₁ b₁ : List ℕ) → SaysSign place verb s m o b r o₁ b₁ → {f : Fault} → r ≡ made.Refused f
+      → Says place (from argument verb s m) m o b (made.Refused f) o₁ b₁
+  sign-refused o₁ b₁ h {f} e = let k : SaysSign place verb s m o b (made.Refused f) o₁ b₁ = rw e at h in refusal f o₁ b₁ (k argument)
+
+-- ---- a turn of `text_at`, which answered r
+
+module _ (place : Place) (argument : Reader) (verb : Bool) (s : List ℕ) (m : Making) (o b : List ℕ) (r : Text) (o₁ : List ℕ)
+    (h : SaysText verb s (m .at) (m .len) o r o₁) where
+  answered : (r′ : Text) → r ≡ r′ → SaysText verb s (m .at) (m .len) o r′ o₁
+  answered r′ e = subst (λ (r : Text). SaysText verb s (m .at) (m .len) o r o₁) e h
+
+  pub turn-done : r ≡ text.End → Says place (from argument verb s m) m o b (made.Done m) o₁ b
   unfolding steps
-  turn-done m₁ e =
-      let y = answered (stepped.Done m₁) e in
-      subst (λ (out : OutOf Part). Says place out m o b (made.Done m₁) o₁ b₁) (sym (y .0 argument))
-      (same m₁ o₁ b₁ (sym (y .1)) (sym (y .2)) (sym (y .3)))
-    where
-      same : (m₁ : Making) (o₁ b₁ : List ℕ) → m ≡ m₁ → o ≡ o₁ → b ≡ b₁ → Says place (ok (m .at) []) m o b (made.Done m₁) o₁ b₁
-      same m₁ o₁ b₁ i j k =
-          subst (λ (n : Making). Says place (ok (m .at) []) m o b (made.Done n) o₁ b₁) i
-          (subst (λ (l : List ℕ). Says place (ok (m .at) []) m o b (made.Done m) l b₁) j
-          (subst (λ (l : List ℕ). Says place (ok (m .at) []) m o b (made.Done m) o l) k (refl, λ t₀ ps b₀ σ x. x)))
+  turn-done e =
+      let y = answered text.End e in
+      subst (λ (out : OutOf Part). Says place out m o b (made.Done m) o₁ b) (sym (y .0 argument (m .braces)))
+      (subst (λ (l : List ℕ). Says place (ok (m .at) []) m o b (made.Done m) l b) (sym (y .1)) (refl, λ t₀ ps b₀ σ x. x))
 
-  -- content that is done has moved no further
-  pub done-ahead : (len : ℕ) (first m₁ : Making) → r ≡ stepped.Done m₁ → Ahead len 0 first m → Ahead len 0 first m₁
-  done-ahead len first m₁ e k = subst (Ahead len 0 first) (sym (answered (stepped.Done m₁) e .1)) k
+  pub turn-refused : (f : Fault) → r ≡ text.Refused f → Says place (from argument verb s m) m o b (made.Refused f) o₁ b
+  turn-refused f e = refusal place argument verb s m o b f o₁ b (answered (text.Refused f) e argument (m .braces))
 
-  pub turn-refused : (f : Fault) → r ≡ stepped.Refused f → Says place (from argument verb s m) m o b (made.Refused f) o₁ b₁
-  turn-refused f e =
-      subst (λ (out : OutOf Part). Says place out m o b (made.Refused f) o₁ b₁) (sym (answered (stepped.Refused f) e argument)) refl
-
-  pub meaning-told : (k : Meaning) (end a e : ℕ) → r ≡ stepped.Argument k end a e → k ≡ meaningOf (part s (m .at + 1) end)
-  meaning-told k end a e i = answered (stepped.Argument k end a e) i .1
+  pub meaning-told : (k : Meaning) (end a e : ℕ) → r ≡ text.Argument k end a e → k ≡ meaningOf (part s (m .at + 1) end)
+  meaning-told k end a e i = answered (text.Argument k end a e) i .1
 
   -- ---- and a turn with an argument, which `argument` answered with r₂
 
-  module _ (k : Meaning) (end a e : ℕ) (i : r ≡ stepped.Argument k end a e) (r₂ : Made) (o₂ : List ℕ)
+  module _ (k : Meaning) (end a e : ℕ) (i : r ≡ text.Argument k end a e) (r₂ : Made) (o₂ : List ℕ)
       (y : SaysArgument (argument (take e s) a) (part s (m .at + 1) end) a e m o₁ r₂ o₂) where
     abbrev name : List ℕ
     name = part s (m .at + 1) end
@@ -102,8 +105,8 @@ module _ (place : Place) (argument : Reader) (verb : Bool) (s : List ℕ) (m : M
     abbrev rest : OutOf Part
     rest = turns argument verb (m .braces) s (e + 1)
 
-    told : SaysStep place verb s m o b (stepped.Argument k end a e) o₁ b₁
-    told = answered (stepped.Argument k end a e) i
+    told : SaysText verb s (m .at) (m .len) o (text.Argument k end a e) o₁
+    told = answered (text.Argument k end a e) i
 
     -- over the bytes as they were before the step
     over : (r′ : Made) → r₂ ≡ r′ → SaysArgument (argument (take e s) a) name a e m o r′ o₂
@@ -113,15 +116,15 @@ module _ (place : Place) (argument : Reader) (verb : Bool) (s : List ℕ) (m : M
 
     opens : (r₃ : Made) (o₃ b₃ : List ℕ) → Says place (ran a name (argument (take e s) a) (λ w. more (put w ∷ []) rest)) m o b r₃ o₃ b₃
         → Says place (from argument verb s m) m o b r₃ o₃ b₃
-    opens r₃ o₃ b₃ x = subst (λ (out : OutOf Part). Says place out m o b r₃ o₃ b₃) (sym (told .0 argument)) x
+    opens r₃ o₃ b₃ x = subst (λ (out : OutOf Part). Says place out m o b r₃ o₃ b₃) (sym (told .0 argument (m .braces))) x
 
-    module _ (m₂ : Making) (r₃ : Made) (o₃ b₃ : List ℕ) (x : Says place (from argument verb s m₂) m₂ o₂ b₁ r₃ o₃ b₃) where
+    module _ (m₂ : Making) (r₃ : Made) (o₃ b₃ : List ℕ) (x : Says place (from argument verb s m₂) m₂ o₂ b r₃ o₃ b₃) where
       put-on : (w : List ℕ) → Puts w e m o m₂ o₂ → Says place (more (put w ∷ []) rest) m o b r₃ o₃ b₃
       put-on w p =
           says-more place (put w ∷ []) m o b m₂ o₂ b (goes-put place w e m o b m₂ o₂ p) rest r₃ o₃ b₃
           (subst (λ (out : OutOf Part). Says place out m₂ o₂ b r₃ o₃ b₃)
           (ap (λ (d : ℕ). turns argument verb d s (m₂ .at)) (p .0 .braces) ∙ ap (λ (q : ℕ). turns argument verb (m .braces) s q) (p .0 .at))
-          (subst (λ (l : List ℕ). Says place (from argument verb s m₂) m₂ o₂ l r₃ o₃ b₃) (told .3) x))
+          x)
 
       goes : (out : OutOf Part) → SaysArgument out name a e m o (made.Done m₂) o₂
           → Says place (ran a name out (λ w. more (put w ∷ []) rest)) m o b r₃ o₃ b₃
@@ -133,13 +136,13 @@ module _ (place : Place) (argument : Reader) (verb : Bool) (s : List ℕ) (m : M
       turn-argument j = opens r₃ o₃ b₃ (goes (argument (take e s) a) (over (made.Done m₂) j))
 
     stops : (f : Fault) (out : OutOf Part) → SaysArgument out name a e m o (made.Refused f) o₂
-        → Says place (ran a name out (λ w. more (put w ∷ []) rest)) m o b (made.Refused f) o₂ b₁
+        → Says place (ran a name out (λ w. more (put w ∷ []) rest)) m o b (made.Refused f) o₂ b
     stops f (ok q xs) p = absurd p
     stops f (again q xs n) p = absurd p
     stops f (bad g) p = p
 
-    pub turn-stopped : (f : Fault) → r₂ ≡ made.Refused f → Says place (from argument verb s m) m o b (made.Refused f) o₂ b₁
-    turn-stopped f j = opens (made.Refused f) o₂ b₁ (stops f (argument (take e s) a) (over (made.Refused f) j))
+    pub turn-stopped : (f : Fault) → r₂ ≡ made.Refused f → Says place (from argument verb s m) m o b (made.Refused f) o₂ b
+    turn-stopped f j = opens (made.Refused f) o₂ b (stops f (argument (take e s) a) (over (made.Refused f) j))
 
 -- ---- bounds
 
@@ -180,6 +183,19 @@ ready-on s place v m m₁ o o₁ byName byMark h k e = record {
   braces = omega (arith, h .braces, k .braces);
   rows = omega (arith, h .rows, k .rows);
   value = omega (arith, h .value, k .grows .text);
+  file = h .file;
+}
+
+-- what `sign` asks
+pub ready-within : (s : List ℕ) (place : Place) (m : Making) (o byName byMark : List ℕ) → Ready s place m o byName byMark → Within s place m o
+ready-within s place m o byName byMark h = record {
+  literal = h .literal;
+  room = h .text .room;
+  from = h .from;
+  start = h .start;
+  braces = h .braces;
+  rows = h .rows;
+  value = h .value;
   file = h .file;
 }
 

@@ -19,8 +19,8 @@ use Rattle.chunk.specs.Format.{whiteFrom}
 use Rattle.literal.specs.declared.rows.Rows.{Rows}
 use Rattle.literal.specs.declared.making.Making.{Making}
 use Rattle.literal.specs.declared.making.Place.{Place}
-use Rattle.literal.specs.declared.parse.Made.{Made}
-use Rattle.literal.specs.declared.parse.Made.the-variants as made
+use Rattle.literal.specs.declared.content.Made.{Made}
+use Rattle.literal.specs.declared.content.Made.the-variants as made
 use Rattle.literal.specs.declared.parse.Parsed.the-variants as parsed
 use Rattle.literal.specs.Content.{Part, State, beginning, steps, pushed, closed, chunksOf, cut, contentBy, content, inside, flatten}
 use Rattle.literal.specs.Literal.{Resolved, refused, mostArguments, chunkUp, resolvedOf, tooLong, resolveLiteral}

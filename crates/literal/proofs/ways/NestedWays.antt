@@ -22,8 +22,8 @@ use Rattle.command.proofs.stacks.LaysLaws.{lays-part}
 use Rattle.literal.specs.declared.rows.Rows.{Rows}
 use Rattle.literal.specs.declared.making.Making.{Making}
 use Rattle.literal.specs.declared.making.Place.{Place}
-use Rattle.literal.specs.declared.parse.Made.{Made}
-use Rattle.literal.specs.declared.parse.Made.the-variants as made
+use Rattle.literal.specs.declared.content.Made.{Made}
+use Rattle.literal.specs.declared.content.Made.the-variants as made
 use Rattle.literal.specs.Content.{Part, State, beginning, steps, refusedByte, contentBy, inside}
 use Rattle.literal.specs.Inner.{Holds, Says, SaysArgument, Puts, Begun, Finished, Closes, Spans, Ahead, AheadMade, Placed, Ready, from, turns, inArgument, wholeText}
 

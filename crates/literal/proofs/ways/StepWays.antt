@@ -1,15 +1,14 @@
--- The ways through the functions of src/content.rt that take one turn.
+-- The ways through the functions of src/content.rt that take one turn, and what a turn of text leaves.
 -- Assumes nothing.
 use Prim.Native.Nat.{ℕ, zero, suc, _+_, _-_, _*_, _≤_, _<_}
 use native.Mathlib.Omega.{arith}
 use native.Mathlib.Numerals.{add-one, sub-one}
 use mathlib.Core.Path.{_≡_, refl, sym, ap, subst, _∙_}
-use mathlib.Core.Bool.{Bool, true, false, not, _&&_}
+use mathlib.Core.Bool.{Bool, true, false}
 use mathlib.Core.List.{List, [], _∷_, _++_, map, append-assoc, append-nil}
 use lib.ListN.{length, getD, take, length-append}
-use lib.Dec.{ltb, eqb}
-use borrow.Author.Tests.{lt-ltb, le-ltb, eqb-true, eq-eqb}
-use Rattle.text.proofs.general.Tests.{both-true}
+use lib.Dec.{ltb}
+use borrow.Author.Tests.{lt-ltb, le-ltb}
 use Rattle.text.specs.Scan.{skip, fails, part}
 use Rattle.text.specs.declared.class.Test.the-variants as test
 use Rattle.row.specs.declared.fault.Fault.{Fault}
@@ -17,24 +16,23 @@ use Rattle.row.specs.declared.fault.Reason.the-variants.{UnexpectedEof, Unexpec
 use Rattle.row.specs.Fault.{faultAt}
 use Rattle.raw.specs.Reader.{OutOf, ok, again, bad, more, andThen, turn}
 use Rattle.chunk.specs.Chunk.{Chunk}
-use Rattle.command.specs.declared.meaning.Meaning.{Meaning}
 use Rattle.command.specs.Stack.{Lays, defaultChunk}
 use Rattle.literal.specs.declared.rows.Rows.{Rows}
 use Rattle.literal.specs.declared.making.Making.{Making}
 use Rattle.literal.specs.declared.making.Place.{Place}
 use Rattle.literal.specs.declared.turn.Text.{Text}
 use Rattle.literal.specs.declared.turn.Text.the-variants as text
-use Rattle.literal.specs.declared.content.Stepped.{Stepped}
-use Rattle.literal.specs.declared.content.Stepped.the-variants as stepped
+use Rattle.literal.specs.declared.content.Made.{Made}
+use Rattle.literal.specs.declared.content.Made.the-variants as made
 use Rattle.literal.specs.Content.{Part, put, cut, math, Reader, State, refusedByte, step, steps, maths, closing, contentTurn}
-use Rattle.literal.specs.Inner.{Holds, Goes, RowsHeld, standing, from, turns, concat, SaysText, SaysStep, Turned, Calculated, Further, Ahead, Grows, GrowsText, Ordinary}
+use Rattle.literal.specs.Inner.{Holds, Goes, RowsHeld, standing, from, turns, concat, SaysText, SaysSign, Onto, Turned, Calculated, Further, Ahead, Grows}
 use Rattle.literal.proofs.contents.TurnsSeen.{leads, stopped, turn-open, turn-close, turn-math}
 
 -- ---- math
 
 module _ (place : Place) (s : List ℕ) (m : Making) (o b : List ℕ) (l : m .at < length s) (d : getD s (m .at) 0 ≡ 0x24)
     (to : ℕ) (h : to ≡ skip (fails test.Dollar) s (m .at + 1)) where
-  pub math-refused : length s ≤ to → SaysStep place false s m o b (stepped.Refused (faultAt UnexpectedEof to)) o b
+  pub math-refused : length s ≤ to → SaysSign place false s m o b (made.Refused (faultAt UnexpectedEof to)) o b
   unfolding maths
   math-refused n argument =
       stopped argument false (m .braces) s (m .at) (faultAt UnexpectedEof to)
@@ -48,7 +46,7 @@ module _ (place : Place) (s : List ℕ) (m : Making) (o b : List ℕ) (l : m .at
 
   pub math-again : to < length s → (m₁ : Making) (o₁ b₁ : List ℕ) (m₂ : Making) (o₂ b₂ : List ℕ)
       → Turned place m (m .at) (m .braces) (to + 1) o b m₁ o₁ b₁
-      → Calculated s (m .at + 1) to place m₁ o₁ b₁ m₂ o₂ b₂ → SaysStep place false s m o b (stepped.Again m₂) o₂ b₂
+      → Calculated s (m .at + 1) to place m₁ o₁ b₁ m₂ o₂ b₂ → SaysSign place false s m o b (made.Done m₂) o₂ b₂
   unfolding steps
   math-again n m₁ o₁ b₁ m₂ o₂ b₂ x y = record {
     parts = cut (m .braces) (m .at) (to + 1) ∷ math (part s (m .at + 1) to) (m .at + 1) to ∷ [];
@@ -66,7 +64,7 @@ module _ (place : Place) (s : List ℕ) (m : Making) (o b : List ℕ) (l : m .at
 
 module _ (place : Place) (verb : Bool) (s : List ℕ) (m : Making) (o b : List ℕ) (l : m .at < length s) where
   cut-again : (d : ℕ) → ((argument : Reader) → contentTurn argument verb (m .braces) s (m .at) ≡ again (m .at + 1) (cut d (m .at) (m .at + 1) ∷ []) d)
-      → (m₁ : Making) (o₁ b₁ : List ℕ) → Turned place m (m .at) d (m .at + 1) o b m₁ o₁ b₁ → SaysStep place verb s m o b (stepped.Again m₁) o₁ b₁
+      → (m₁ : Making) (o₁ b₁ : List ℕ) → Turned place m (m .at) d (m .at + 1) o b m₁ o₁ b₁ → SaysSign place verb s m o b (made.Done m₁) o₁ b₁
   cut-again d t m₁ o₁ b₁ x = record {
     parts = cut d (m .at) (m .at + 1) ∷ [];
     leads = λ argument.
@@ -77,14 +75,14 @@ module _ (place : Place) (verb : Bool) (s : List ℕ) (m : Making) (o b : List �
   }
 
   pub open-again : getD s (m .at) 0 ≡ 0x7B → (m₁ : Making) (o₁ b₁ : List ℕ) → Turned place m (m .at) (m .braces + 1) (m .at + 1) o b m₁ o₁ b₁
-      → SaysStep place verb s m o b (stepped.Again m₁) o₁ b₁
+      → SaysSign place verb s m o b (made.Done m₁) o₁ b₁
   open-again e =
       cut-again (m .braces + 1)
       (λ argument. turn-open argument verb (m .braces) s (m .at) l e ∙ ap (λ (d : ℕ). again (m .at + 1) (cut d (m .at) (m .at + 1) ∷ []) d)
       (sym (add-one (m .braces))))
 
-  pub close-refused : getD s (m .at) 0 ≡ 0x7D → m .braces ≡ 0 → SaysStep place verb s m o b
-      (stepped.Refused (refusedByte UnexpectedClosingBrace (m .at))) o b
+  pub close-refused : getD s (m .at) 0 ≡ 0x7D → m .braces ≡ 0 → SaysSign place verb s m o b
+      (made.Refused (refusedByte UnexpectedClosingBrace (m .at))) o b
   unfolding closing
   close-refused e z argument =
       stopped argument verb (m .braces) s (m .at) (refusedByte UnexpectedClosingBrace (m .at))
@@ -92,7 +90,7 @@ module _ (place : Place) (verb : Bool) (s : List ℕ) (m : Making) (o b : List �
 
   pub close-again : getD s (m .at) 0 ≡ 0x7D → (m .braces ≡ 0 → ⊥) → (m₁ : Making) (o₁ b₁ : List ℕ)
       → Turned place m (m .at) (m .braces - 1) (m .at + 1) o b m₁ o₁ b₁
-      → SaysStep place verb s m o b (stepped.Again m₁) o₁ b₁
+      → SaysSign place verb s m o b (made.Done m₁) o₁ b₁
   unfolding closing
   close-again e z = cut-again (m .braces - 1) (λ argument. turn-close argument verb (m .braces) s (m .at) l e ∙ some (m .braces) z)
     where
@@ -134,18 +132,7 @@ module _ (place : Place) (m : Making) (o b : List ℕ) (q l : ℕ) (m′ : Makin
 
 module _ (place : Place) (verb : Bool) (s : List ℕ) (m : Making) (o b : List ℕ) (r : Text) (o′ : List ℕ) (h : SaysText verb s (m .at) (m .len) o r o′)
   where
-    pub text-end : r ≡ text.End → SaysStep place verb s m o b (stepped.Done m) o′ b
-    text-end e = let k : SaysText verb s (m .at) (m .len) o text.End o′ = rw e at h in ((λ argument. k .0 argument (m .braces)), refl, k .1, refl)
-
-    pub text-refused : (f : Fault) → r ≡ text.Refused f → SaysStep place verb s m o b (stepped.Refused f) o′ b
-    text-refused f e = let k : SaysText verb s (m .at) (m .len) o (text.Refused f) o′ = rw e at h in λ argument. k argument (m .braces)
-
-    pub text-argument : {k : Meaning} {end a z : ℕ} → r ≡ text.Argument k end a z → SaysStep place verb s m o b (stepped.Argument k end a z) o′ b
-    text-argument {k} {end} {a} {z} e =
-        let y : SaysText verb s (m .at) (m .len) o (text.Argument k end a z) o′ = rw e at h in
-        ((λ argument. y .0 argument (m .braces)), y .1, y .2, refl)
-
-    pub text-put : (q l : ℕ) → r ≡ text.Put q l → (m′ : Making) → Further m q l m′ → SaysStep place verb s m o b (stepped.Again m′) o′ b
+    pub text-put : (q l : ℕ) → r ≡ text.Put q l → (m′ : Making) → Further m q l m′ → Onto place verb s m o b m′ o′ b
     text-put q l e m′ f =
         let y : SaysText verb s (m .at) (m .len) o (text.Put q l) o′ = rw e at h in
         record {
@@ -156,9 +143,6 @@ module _ (place : Place) (verb : Bool) (s : List ℕ) (m : Making) (o b : List �
               (ap (λ (d : ℕ). turns argument verb d s q) (sym (f .braces)) ∙ ap (λ (n : ℕ). turns argument verb (m′ .braces) s n) (sym (f .at)));
           goes = goes-puts place m o b q l m′ o′ f (y .texts) (y .lays);
         }
-
-pub ahead-text : (len : ℕ) (m : Making) (r r′ : Text) → r ≡ r′ → GrowsText len (m .at) (m .len) r → GrowsText len (m .at) (m .len) r′
-ahead-text len m r r′ e h = rw e at h
 
 pub ahead-further : (len : ℕ) (verb : Bool) (s : List ℕ) (m : Making) (o : List ℕ) (q l : ℕ) (o′ : List ℕ) (r : Text) (m′ : Making) → r ≡ text.Put q l
     → SaysText verb s (m .at) (m .len) o r o′ → Grows len 1 (m .at) (m .len) q l → m .from ≤ m .len → m .start ≤ m .at → Further m q l m′
@@ -175,31 +159,17 @@ ahead-further len verb s m o q l o′ r m′ e y h x z f = record {
   start = omega (arith, f .start, f .at, h .at, z);
 }
 
-pub step-as : (place : Place) (verb : Bool) (s : List ℕ) (m : Making) (o b : List ℕ) (r : Stepped) (o′ b′ : List ℕ) → verb ≡ false
-    → SaysStep place false s m o b r o′ b′ → SaysStep place verb s m o b r o′ b′
-step-as place verb s m o b r o′ b′ e h = subst (λ (v : Bool). SaysStep place v s m o b r o′ b′) (sym e) h
+pub sign-as : (place : Place) (verb : Bool) (s : List ℕ) (m : Making) (o b : List ℕ) (r : Made) (o′ b′ : List ℕ) → verb ≡ false
+    → SaysSign place false s m o b r o′ b′ → SaysSign place verb s m o b r o′ b′
+sign-as place verb s m o b r o′ b′ e h = subst (λ (v : Bool). SaysSign place v s m o b r o′ b′) (sym e) h
 
--- at which bytes a turn writes text only
-pub dollar-tests : (b : ℕ) (verb : Bool) → (eqb b 0x24 && not verb) ≡ true → (b ≡ 0x24) × (verb ≡ false)
-dollar-tests b verb h = let x = both-true (eqb b 0x24) (not verb) h in (eqb-true b 0x24 (x .0), no verb (x .1))
-  where
-    no : (v : Bool) → not v ≡ true → v ≡ false
-    no true h = sym h
-    no false h = refl
-
-pub ordinary : (b : ℕ) (verb : Bool) → (b ≡ 0x7B → ⊥) → (b ≡ 0x7D → ⊥) → (eqb b 0x24 && not verb) ≡ false → Ordinary verb b
-ordinary b verb h k f = (h, k, λ e. by verb (ap (λ (w : Bool). w && not verb) (sym (eq-eqb b 0x24 e)) ∙ f))
-  where
-    by : (v : Bool) → not v ≡ false → v ≡ true
-    by true h = refl
-    by false h = sym h
-
-none-there : (s : List ℕ) (i : ℕ) → length s ≤ i → getD s i 0 ≡ 0
-none-there [] i h = refl
-none-there (b ∷ s) zero h = absurd (omega (arith, h))
-none-there (b ∷ s) (suc i) h = none-there s i (omega (arith, h))
-
-pub ordinary-end : (s : List ℕ) (i : ℕ) (verb : Bool) → length s ≤ i → Ordinary verb (getD s i 0)
-ordinary-end s i verb h =
-    let z = none-there s i h in
-    ((λ e. omega (arith, z, e)), (λ e. omega (arith, z, e)), (λ e. absurd (omega (arith, z, e))))
+-- at a brace a byte is read, a chunk is done at most, and one brace more is open at most
+pub ahead-cut : (place : Place) (len d : ℕ) (m : Making) (o b : List ℕ) (m₁ : Making) (o₁ b₁ : List ℕ) → m .at < len → d ≤ m .braces + 1
+    → Turned place m (m .at) d (m .at + 1) o b m₁ o₁ b₁ → Ahead len 1 m m₁
+ahead-cut place len d m o b m₁ o₁ b₁ l e h = record {
+  grows = record { at = omega (arith, h .at); inside = omega (arith, h .at, l); text = omega (arith, h .at, h .len) };
+  rows = omega (arith, h .at, h .rows);
+  braces = omega (arith, h .at, h .braces, e);
+  from = omega (arith, h .from);
+  start = omega (arith, h .start, h .at);
+}

@@ -15,10 +15,9 @@ use Rattle.text.proofs.Seeing.{seeing}
 use Rattle.command.specs.Stack.{Lays}
 use Rattle.command.proofs.stacks.LaysLaws.{lays-as, lays-on}
 use Rattle.literal.specs.Content.{Reader, begins}
-use Rattle.literal.specs.Inner.{Wrote, SaysText, GrowsText, Grows, Behind, Ordinary}
+use Rattle.literal.specs.Inner.{Wrote, SaysText, Grows, Behind, Ordinary}
 use Rattle.literal.specs.declared.turn.Text.the-variants as text
 use Rattle.literal.proofs.contents.TurnsAdvance.{white-on}
-use Rattle.literal.proofs.contents.TurnsSeen.{ended}
 use Rattle.literal.proofs.ways.TextTurns.{Turns, wrote-one, wrote-two}
 use Rattle.literal.proofs.ways.TextWays.{itself-of, copy-turn, blank-turn, control-turn, back-turn, white-begins, control-begins}
 
@@ -36,13 +35,13 @@ past-white s p c n q e w h a =
 
 -- ---- `other`
 
-module _ (verb : Bool) (s : List ℕ) (p n : ℕ) (o : List ℕ) (room : n + 2 * length s ≤ length o + 2 * p) where
-  pub other-end : {r : Seen} → r ≡ see s p → r ≡ End → SaysText verb s p n o text.End o
-  other-end h e = ((λ argument d. ended argument verb d s p (past (sym h ∙ e))), refl)
-    where
-      past : see s p ≡ End → length s ≤ p
-      past q = subst (λ (v : Seen). Inside s p v) q (seeing .see-inside s p)
+pub not-end : (s : List ℕ) (p : ℕ) {r : Seen} → r ≡ see s p → r ≡ End → p < length s → ⊥
+not-end s p h e l = omega (arith, past (sym h ∙ e), l)
+  where
+    past : see s p ≡ End → length s ≤ p
+    past q = subst (λ (v : Seen). Inside s p v) q (seeing .see-inside s p)
 
+module _ (verb : Bool) (s : List ℕ) (p n : ℕ) (o : List ℕ) (room : n + 2 * length s ≤ length o + 2 * p) where
   module _ {r : Seen} {c m : ℕ} (h : r ≡ see s p) (e : r ≡ Char c m) where
     seen : see s p ≡ Char c m
     seen = sym h ∙ e

@@ -11,7 +11,7 @@ use Rattle.literal.proofs.content.math.Tie as tie
 
 returns : tie.Need-returns
 returns c =
-    let begin = c .before .before .before .before .before .before .before in
+    let begin = c .before .before .before .before .before in
     let a = begin .args in
     let p = begin .pre in
     let eat = c .before .eat-until in (
@@ -21,14 +21,16 @@ returns c =
 
 returns-2 : tie.Need-returns-2
 returns-2 c =
-    let begin = c .before .before .before .before .before .before .before .before .before .before .before
-    .before .before .before .before .before .before .before .before .before .before in
+    let calculated = c .before .before .before .before in
+    let turned = calculated .before .before .before .before .before .before .before in
+    let tested = turned .before .before .before in
+    let begin = tested .before .before .before .before .before in
     let a = begin .args in
     let p = begin .pre in
-    let eat = c .before .before .before .before .before .before .before .before .before .before .before .before .before .before .before .eat-until in
-    let inside = c .before .before .before .before .before .before .before .before .before .before .before .before .before .before .if1 .left in
-    let turn = c .before .before .before .before .before .before .before .before .before .before .before .turnaround in
-    let math = c .before .before .before .before .put-math in
+    let eat = tested .before .eat-until in
+    let inside = tested .if1 .left in
+    let turn = turned .turnaround in
+    let math = calculated .put-math in
     let from = eat .ensures .1 .from in (
       math-again (a .place) (a .s .now) (a .st) (a .out .now) (a .numbers .now) (p .1) (p .2) (eat .result) (eat .ensures .0) inside (turn .result) _
           _

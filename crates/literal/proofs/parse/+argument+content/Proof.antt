@@ -2,17 +2,20 @@
 -- smaller depth, and `content` calls `argument` with its own; so twice the depth falls, with one more for `content`. Assumes nothing.
 use Prim.Native.Nat.{ℕ, _+_, _-_, _*_, _<_}
 use native.Mathlib.Omega.{arith}
-use mathlib.Core.Path.{_≡_, refl, subst, _∙_}
+use mathlib.Core.Path.{_≡_, refl, sym, subst, _∙_}
 use mathlib.Core.List.{List}
-use lib.ListN.{length, take}
+use lib.ListN.{length, take, getD}
 use borrow.Author.Needs.{needs}
 use borrow.Fn.Kinds.{In}
 use borrow.Fn.PlainCycle.{Measures, is, falls, and}
 use Rattle.text.specs.Scan.{part}
-use Rattle.literal.specs.declared.parse.Made.{Made}
+use Rattle.literal.specs.declared.content.Made.{Made}
 use Rattle.literal.specs.Content.{inside}
-use Rattle.literal.specs.Inner.{Says, Ahead, AheadMade, AheadStep, Ready, from}
+use Rattle.literal.specs.Inner.{Says, Ahead, AheadMade, GrowsText, Ready, from}
 use Rattle.literal.proofs.ways.MakingWays.{no-text}
+use Rattle.literal.proofs.ways.TextTurns.{put-grows}
+use Rattle.literal.proofs.ways.CommandAnswers.{ordinary, sign-inside}
+use Rattle.literal.proofs.ways.StepWays.{text-put, ahead-further}
 use Rattle.literal.proofs.ways.ContentWays as ways
 use Rattle.literal.proofs.ways.NestedWays as nested
 use Rattle.literal.proofs.parse.argument.Reads as argument
@@ -23,7 +26,10 @@ use Rattle.literal.proofs.parse.content.Kinds as content-kinds
 use Rattle.literal.proofs.parse.+argument+content.Lts-content as content-lts
 use Rattle.literal.proofs.content.begin.Reads as begin-reads
 use Rattle.literal.proofs.content.finish.Reads as finish-reads
-use Rattle.literal.proofs.content.step.Reads as step-reads
+use Rattle.literal.proofs.content.further.Reads as further-reads
+use Rattle.literal.proofs.content.sign.Reads as sign-reads
+use Rattle.literal.proofs.turn.sign_at.Reads as sign-at-reads
+use Rattle.literal.proofs.turn.text_at.Reads as text-at-reads
 use Rattle.literal.proofs.parse.+argument+content.{statement}
 use Rattle.literal.proofs.parse.+argument+content.Tie.{close}
 
@@ -166,7 +172,18 @@ module _ (t : ℕ) where
 -- ---- `content`
 
 abbrev content-calls : ℕ → content-lts.Claims
-content-calls t = (step-reads.Asked, step-reads.Learnt, argument-below t, argument.Post)
+content-calls t = (
+  sign-at-reads.Asked,
+  sign-at-reads.Learnt,
+  sign-reads.Asked,
+  sign-reads.Learnt,
+  text-at-reads.Asked,
+  text-at-reads.Learnt,
+  further-reads.Asked,
+  further-reads.Learnt,
+  argument-below t,
+  argument.Post,
+)
 
 -- whatever the content from here on says, the whole content says
 abbrev content-Inv-loop : content-lts.InvT-loop
@@ -186,133 +203,187 @@ module _ (t : ℕ) where
       let ready = start .pre .1 in
       (ways.ahead-none (a .s .now) (a .place) (a .first) (a .out .now) (a .names .now) (a .marks .now) ready, refl, refl, ready, λ r o b h. h)
 
+  content-sign-requires : content-lts.Need-sign-requires (content-calls t) (content-at t) content.Post content-Inv-loop content-μ-loop
+  content-sign-requires c κs =
+      let tested = c .before .before in
+      let turn = tested .before .before in
+      let a = turn .before .before .before .before .before .before .args in
+      let l = turn .loop in
+      let is = sym (tested .before .sign-at .ensures) ∙ tested .if1 .taken in (
+        ways.ready-within (a .s .now) (a .place) (l .st) (l .out) (a .names .now) (a .marks .now) (l .inv .3),
+        is,
+        sign-inside (a .verb) (a .s .now) (l .st .at) is,
+      )
+
   content-loop-less : content-lts.Need-loop-less (content-calls t) (content-at t) content.Post content-Inv-loop content-μ-loop
   content-loop-less c =
-      let step = c .before .before .before .before .before .before .before in
-      let turn = step .before .before .before in
-      let start = turn .before .before .before .before .before .before in
-      let k = subst (AheadStep (length (start .args .s .now)) (turn .loop .st)) (c .before .t .given .1) (step .step .ensures .1) in
+      let turn = c .before .before .before .before .before .before .before .before .before .before .before .before in
+      let a = turn .before .before .before .before .before .before .args in
+      let k = subst (AheadMade (length (a .s .now)) 1 (turn .loop .st)) (c .before .t .given .1) (c .before .before .before .before .before .before .before .sign .ensures .1) in
       omega (arith, k .grows .at, k .grows .inside)
 
   content-loop-again : content-lts.Need-loop-again (content-calls t) (content-at t) content.Post content-Inv-loop content-μ-loop
   content-loop-again c =
-      let step = c .before .before .before .before .before .before .before in
-      let turn = step .before .before .before in
-      let start = turn .before .before .before .before .before .before in
-      let a = start .args in
+      let called = c .before .before .before .before .before .before .before in
+      let turn = called .before .before .before .before .before in
+      let a = turn .before .before .before .before .before .before .args in
       let l = turn .loop in
-      let r = step .step in
+      let r = called .sign in
       let m = c .before .t .given .0 .0 in
       let is = c .before .t .given .1 in
-      let k = subst (AheadStep (length (a .s .now)) (l .st)) is (r .ensures .1) in (
+      let k = subst (AheadMade (length (a .s .now)) 1 (l .st)) is (r .ensures .1) in (
         ways.ahead-on (length (a .s .now)) 1 (a .first) (l .st) m (l .inv .0) k,
         r .kept .1 .1 .1 .1 .0 ∙ l .inv .1,
         r .kept .1 .1 .1 .1 .1 .0 ∙ l .inv .2,
         ways.ready-on (a .s .now) (a .place) 1 (l .st) m (l .out) _ (a .names .now) (a .marks .now) (l .inv .3) k (r .kept .1 .1 .1 .1 .0),
         λ r₂ o₂ b₂ h. l .inv .4 r₂ o₂ b₂
-            (ways.turn-again (a .place) (inside (a .depth)) (a .verb) (a .s .now) (l .st) (l .out) (l .numbers) (r .result) _ _ (r .ensures .0) m is r₂
-            o₂ b₂ h),
+            (ways.turn-again (a .place) (inside (a .depth)) (a .verb) (a .s .now) (l .st) (l .out) (l .numbers) m _ _
+            (ways.sign-again (a .place) (inside (a .depth)) (a .verb) (a .s .now) (l .st) (l .out) (l .numbers) _ _ (r .ensures .0) is) r₂ o₂ b₂ h),
       )
 
   content-returns : content-lts.Need-returns (content-calls t) (content-at t) content.Post content-Inv-loop content-μ-loop
   content-returns c =
-      let step = c .before .before .before .before .before .before .before in
-      let turn = step .before .before .before in
-      let start = turn .before .before .before .before .before .before in
-      let a = start .args in
+      let called = c .before .before .before .before .before .before .before in
+      let turn = called .before .before .before .before .before in
+      let a = turn .before .before .before .before .before .before .args in
       let l = turn .loop in
-      let r = step .step in
-      let m = c .before .t2 .given .0 .0 in
-      let is = c .before .t2 .given .1 in (
+      let r = called .sign in
+      let is = c .before .f .given .1 in (
         l .inv .4 _ _ _
-            (ways.turn-done (a .place) (inside (a .depth)) (a .verb) (a .s .now) (l .st) (l .out) (l .numbers) (r .result) _ _ (r .ensures .0) m is),
-        ways.done-ahead (a .place) (inside (a .depth)) (a .verb) (a .s .now) (l .st) (l .out) (l .numbers) (r .result) _ _ (r .ensures .0)
-            (length (a .s .now)) (a .first) m is (l .inv .0),
+            (ways.sign-refused (a .place) (inside (a .depth)) (a .verb) (a .s .now) (l .st) (l .out) (l .numbers) _ _ (r .ensures .0) is),
+        subst (AheadMade (length (a .s .now)) 1 (l .st)) is (r .ensures .1),
       )
+
+  content-text-at-requires : content-lts.Need-text-at-requires (content-calls t) (content-at t) content.Post content-Inv-loop content-μ-loop
+  content-text-at-requires c κs =
+      let turn = c .before .before .before in
+      let a = turn .before .before .before .before .before .before .args in
+      let l = turn .loop in
+      (ordinary (a .verb) (getD (a .s .now) (l .st .at) 0) (sym (c .before .before .sign-at .ensures) ∙ c .before .if1 .left), l .inv .3 .text)
 
   content-returns-2 : content-lts.Need-returns-2 (content-calls t) (content-at t) content.Post content-Inv-loop content-μ-loop
   content-returns-2 c =
-      let step = c .before .before .before .before .before .before .before in
-      let turn = step .before .before .before in
-      let start = turn .before .before .before .before .before .before in
-      let a = start .args in
+      let called = c .before .before .before .before in
+      let turn = called .before .before .before .before in
+      let a = turn .before .before .before .before .before .before .args in
       let l = turn .loop in
-      let r = step .step in
-      let is = c .before .f .given .1 in (
+      let r = called .text-at in (
         l .inv .4 _ _ _
-            (ways.turn-refused (a .place) (inside (a .depth)) (a .verb) (a .s .now) (l .st) (l .out) (l .numbers) (r .result) _ _ (r .ensures .0) _ is),
-        subst (AheadStep (length (a .s .now)) (l .st)) is (r .ensures .1),
-      )
-
-  content-argument-requires : content-lts.Need-argument-requires (content-calls t) (content-at t) content.Post content-Inv-loop content-μ-loop
-  content-argument-requires c κs =
-      let step = c .before .before .before .before .before .before .before .before in
-      let turn = step .before .before .before in
-      let start = turn .before .before .before .before .before .before in
-      let a = start .args in
-      let l = turn .loop in
-      let r = step .step in
-      let is = c .before .before .m .given .1 in (
-        omega arith,
-        (
-          ways.ready-argument (a .s .now) (a .place) (l .st) (l .out) _ (a .names .now) (a .marks .now) (l .inv .3) (r .kept .1 .1 .1 .1 .0),
-          (
-            ways.meaning-told (a .place) (inside (a .depth)) (a .verb) (a .s .now) (l .st) (l .out) (l .numbers) (r .result) _ _ (r .ensures .0) _ _ _
-                _ is,
-            subst (AheadStep (length (a .s .now)) (l .st)) is (r .ensures .1),
-          ),
-        ),
+            (ways.turn-done (a .place) (inside (a .depth)) (a .verb) (a .s .now) (l .st) (l .out) (l .numbers) (r .result) _ (r .ensures .0)
+            (c .enum-told .given .1)),
+        l .inv .0,
       )
 
   content-loop-less-2 : content-lts.Need-loop-less-2 (content-calls t) (content-at t) content.Post content-Inv-loop content-μ-loop
   content-loop-less-2 c =
-      let read = c .before .before .before .before .before in
-      let step = read .before .before .before .before .before .before .before .before .before in
-      let turn = step .before .before .before in
-      let start = turn .before .before .before .before .before .before in
-      let k = subst (AheadMade (length (start .args .s .now)) 1 (turn .loop .st)) (c .before .t3 .given .1) (read .argument .ensures .1) in
-      omega (arith, k .grows .at, k .grows .inside)
+      let called = c .before .before .before .before .before .before in
+      let turn = called .before .before .before .before in
+      let a = turn .before .before .before .before .before .before .args in
+      let k = put-grows (length (a .s .now)) (turn .loop .st .at) (turn .loop .st .len) (c .before .before .next .given .1)
+      (called .text-at .ensures .1) in
+      let f = c .further .ensures .at in
+      omega (arith, k .at, k .inside, f)
 
   content-loop-again-2 : content-lts.Need-loop-again-2 (content-calls t) (content-at t) content.Post content-Inv-loop content-μ-loop
   content-loop-again-2 c =
-      let read = c .before .before .before .before .before in
-      let seen = read .before .before .before in
-      let step = seen .before .before .before .before .before .before in
-      let turn = step .before .before .before in
-      let start = turn .before .before .before .before .before .before in
-      let a = start .args in
+      let called = c .before .before .before .before .before .before in
+      let turn = called .before .before .before .before in
+      let a = turn .before .before .before .before .before .before .args in
       let l = turn .loop in
-      let r = step .step in
-      let arg = read .argument in
-      let m = c .before .t3 .given .0 .0 in
-      let is = c .before .t3 .given .1 in
-      let g = seen .m .given in
-      let k = subst (AheadMade (length (a .s .now)) 1 (l .st)) is (arg .ensures .1) in
-      let n : length (arg .last .1 .1 .1 .1 .1 .1 .1 .0) ≡ length (l .out) = arg .kept .1 .1 .1 .1 .1 .1 .1 .0 ∙ r .kept .1 .1 .1 .1 .0 in (
+      let r = called .text-at in
+      let m = c .further .result in
+      let is = c .before .before .next .given .1 in
+      let grows = put-grows (length (a .s .now)) (l .st .at) (l .st .len) is (r .ensures .1) in
+      let k = ahead-further (length (a .s .now)) (a .verb) (a .s .now) (l .st) (l .out) _ _ _ (r .result) m is (r .ensures .0) grows (l .inv .3 .from)
+      (l .inv .3 .start) (c .further .ensures) in (
         ways.ahead-on (length (a .s .now)) 1 (a .first) (l .st) m (l .inv .0) k,
-        n ∙ l .inv .1,
-        r .kept .1 .1 .1 .1 .1 .0 ∙ l .inv .2,
-        ways.ready-on (a .s .now) (a .place) 1 (l .st) m (l .out) _ (a .names .now) (a .marks .now) (l .inv .3) k n,
+        r .kept .1 .1 .1 .0 ∙ l .inv .1,
+        l .inv .2,
+        ways.ready-on (a .s .now) (a .place) 1 (l .st) m (l .out) _ (a .names .now) (a .marks .now) (l .inv .3) k (r .kept .1 .1 .1 .0),
         λ r₂ o₂ b₂ h. l .inv .4 r₂ o₂ b₂
-            (ways.turn-argument (a .place) (inside (a .depth)) (a .verb) (a .s .now) (l .st) (l .out) (l .numbers) (r .result) _ _ (r .ensures .0)
-            (g .0 .0) (g .0 .1 .0) (g .0 .1 .1 .0) (g .0 .1 .1 .1 .0) (g .1) (arg .result) _ (arg .ensures .0) m r₂ o₂ b₂ h is),
+            (ways.turn-again (a .place) (inside (a .depth)) (a .verb) (a .s .now) (l .st) (l .out) (l .numbers) m _ _
+            (text-put (a .place) (a .verb) (a .s .now) (l .st) (l .out) (l .numbers) (r .result) _ (r .ensures .0) _ _ is m (c .further .ensures))
+            r₂ o₂ b₂ h),
       )
 
   content-returns-3 : content-lts.Need-returns-3 (content-calls t) (content-at t) content.Post content-Inv-loop content-μ-loop
   content-returns-3 c =
-      let read = c .before .before .before .before .before in
-      let seen = read .before .before .before in
-      let step = seen .before .before .before .before .before .before in
-      let turn = step .before .before .before in
+      let called = c .before .before .before .before .before in
+      let turn = called .before .before .before .before in
+      let a = turn .before .before .before .before .before .before .args in
+      let l = turn .loop in
+      let r = called .text-at in
+      let is = c .before .f2 .given .1 in (
+        l .inv .4 _ _ _
+            (ways.turn-refused (a .place) (inside (a .depth)) (a .verb) (a .s .now) (l .st) (l .out) (l .numbers) (r .result) _ (r .ensures .0) _ is),
+        subst (GrowsText (length (a .s .now)) (l .st .at) (l .st .len)) is (r .ensures .1),
+      )
+
+  content-argument-requires : content-lts.Need-argument-requires (content-calls t) (content-at t) content.Post content-Inv-loop content-μ-loop
+  content-argument-requires c κs =
+      let called = c .before .before .before .before .before .before in
+      let turn = called .before .before .before .before in
       let start = turn .before .before .before .before .before .before in
       let a = start .args in
       let l = turn .loop in
-      let r = step .step in
+      let r = called .text-at in
+      let is = c .before .before .m .given .1 in (
+        omega (arith, start .pre .0),
+        (
+          ways.ready-argument (a .s .now) (a .place) (l .st) (l .out) _ (a .names .now) (a .marks .now) (l .inv .3) (r .kept .1 .1 .1 .0),
+          (
+            ways.meaning-told (a .place) (inside (a .depth)) (a .verb) (a .s .now) (l .st) (l .out) (l .numbers) (r .result) _ (r .ensures .0) _ _ _ _
+                is,
+            subst (GrowsText (length (a .s .now)) (l .st .at) (l .st .len)) is (r .ensures .1),
+          ),
+        ),
+      )
+
+  content-loop-less-3 : content-lts.Need-loop-less-3 (content-calls t) (content-at t) content.Post content-Inv-loop content-μ-loop
+  content-loop-less-3 c =
+      let turn = c .before .before .before .before .before .before .before .before .before .before .before .before .before .before .before .before in
+      let a = turn .before .before .before .before .before .before .args in
+      let k = subst (AheadMade (length (a .s .now)) 1 (turn .loop .st)) (c .before .t2 .given .1) (c .before .before .before .before .before .argument .ensures .1) in
+      omega (arith, k .grows .at, k .grows .inside)
+
+  content-loop-again-3 : content-lts.Need-loop-again-3 (content-calls t) (content-at t) content.Post content-Inv-loop content-μ-loop
+  content-loop-again-3 c =
+      let read = c .before .before .before .before .before in
+      let seen = read .before .before .before in
+      let called = seen .before .before .before .before in
+      let turn = called .before .before .before .before in
+      let a = turn .before .before .before .before .before .before .args in
+      let l = turn .loop in
+      let r = called .text-at in
       let arg = read .argument in
-      let is = c .before .f2 .given .1 in
+      let m = c .before .t2 .given .0 .0 in
+      let is = c .before .t2 .given .1 in
+      let g = seen .m .given in
+      let k = subst (AheadMade (length (a .s .now)) 1 (l .st)) is (arg .ensures .1) in
+      let n : length (arg .last .1 .1 .1 .1 .1 .1 .1 .0) ≡ length (l .out) = arg .kept .1 .1 .1 .1 .1 .1 .1 .0 ∙ r .kept .1 .1 .1 .0 in (
+        ways.ahead-on (length (a .s .now)) 1 (a .first) (l .st) m (l .inv .0) k,
+        n ∙ l .inv .1,
+        l .inv .2,
+        ways.ready-on (a .s .now) (a .place) 1 (l .st) m (l .out) _ (a .names .now) (a .marks .now) (l .inv .3) k n,
+        λ r₂ o₂ b₂ h. l .inv .4 r₂ o₂ b₂
+            (ways.turn-argument (a .place) (inside (a .depth)) (a .verb) (a .s .now) (l .st) (l .out) (l .numbers) (r .result) _ (r .ensures .0)
+            (g .0 .0) (g .0 .1 .0) (g .0 .1 .1 .0) (g .0 .1 .1 .1 .0) (g .1) (arg .result) _ (arg .ensures .0) m r₂ o₂ b₂ h is),
+      )
+
+  content-returns-4 : content-lts.Need-returns-4 (content-calls t) (content-at t) content.Post content-Inv-loop content-μ-loop
+  content-returns-4 c =
+      let read = c .before .before .before .before .before in
+      let seen = read .before .before .before in
+      let called = seen .before .before .before .before in
+      let turn = called .before .before .before .before in
+      let a = turn .before .before .before .before .before .before .args in
+      let l = turn .loop in
+      let r = called .text-at in
+      let arg = read .argument in
+      let is = c .before .f3 .given .1 in
       let g = seen .m .given in (
         l .inv .4 _ _ _
-            (ways.turn-stopped (a .place) (inside (a .depth)) (a .verb) (a .s .now) (l .st) (l .out) (l .numbers) (r .result) _ _ (r .ensures .0)
+            (ways.turn-stopped (a .place) (inside (a .depth)) (a .verb) (a .s .now) (l .st) (l .out) (l .numbers) (r .result) _ (r .ensures .0)
             (g .0 .0) (g .0 .1 .0) (g .0 .1 .1 .0) (g .0 .1 .1 .1 .0) (g .1) (arg .result) _ (arg .ensures .0) _ is),
         subst (AheadMade (length (a .s .now)) 1 (l .st)) is (arg .ensures .1),
       )
@@ -337,7 +408,8 @@ pub +argument+content-spec : {M : Type 1} → statement M
     (argument-returns-3 t))
     λ t. content-lts.spec (content-calls t) (content-at t) content.Post content-Inv-loop content-μ-loop
     (content-loop-holds t)
-    (λ c κs. c .before .before .loop .inv .3)
+    (λ c κs. search needs)
+    (content-sign-requires t)
     (λ c. search needs)
     (content-loop-less t)
     (content-loop-again t)
@@ -345,16 +417,25 @@ pub +argument+content-spec : {M : Type 1} → statement M
     (λ c. search needs)
     (λ c. search needs)
     (content-returns t)
+    (content-text-at-requires t)
     (λ c. search needs)
     (λ c. search needs)
     (λ c. search needs)
     (content-returns-2 t)
     (λ c. search needs)
-    (content-argument-requires t)
-    (λ c. search needs)
+    (λ c κs. search needs)
     (content-loop-less-2 t)
     (content-loop-again-2 t)
     (λ c. search needs)
     (λ c. search needs)
     (λ c. search needs)
     (content-returns-3 t)
+    (λ c. search needs)
+    (content-argument-requires t)
+    (λ c. search needs)
+    (content-loop-less-3 t)
+    (content-loop-again-3 t)
+    (λ c. search needs)
+    (λ c. search needs)
+    (λ c. search needs)
+    (content-returns-4 t)

@@ -48,9 +48,7 @@ copy-requires c κs =
 returns-2 : tie.Need-returns-2
 returns-2 c =
     let begin = c .before .before .before .before .before in
-    let a = begin .args in
-    let p = begin .pre in
-    (answers.other-end (a .verb) (a .s .now) (a .at) (a .len) (a .out .now) (p .4) (c .before .before .peek .ensures .0) (c .enum-told .given .1), tt)
+    absurd (answers.not-end (begin .args .s .now) (begin .args .at) (c .before .before .peek .ensures .0) (c .enum-told .given .1) (begin .pre .0))
 
 returns-3 : tie.Need-returns-3
 returns-3 c =
