@@ -41,8 +41,7 @@ use Rattle.resolve.specs.Field.{element, Meaning, definition, month, unk
 use Rattle.resolve.specs.Field.{mostNames, opened, name, ofRun, fieldOf}
 use Rattle.resolve.specs.Checks.{everySpan, isValue, monthIn, isValid, isText, isMonth, everyMonth, areMonths, areLent, isRight, lentOf}
 use Rattle.resolve.specs.OneField.{valueAt}
-use Rattle.resolve.specs.WholeFile.{chunksIn, isValueRow, flag, resultsFrom, results, All, all, none, areFiled, afterAll, allOf}
-use Rattle.resolve.specs.WellFormedFields.{AllPass, WellFormedFields}
+use Rattle.resolve.specs.WellFormedFields.{WellFormedFields}
 
 -- ---- what is lent
 
@@ -118,6 +117,10 @@ lent-good file rows months words o h =
 abbrev isResolved : Value → ℕ
 isResolved (resolved cs n) = 1
 isResolved (refused f) = 0
+
+abbrev chunksIn : Value → List Chunk
+chunksIn (resolved cs n) = cs
+chunksIn (refused f) = []
 
 -- ---- elements one after the other
 
@@ -252,52 +255,12 @@ literal-passes file a e verb w n cs h =
     by (chunks ds) k e = subst Texts (ap chunksIn e) (well-formed .joins ds (k ds refl))
     by (literal.refused f) k e = absurd (omega (arith, ap isResolved e))
 
--- ---- the values of a file
-
-abbrev isAll : All → ℕ
-isAll (all vs) = 1
-isAll (none f) = 0
-
-abbrev valuesIn : All → List Value
-valuesIn (all vs) = vs
-valuesIn (none f) = []
-
-results-pass : (l : Lent) → Good l → (i : ℕ) (fs : List ℕ) (rs : List Row) → AllPass (resultsFrom l i fs rs)
-unfolding AllPass resultsFrom
-results-pass l good i fs [] = tt
-results-pass l good i fs (r ∷ rs) =
-    by (isValueRow r) (fieldOf l (flag fs) i) (resultsFrom l (suc i) (drop 1 fs) rs) (resultsFrom l (suc i) fs rs)
-    (one (fieldOf l (flag fs) i) (λ cs n. field-gives l good (flag fs) i n cs))
-    (results-pass l good (suc i) (drop 1 fs) rs) (results-pass l good (suc i) fs rs)
-  where
-    one : (v : Value) → ((cs : List Chunk) (n : ℕ) → v ≡ resolved cs n → Texts cs) → Passes (chunksIn v)
-    one (resolved cs n) h = well-formed .value cs (h cs n refl)
-    one (refused f) h = well-formed .value [] texts.none
-
-    by : (w : Bool) (v : Value) (vs us : List Value) → Passes (chunksIn v) → AllPass vs → AllPass us → AllPass (cond w (v ∷ vs) us)
-    by true v vs us p q k = (p, q)
-    by false v vs us p q k = k
-
-values-pass : (file rows flags months words : List ℕ) (w : ℕ) (vs : List Value) → allOf file rows flags months words w ≡ all vs → AllPass vs
-unfolding areFiled
-values-pass file rows flags months words w vs =
-    by (checkedFile file) (areFiled file rows flags months words) (leb leastScratch w) (nowhere NoRoom) (nowhere BadRows) (passed-text file)
-    (λ e. both-true (areLent file rows months words) _ e .0)
-  where
-    by : (x : Checked) (good room : Bool) (f g : Fault) → (x ≡ checked.Passed → Octets file) → (good ≡ true → areLent file rows months words ≡ true)
-        → afterAll x (cond good (cond room (all (results (lentOf file rows months words) flags)) (none f)) (none g)) ≡ all vs → AllPass vs
-    by checked.Passed true true f g h k e =
-        subst AllPass (ap valuesIn e) (results-pass (lentOf file rows months words) (lent-good file rows months words (h refl) (k refl)) 0 flags (rowsOf rows))
-    by checked.Passed true false f g h k e = absurd (omega (arith, ap isAll e))
-    by checked.Passed false room f g h k e = absurd (omega (arith, ap isAll e))
-    by (checked.Refused y) good room f g h k e = absurd (omega (arith, ap isAll e))
-
 pub well-formed-fields : WellFormedFields
 well-formed-fields = record {
+  file = passed-text;
   texts = λ file rows months words verb i n cs o h. field-gives (lentOf file rows months words) (lent-good file rows months words o h) verb i n cs;
   passes = λ file rows months words verb i n cs o h e.
       well-formed .value cs (field-gives (lentOf file rows months words) (lent-good file rows months words o h) verb i n cs e);
   field = field-passes;
   literal = literal-passes;
-  values = values-pass;
 }

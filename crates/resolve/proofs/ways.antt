@@ -2,7 +2,7 @@
 
 -- what every call asks first: `check_file`, and what `literal` and `field` refuse
 pub mod AskedWays
--- a literal counted and written: `write` of src/one_literal.rt
+-- a literal over a small room, and then over what is lent: `write` of src/one_literal.rt
 pub mod WriteWays
 -- the elements of a value one behind the other: runs, and what the code has of them
 pub mod RunWays

@@ -3,10 +3,10 @@ pub mod OneLiteral
 pub mod Field
 pub mod Checks
 pub mod OneField
-pub mod WholeFile
 pub mod WellFormedFields
 pub mod StrictRows
 pub mod OwnRows
+pub mod EnoughText
 pub mod Progress
 pub mod Uses
 pub mod Worked

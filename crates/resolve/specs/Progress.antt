@@ -1,6 +1,7 @@
 -- What the lent numbers and bytes hold while the elements of a value are resolved one after the other. For src/progress.rt and src/field.rt.
 --     Has           the chunks so far, as the code has them
 --     SaysRun       what a function answers that takes the definition of Field.antt further
+--     Counted       what a value came to that was counted and not written
 --     Ready         what the functions ask
 -- Assumes nothing.
 use Prim.Native.Nat.{ℕ, suc, _+_, _*_, _≤_, _<_}
@@ -10,6 +11,7 @@ use mathlib.Core.List.{List, [], _∷_, _++_}
 use lib.ListN.{length}
 use lib.Seq.{sets}
 use Rattle.text.specs.Scan.{part}
+use Rattle.row.specs.declared.fault.Fault.{Fault}
 use Rattle.literal.specs.declared.rows.Rows.{Rows}
 use Rattle.chunk.specs.Chunk.{Chunk}
 use Rattle.compose.specs.Lookup.{numbers}
@@ -22,7 +24,7 @@ use Rattle.resolve.specs.declared.answer.Answer.the-variants as answer
 use Rattle.resolve.specs.declared.progress.Progress.{Progress}
 use Rattle.resolve.specs.declared.progress.Went.{Went}
 use Rattle.resolve.specs.declared.progress.Went.the-variants as went
-use Rattle.resolve.specs.Resolves.{mostWritten, small}
+use Rattle.resolve.specs.Resolves.{Value, resolved, refused, mostWritten, small}
 use Rattle.resolve.specs.Field.{Run, done, stop}
 
 -- the chunks ps: more than can be written, or exactly these. The lent numbers were b₀ and the lent bytes t₀ before any chunk
@@ -58,9 +60,25 @@ SaysRun (done cs n) st b t (went.Refused f) b′ t′ = ⊥
 SaysRun (stop g) st b t (went.Done st′) b′ t′ = ⊥
 SaysRun (stop g) st b t (went.Refused f) b′ t′ = f ≡ g
 
+-- the places of a refusal have 32 bits
+abbrev pub Narrow : Fault → Type 0
+Narrow f = (f .start ≤ 4294967295) × (f .end ≤ 4294967295)
+
 abbrev pub BoundedWent : Went → Type 0
 BoundedWent (went.Done st) = Bounded st
-BoundedWent (went.Refused f) = Unit {0}
+BoundedWent (went.Refused f) = Narrow f
+
+abbrev pub BoundedAnswer : Answer → Type 0
+BoundedAnswer (answer.Chunks k n m) = (k ≤ mostWritten) × (n ≤ mostWritten) × (m ≤ 4096)
+BoundedAnswer (answer.Refused f) = Narrow f
+
+-- a value that was counted over no room: what it resolves to is counted exactly, or is more than can be written
+abbrev pub Counted : Value → Went → Type 0
+Counted (resolved cs n) (went.Done st) =
+    (st .over ≡ not (small cs)) × (st .over ≡ false → (st .rows .n ≡ length cs) × (st .bytes ≡ length (textsOf cs)))
+Counted (resolved cs n) (went.Refused f) = ⊥
+Counted (refused g) (went.Done st) = ⊥
+Counted (refused g) (went.Refused f) = f ≡ g
 
 -- the scratch and the tables
 pub record Ready (w byName byMark : List ℕ) : Type 0 where

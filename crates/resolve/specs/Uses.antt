@@ -2,8 +2,9 @@
 --     MonthFound, Means, allowedOf     what a name means in lent numbers and bytes, and whether its use is allowed
 --     firstElement, valueFrom          the elements of a value
 --     Sound                            what value and name ask
+--     Resolving                        what is asked where a value is counted or written
 -- Assumes nothing.
-use Prim.Native.Nat.{ℕ, zero, suc, _≤_, _<_}
+use Prim.Native.Nat.{ℕ, zero, suc, _/_, _≤_, _<_}
 use mathlib.Core.Path.{_≡_}
 use mathlib.Core.Bool.{Bool, true, cond}
 use mathlib.Core.List.{List, [], _∷_}
@@ -81,3 +82,11 @@ pub record Sound (file rows months words heads next w byName byMark held : List 
   pub index : Indexed file rows heads next
   pub ready : Ready w byName byMark
   pub path : (length held ≡ 32) × (left ≤ 32)
+
+-- what is asked where the value of row i is counted or written
+pub record Resolving (file rows months words heads next w byName byMark : List ℕ) (i : ℕ) : Type 0 where
+  pub short : length file ≤ 16777215
+  pub lent : areLent file rows months words ≡ true
+  pub index : Indexed file rows heads next
+  pub ready : Ready w byName byMark
+  pub which : i < length rows / 4

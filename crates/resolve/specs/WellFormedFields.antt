@@ -4,24 +4,21 @@
 use Prim.Native.Nat.{ℕ}
 use mathlib.Core.Path.{_≡_}
 use mathlib.Core.Bool.{Bool, true}
-use mathlib.Core.List.{List, [], _∷_}
+use mathlib.Core.List.{List}
 use Rattle.text.specs.Utf8.{Octets}
 use Rattle.chunk.specs.Chunk.{Chunk}
+use Rattle.chunk.specs.declared.answer.Checked.the-variants as checked
 use Rattle.chunk.specs.WellFormed.{Texts}
 use Rattle.literal.specs.WellFormed.{Passes}
-use Rattle.resolve.specs.Resolves.{Value, resolved}
+use Rattle.resolve.specs.Resolves.{resolved, checkedFile}
 use Rattle.resolve.specs.OneLiteral.{literalOf}
 use Rattle.resolve.specs.Field.{fieldOf}
 use Rattle.resolve.specs.Checks.{areLent, lentOf}
 use Rattle.resolve.specs.OneField.{valueAt}
-use Rattle.resolve.specs.WholeFile.{chunksIn, all, allOf}
-
--- the values of a file, where a refused one has no chunks
-unfoldable pub AllPass : List Value → Type 0
-AllPass [] = Unit {0}
-AllPass (v ∷ vs) = Passes (chunksIn v) × AllPass vs
 
 pub record WellFormedFields : Type 0 where
+  -- a file that passes the check is UTF-8
+  pub file : (file : List ℕ) → checkedFile file ≡ checked.Passed → Octets file
   -- where the file is UTF-8 and what is lent with it passes the check, the text of each chunk of a field is UTF-8, be it of a literal of the
   -- field, of a definition or of a month word
   pub texts : (file rows months words : List ℕ) (verb : Bool) (i n : ℕ) (cs : List Chunk) → Octets file → areLent file rows months words ≡ true
@@ -32,4 +29,3 @@ pub record WellFormedFields : Type 0 where
   pub field : (file rows : List ℕ) (which : ℕ) (verb : Bool) (months words : List ℕ) (w n : ℕ) (cs : List Chunk)
       → valueAt file rows which verb months words w ≡ resolved cs n → Passes cs
   pub literal : (file : List ℕ) (a e : ℕ) (verb : Bool) (w n : ℕ) (cs : List Chunk) → literalOf file a e verb w ≡ resolved cs n → Passes cs
-  pub values : (file rows flags months words : List ℕ) (w : ℕ) (vs : List Value) → allOf file rows flags months words w ≡ all vs → AllPass vs

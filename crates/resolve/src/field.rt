@@ -27,11 +27,11 @@ ghost use Rattle.row.specs.Numbers.{rowsOf};
 ghost use Rattle.lookup.specs.RowIndex.{Indexed};
 ghost use Rattle.resolve.specs.Resolves.{Writes, Resolves};
 ghost use Rattle.resolve.specs.Field as field;
-ghost use Rattle.resolve.specs.Field.{meaningOf, onPath, flattened, ofRun};
-ghost use Rattle.resolve.specs.Checks.{areMonths, areLent, lentOf};
+ghost use Rattle.resolve.specs.Field.{meaningOf, onPath, fieldOf};
+ghost use Rattle.resolve.specs.Checks.{areMonths, lentOf};
 ghost use Rattle.resolve.specs.OneField.{valueAt};
-ghost use Rattle.resolve.specs.Progress.{Bounded, SaysRun, BoundedWent, Ready};
-ghost use Rattle.resolve.specs.Uses.{Means, Inside, limits as limitsOf, allowedOf, firstElement, valueFrom, Sound};
+ghost use Rattle.resolve.specs.Progress.{Bounded, SaysRun, BoundedWent, BoundedAnswer, Counted};
+ghost use Rattle.resolve.specs.Uses.{Means, Inside, limits as limitsOf, allowedOf, firstElement, valueFrom, Sound, Resolving};
 
 // How many names may be open at once, and how many a field may resolve [01:From file to field].
 const MOST_OPEN: usize = 32;
@@ -131,7 +131,7 @@ fn may_open(m: Meaning, path: &[usize], left: usize, names: usize) -> Allowed
 }
 
 // The row from number i on, if it is an element of a value.
-fn element_at(rows: &[u32], i: usize) -> Element
+pub fn element_at(rows: &[u32], i: usize) -> Element
     requires { ⌜ i ≤ length (now rows) + 8 ⌝ }
     ensures { λ r. ⌜ r ≡ firstElement (rowsOf (drop i (now (rows .entry)))) ⌝ }
 {
@@ -308,29 +308,70 @@ fn name(
     }
 }
 
-// Resolves the value over a small room first, which counts past its end: what the small room holds is then copied, and what it does not hold
-// is resolved again.
-fn write(
+// What the value of row `which` comes to, counted over no room.
+pub fn count(
     file: &[u8],
     rows: &[u32],
     months: &[u32],
     words: &[u8],
+    heads: &[u32],
+    next: &[u32],
+    known: &[u8],
+    marks: &[u32],
     verbatim: bool,
-    at: usize,
+    which: usize,
+    scratch: &mut [u8],
+) -> Went
+    requires { ⌜ Resolving (now file) (now rows) (now months) (now words) (now heads) (now next) (now scratch) (now known) (now marks) which ⌝ }
+    ensures { λ r. ⌜ Counted (fieldOf (lentOf (now (file .entry)) (now (rows .entry)) (now (months .entry)) (now (words .entry))) verbatim which) r ⌝ }
+    ensures { λ r. ⌜ BoundedWent r ⌝ }
+{
+    let mut path = [0usize; 32];
+    let mut no_rows = [0u32; 0];
+    let mut no_text = [0u8; 0];
+    value(
+        file,
+        rows,
+        months,
+        words,
+        heads,
+        next,
+        known,
+        marks,
+        verbatim,
+        MOST_OPEN,
+        &mut path,
+        which * 4 + 4,
+        progress::begin(),
+        scratch,
+        &mut no_rows,
+        &mut no_text,
+    )
+}
+
+// Resolves the value of row `which` over a small room first, which counts past its end: what the small room holds is then copied, and what it
+// does not hold is resolved again.
+pub fn write(
+    file: &[u8],
+    rows: &[u32],
+    months: &[u32],
+    words: &[u8],
+    heads: &[u32],
+    next: &[u32],
+    known: &[u8],
+    marks: &[u32],
+    verbatim: bool,
+    which: usize,
     scratch: &mut [u8],
     chunks: &mut [u32],
     text: &mut [u8],
-    known: &[u8],
-    marks: &[u32],
 ) -> Answer
-    requires { ⌜ (length (now file) ≤ 16777215) × (areLent (now file) (now rows) (now months) (now words) ≡ true) ×
-        Ready (now scratch) (now known) (now marks) × (at % 4 ≡ 0) × (at ≤ length (now rows)) ⌝ }
-    ensures { λ r. ⌜ Writes (ofRun (flattened (valueFrom (lentOf (now (file .entry)) (now (rows .entry)) (now (months .entry)) (now (words .entry)))
-        verbatim 32 [] (rowsOf (drop at (now (rows .entry)))) 0))) (now (chunks .entry)) (now (text .entry)) r
-        (now (chunks .exit)) (now (text .exit)) ⌝ }
+    requires { ⌜ Resolving (now file) (now rows) (now months) (now words) (now heads) (now next) (now scratch) (now known) (now marks) which ⌝ }
+    ensures { λ r. ⌜ Writes (fieldOf (lentOf (now (file .entry)) (now (rows .entry)) (now (months .entry)) (now (words .entry))) verbatim which)
+        (now (chunks .entry)) (now (text .entry)) r (now (chunks .exit)) (now (text .exit)) ⌝ }
+    ensures { λ r. ⌜ BoundedAnswer r ⌝ }
 {
-    let heads = [0u32; 0];
-    let next = [0u32; 0];
+    let at = which * 4 + 4;
     let mut path = [0usize; 32];
     let mut few = [0u32; 160];
     let mut short = [0u8; 1024];
@@ -340,8 +381,8 @@ fn write(
         rows,
         months,
         words,
-        &heads,
-        &next,
+        heads,
+        next,
         known,
         marks,
         verbatim,
@@ -371,8 +412,8 @@ fn write(
                 rows,
                 months,
                 words,
-                &heads,
-                &next,
+                heads,
+                next,
                 known,
                 marks,
                 verbatim,
@@ -424,6 +465,8 @@ fn field(
             end: 0,
         });
     }
+    let heads = [0u32; 0];
+    let next = [0u32; 0];
     let known = commands::names();
     let marks = compose::table();
     write(
@@ -431,13 +474,15 @@ fn field(
         rows,
         months,
         words,
+        &heads,
+        &next,
+        &known,
+        &marks,
         verbatim,
-        which * 4 + 4,
+        which,
         scratch,
         chunks,
         text,
-        &known,
-        &marks,
     )
 }
 

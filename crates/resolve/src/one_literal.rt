@@ -1,6 +1,7 @@
 // A literal of a file resolved into lent chunk rows and text.
 use crate::answer;
 use crate::answer::Answer;
+use crate::progress;
 use chunk::answer::Checked;
 use chunk::put;
 use command::names as commands;
@@ -32,7 +33,8 @@ pub fn is_span(file: &[u8], start: usize, end: usize) -> bool
     (start <= end) & (utf8::is_boundary(file, start) & utf8::is_boundary(file, end))
 }
 
-// Counts the literal's chunks and text over no rows, and writes both if there is room.
+// Resolves the literal over a small room for rows first, which counts past its end: the rows that it holds are then copied, and where there are
+// more the literal is resolved again.
 fn write(
     s: &[u8],
     base: usize,
@@ -53,18 +55,8 @@ fn write(
         from: 0,
         start: 0,
     };
-    let mut nothing = [0u32; 0];
-    match parse::parse(
-        s,
-        base,
-        verbatim,
-        0,
-        none,
-        scratch,
-        &mut nothing,
-        names,
-        marks,
-    ) {
+    let mut few = [0u32; 160];
+    match parse::parse(s, base, verbatim, 0, none, scratch, &mut few, names, marks) {
         Parsed::Refused(f) => Answer::Refused(f),
         Parsed::Chunks { rows, len } => {
             let n = rows.n;
@@ -76,12 +68,17 @@ fn write(
                 });
             }
             put::copy(scratch, 0, len, text, 0);
-            parse::parse(s, base, verbatim, 0, none, scratch, chunks, names, marks);
-            Answer::Chunks {
+            let answer = Answer::Chunks {
                 rows: n,
                 bytes: len,
                 names: 0,
+            };
+            if n <= 32 {
+                progress::copy_numbers(&few, n * 5, chunks);
+                return answer;
             }
+            parse::parse(s, base, verbatim, 0, none, scratch, chunks, names, marks);
+            answer
         }
     }
 }

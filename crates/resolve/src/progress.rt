@@ -188,7 +188,7 @@ pub fn fits(st: Progress, chunks: &[u32], text: &[u8]) -> bool
 }
 
 // The numbers in front, so many of them.
-fn copy_numbers(from: &[u32], n: usize, out: &mut [u32])
+pub fn copy_numbers(from: &[u32], n: usize, out: &mut [u32])
     requires { ⌜ (n ≤ length (now from)) × (n ≤ length (now out)) ⌝ }
     ensures { λ _. ⌜ now (out .exit) ≡ take n (now (from .entry)) ++ drop n (now (out .entry)) ⌝ }
 {

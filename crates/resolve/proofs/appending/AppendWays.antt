@@ -1,7 +1,7 @@
 -- The ways through the functions of src/progress.rt.
 --     begun                                  `begin`
 --     inside, append-over, append-on         `append`: too much, and not
---     literal-few, literal-refused, literal-done      `literal`
+--     literal-few, literal-narrow, literal-refused, literal-done      `literal`
 --     month-text, month-row                  `month`
 --     fits-by                                `fits`
 -- Assumes nothing.
@@ -33,7 +33,7 @@ use Rattle.resolve.specs.declared.progress.Progress.{Progress}
 use Rattle.resolve.specs.declared.progress.Went.the-variants as went
 use Rattle.resolve.specs.Resolves.{mostWritten, small, fits}
 use Rattle.resolve.specs.Field.{ofLiteral}
-use Rattle.resolve.specs.Progress.{Has, Appends, SaysRun}
+use Rattle.resolve.specs.Progress.{Has, Appends, SaysRun, Narrow}
 use Rattle.resolve.proofs.appending.SmallChunks.{small-text, small-rows, small-both, small-more, sets-behind}
 
 clash : (a : Bool) → a ≡ true → a ≡ false → ⊥
@@ -122,6 +122,10 @@ front s n h = ap (λ (k : ℕ). take k s) (least n (length s) h)
 pub literal-few : (have : Rows) (p : Parsed) → GrowsParsed have p → (k : Rows) (len : ℕ) → p ≡ parsed.Chunks k len
     → (len ≤ 32768) × (k .n ≤ have .n + 16385)
 literal-few have p g k len e = subst (GrowsParsed have) e g
+
+-- its refusal has a place of the file
+pub literal-narrow : (have : Rows) (p : Parsed) → GrowsParsed have p → (f : Fault) → p ≡ parsed.Refused f → Narrow f
+literal-narrow have p g f e = let at = subst (GrowsParsed have) e g in (omega (arith, at .0), omega (arith, at .1))
 
 module _ (x : Resolved) (st : Progress) (b t o b′ : List ℕ) (p : Parsed) (says : SaysParsed x (st .bytes) (st .rows) b p o b′) where
   pub literal-refused : (f : Fault) → p ≡ parsed.Refused f → SaysRun (ofLiteral x (st .names)) st b t (went.Refused f) b′ t

@@ -1,10 +1,12 @@
 -- A value over a small room, and then over what is lent: for `write` and `field` of src/field.rt, and `copy_numbers` of src/progress.rt.
 --     copy-on                           one number more is copied
---     sound-first                       what `value` asks
+--     sound-first, answer-bounded       what `value` asks, and the bounds of an answer
 --     write-refused, write-full         the value is refused, or there is no room for it
 --     write-room                        how much it comes to, where there is
 --     write-copied, write-again         it is copied from the small room, or resolved again
---     right-as, lent-right, which-inside, field-at      what `field` asks, and its value
+--     count-as                          the value is counted only
+--     right-as, lent-right, which-inside      what `field` asks
+--     field-at, count-at                the value of a row
 -- Assumes nothing.
 use Prim.Native.Nat.{ℕ, suc, _+_, _-_, _*_, _/_, _≤_, _<_, min}
 use native.Mathlib.Omega.{arith}
@@ -23,7 +25,6 @@ use Rattle.row.specs.declared.fault.Reason.the-variants.{NoRoom}
 use Rattle.row.specs.Fault.{nowhere}
 use Rattle.row.specs.Row.{Row}
 use Rattle.row.specs.Numbers.{rowsOf}
-use Rattle.lookup.proofs.Lookup.{lookup}
 use Rattle.chunk.specs.Chunk.{Chunk, flatChunks}
 use Rattle.literal.specs.Content.{flatten}
 use Rattle.literal.specs.Rows.{rowsFrom, textsOf}
@@ -36,10 +37,12 @@ use Rattle.resolve.specs.declared.progress.Went.the-variants as went
 use Rattle.resolve.specs.Resolves.{Value, resolved, small, fits, told, rowsLeft, textLeft, Writes}
 use Rattle.resolve.specs.Field.{Lent, Run, done, stop, flattened, ofRun, fieldOf}
 use Rattle.resolve.specs.Checks.{isValue, areLent, isRight}
-use Rattle.resolve.specs.Progress.{Has, answerOf, SaysRun, Ready}
-use Rattle.resolve.specs.Uses.{valueFrom, Sound}
+use Rattle.resolve.specs.Progress.{Has, answerOf, Bounded, SaysRun, BoundedAnswer, Counted}
+use Rattle.resolve.specs.Uses.{valueFrom, Sound, Resolving}
 use Rattle.resolve.proofs.lending.RowsByNumber.{rows-by}
+use Rattle.resolve.proofs.ways.WriteWays.{flat-length}
 use Rattle.resolve.proofs.lending.CheckWays.{value-none}
+use Rattle.resolve.proofs.ways.ElementWays.{ready-on}
 
 -- ---- copied
 
@@ -53,11 +56,6 @@ copy-on s out i h k =
     ∙ ap (λ (n : ℕ). take n s ++ drop n out) (sym (add-one i))
 
 -- ---- chunks that were counted
-
-flat-length : (t : ℕ) (cs : List Chunk) → length (flatChunks (rowsFrom t cs)) ≡ length cs * 5
-unfolding rowsFrom flatChunks
-flat-length t [] = refl
-flat-length t (c ∷ cs) = let h = flat-length (t + length (c .text)) cs in omega (arith, h)
 
 zeroed : (n : ℕ) → 0 + n ≡ n
 zeroed n = omega arith
@@ -134,16 +132,21 @@ module _ (cs : List Chunk) (b₀ t₀ : List ℕ) (st : Progress) (b t : List �
 
 -- ---- the ways through `write`
 
--- no name is open, and there is no index
-pub sound-first : (file rows months words next w byName byMark held : List ℕ) → length file ≤ 16777215 → areLent file rows months words ≡ true
-    → Ready w byName byMark → length held ≡ 32 → Sound file rows months words [] next w byName byMark held 32
-sound-first file rows months words next w byName byMark held h l r e = record {
-  short = h;
-  lent = l;
-  index = lookup .no-index file rows [] next refl;
-  ready = r;
+-- no name is open
+pub sound-first : (file rows months words heads next w byName byMark : List ℕ) (i : ℕ) (w′ held : List ℕ)
+    → Resolving file rows months words heads next w byName byMark i → length w′ ≡ length w → length held ≡ 32
+    → Sound file rows months words heads next w′ byName byMark held 32
+sound-first file rows months words heads next w byName byMark i w′ held h k e = record {
+  short = h .short;
+  lent = h .lent;
+  index = h .index;
+  ready = ready-on w byName byMark w′ (h .ready) k;
   path = (e, omega arith);
 }
+
+-- an answer has the bounds of what was counted
+pub answer-bounded : (st : Progress) → Bounded st → (d : Answer) → d ≡ answerOf st → BoundedAnswer d
+answer-bounded st h d e = subst BoundedAnswer (sym e) (h .rows, h .bytes, h .names)
 
 module _ (run : Run) (first : Progress) (begins : (b t : List ℕ) → Has [] b t first b t) (b₀ t₀ : List ℕ) (r : Went) (b t : List ℕ)
     (h : SaysRun run first b₀ t₀ r b t) (c s : List ℕ) where
@@ -221,6 +224,17 @@ module _ (run : Run) (first : Progress) (begins : (b t : List ℕ) → Has [] b 
           by (done cs n) k (went.Refused f) k₂ = absurd k₂
           by (stop g) k r₂ k₂ = absurd k
 
+-- ---- the way through `count`
+
+pub count-as : (run : Run) (first : Progress) → ((b t : List ℕ) → Has [] b t first b t) → (b₀ t₀ : List ℕ) (r : Went) (b t : List ℕ)
+    → SaysRun run first b₀ t₀ r b t → Counted (ofRun (flattened run)) r
+count-as (done cs n) first begins b₀ t₀ (went.Done st) b t k =
+    let has = k .1 [] b₀ t₀ (begins b₀ t₀) in
+    (has .over, λ o. (has .rows o .count, has .bytes o ∙ ap length (sym (flattening .texts-flat cs))))
+count-as (done cs n) first begins b₀ t₀ (went.Refused f) b t k = k
+count-as (stop g) first begins b₀ t₀ (went.Done st) b t k = k
+count-as (stop g) first begins b₀ t₀ (went.Refused f) b t k = k
+
 -- ---- a field
 
 -- what `field` asks of the rows and of the chosen row, as the code tests it
@@ -248,11 +262,19 @@ module _ (file rows months words : List ℕ) (which : ℕ) (x y : Bool) (p : x �
               absurd (omega (arith, z))
 
 -- the value's elements stand behind its row
-pub field-at : (l : Lent) (verb : Bool) (rows : List ℕ) (which : ℕ) → l .rows ≡ rowsOf rows → (c s : List ℕ) (r : Answer) (c′ s′ : List ℕ)
-    → Writes (ofRun (flattened (valueFrom l verb 32 [] (rowsOf (drop (which * 4 + 4) rows)) 0))) c s r c′ s′ → Writes (fieldOf l verb which) c s r c′ s′
-field-at l verb rows which e c s r c′ s′ h =
-    subst (λ (rs : List Row). Writes (ofRun (flattened (valueFrom l verb 32 [] rs 0))) c s r c′ s′)
-    (sym (ap (drop (suc which)) e ∙ rows-by (suc which) rows ∙ ap (λ (n : ℕ). rowsOf (drop n rows)) (next which))) h
-  where
-    next : (n : ℕ) → suc n * 4 ≡ n * 4 + 4
-    next n = omega arith
+module _ (l : Lent) (verb : Bool) (rows : List ℕ) (which : ℕ) (e : l .rows ≡ rowsOf rows) where
+  abbrev from : List Row → Value
+  from rs = ofRun (flattened (valueFrom l verb 32 [] rs 0))
+
+  rows-behind : rowsOf (drop (which * 4 + 4) rows) ≡ drop (suc which) (l .rows)
+  rows-behind = sym (ap (drop (suc which)) e ∙ rows-by (suc which) rows ∙ ap (λ (n : ℕ). rowsOf (drop n rows)) (next which))
+    where
+      next : (n : ℕ) → suc n * 4 ≡ n * 4 + 4
+      next n = omega arith
+
+  pub field-at : (c s : List ℕ) (r : Answer) (c′ s′ : List ℕ) → Writes (from (rowsOf (drop (which * 4 + 4) rows))) c s r c′ s′
+      → Writes (fieldOf l verb which) c s r c′ s′
+  field-at c s r c′ s′ h = subst (λ (rs : List Row). Writes (from rs) c s r c′ s′) rows-behind h
+
+  pub count-at : (r : Went) → Counted (from (rowsOf (drop (which * 4 + 4) rows))) r → Counted (fieldOf l verb which) r
+  count-at r h = subst (λ (rs : List Row). Counted (from rs) r) rows-behind h

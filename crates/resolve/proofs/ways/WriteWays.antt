@@ -1,15 +1,16 @@
--- A literal counted and written: for `write` of src/one_literal.rt.
+-- A literal over a small room, and then over what is lent: for `write` of src/one_literal.rt.
 --     nothing-held                               no rows hold no chunks
 --     write-few                                  how much a literal comes to
---     write-refused, write-full, write-done      the three ways through it
+--     write-room                                 the room for it, where there is
+--     write-refused, write-full, write-held, write-done      the ways through it: refused, or without room; copied, or resolved again
 -- Assumes nothing.
 use Prim.Native.Nat.{ℕ, _+_, _-_, _*_, _/_, _≤_, _<_, min}
 use native.Mathlib.Omega.{arith}
 use mathlib.Core.Path.{_≡_, refl, sym, ap, ap₂, subst, _∙_}
 use mathlib.Core.Bool.{Bool, true, false, cond, not, _&&_, _||_}
-use mathlib.Core.List.{List, [], _++_}
+use mathlib.Core.List.{List, [], _∷_, _++_}
 use lib.ListN.{length, take, drop}
-use lib.Seq.{sets, sets-eq}
+use lib.Seq.{sets, sets-eq, take-at}
 use lib.Dec.{leb, ltb}
 use borrow.Author.Tests.{ltb-true, ltb-false, le-leb, lt-leb}
 use Rattle.text.specs.Scan.{part}
@@ -46,6 +47,12 @@ first-added : {cs : List Chunk} {k : Rows} {len : ℕ} {o′ b′ : List ℕ} (b
     → SaysParsed (chunks cs) 0 none b (parsed.Chunks k len) o′ b′ → Added [] cs b k len o′ b′
 unfolding textsOf
 first-added b h = h [] b refl (nothing-held b)
+
+-- five numbers for each row
+pub flat-length : (t : ℕ) (cs : List Chunk) → length (flatChunks (rowsFrom t cs)) ≡ length cs * 5
+unfolding rowsFrom flatChunks
+flat-length t [] = refl
+flat-length t (c ∷ cs) = let h = flat-length (t + length (c .text)) cs in omega (arith, h)
 
 -- ---- the room
 
@@ -87,6 +94,11 @@ module _ (R : Resolved) (nb : List ℕ) (r : Parsed) (o₁ nb′ : List ℕ) (h 
     pub write-few : (len ≤ 32768) × (k .n ≤ 0 + 16385)
     write-few = subst (GrowsParsed none) e g
 
+    enough-by : (x y : Bool) → ltb (length b / 5) (k .n) ≡ x → ltb (length t) len ≡ y → (x || y) ≡ false
+        → (k .n ≤ length b / 5) × (len ≤ length t)
+    enough-by true y i j q = absurd (let z : _≡_ {A = ℕ} 0 1 = cc in omega (arith, z))
+    enough-by false y i j q = (ltb-false (length b / 5) (k .n) i, ltb-false (length t) len (j ∙ q))
+
     counted : SaysParsed R 0 none nb (parsed.Chunks k len) o₁ nb′
     counted = subst (λ (x : Parsed). SaysParsed R 0 none nb x o₁ nb′) e h
 
@@ -118,12 +130,7 @@ module _ (R : Resolved) (nb : List ℕ) (r : Parsed) (o₁ nb′ : List ℕ) (h 
 
       module _ (q : full b t (k .n) len ≡ false) (room : len ≤ length o₁) where
         enough : (k .n ≤ length b / 5) × (len ≤ length t)
-        enough = by (ltb (length b / 5) (k .n)) (ltb (length t) len) refl refl q
-          where
-            by : (x y : Bool) → ltb (length b / 5) (k .n) ≡ x → ltb (length t) len ≡ y → (x || y) ≡ false
-                → (k .n ≤ length b / 5) × (len ≤ length t)
-            by true y i j q = absurd (let z : _≡_ {A = ℕ} 0 1 = cc in omega (arith, z))
-            by false y i j q = (ltb-false (length b / 5) (k .n) i, ltb-false (length t) len (j ∙ q))
+        enough = enough-by (ltb (length b / 5) (k .n)) (ltb (length t) len) refl refl q
 
         -- the text that is copied
         copied : part o₁ 0 len ≡ textsOf flat
@@ -149,14 +156,23 @@ module _ (R : Resolved) (nb : List ℕ) (r : Parsed) (o₁ nb′ : List ℕ) (h 
         second (parsed.Chunks k₂ len₂) o₂ b′ z = put-rows (first-added b z)
         second (parsed.Refused f) o₂ b′ z = absurd z
 
-        done-with : (p : ℕ) (t′ : List ℕ) → Puts t 0 (part o₁ 0 len) p t′ → (r₂ : Parsed) (o₂ b′ : List ℕ)
-            → SaysParsed (chunks cs) 0 none b r₂ o₂ b′ → Writes (resolved flat 0) b t (answer.Chunks (k .n) len 0) b′ t′
-        done-with p t′ y r₂ o₂ b′ z = record {
+        -- the rows that the small room holds
+        held : k .n * 5 ≤ length nb → take (k .n * 5) nb′ ≡ flatChunks (rowsFrom 0 flat)
+        held l =
+            ap (take (k .n * 5)) (c .rows .numbers ∙ flattening .rows-written nb flat (omega (arith, many, l)))
+            ∙ take-at (flatChunks (rowsFrom 0 flat)) (drop (length flat * 5) nb) (k .n * 5) (omega (arith, flat-length 0 flat, many))
+
+        held-rows : k .n * 5 ≤ length nb → (b′ : List ℕ) → b′ ≡ take (k .n * 5) nb′ ++ drop (k .n * 5) b
+            → b′ ≡ flatChunks (rowsFrom 0 flat) ++ drop (length flat * 5) b
+        held-rows l b′ e = e ∙ ap₂ _++_ (held l) (ap (λ (n : ℕ). drop (n * 5) b) many)
+
+        done-with : (p : ℕ) (t′ : List ℕ) → Puts t 0 (part o₁ 0 len) p t′ → (b′ : List ℕ)
+            → b′ ≡ flatChunks (rowsFrom 0 flat) ++ drop (length flat * 5) b → Writes (resolved flat 0) b t (answer.Chunks (k .n) len 0) b′ t′
+        done-with p t′ y b′ z = record {
           answer = ap₂ (λ (m n : ℕ). answer.Chunks m n 0) many long
               ∙ ap (λ (x : Bool). cond x (answer.Chunks (length flat) (length (textsOf flat)) 0) (answer.Refused (nowhere NoRoom)))
               (sym (fits-as false q));
-          rows = second r₂ o₂ b′ z
-              ∙ ap (λ (x : Bool). cond x (flatChunks (rowsFrom 0 flat) ++ drop (length flat * 5) b) b) (sym (fits-as false q));
+          rows = z ∙ ap (λ (x : Bool). cond x (flatChunks (rowsFrom 0 flat) ++ drop (length flat * 5) b) b) (sym (fits-as false q));
           text = put-text p t′ y ∙ ap (λ (x : Bool). cond x (textsOf flat ++ drop (length (textsOf flat)) t) t) (sym (fits-as false q));
         }
 
@@ -174,5 +190,18 @@ module _ (R : Resolved) (nb : List ℕ) (r : Parsed) (o₁ nb′ : List ℕ) (h 
       where
         by : (R : Resolved) → SaysParsed R 0 none nb (parsed.Chunks k len) o₁ nb′ → SaysParsed R 0 none b r₂ o₂ b′
             → Writes (valueOf R) b t (answer.Chunks (k .n) len 0) b′ t′
-        by (chunks cs) c z = done-with cs (first-added nb c) q room p t′ y r₂ o₂ b′ z
+        by (chunks cs) c z = done-with cs (first-added nb c) q room p t′ y b′ (second cs (first-added nb c) q room r₂ o₂ b′ z)
         by (literal.refused f) c z = absurd c
+
+    pub write-held : full b t (k .n) len ≡ false → len ≤ length o₁ → (p : ℕ) (t′ : List ℕ) → Puts t 0 (part o₁ 0 len) p t′
+        → k .n * 5 ≤ length nb → (b′ : List ℕ) → b′ ≡ take (k .n * 5) nb′ ++ drop (k .n * 5) b
+        → Writes (valueOf R) b t (answer.Chunks (k .n) len 0) b′ t′
+    write-held q room p t′ y l b′ z = by R counted
+      where
+        by : (R : Resolved) → SaysParsed R 0 none nb (parsed.Chunks k len) o₁ nb′ → Writes (valueOf R) b t (answer.Chunks (k .n) len 0) b′ t′
+        by (chunks cs) c = done-with cs (first-added nb c) q room p t′ y b′ (held-rows cs (first-added nb c) q room l b′ z)
+        by (literal.refused f) c = absurd c
+
+    -- the room, by the test
+    pub write-room : full b t (k .n) len ≡ false → (k .n ≤ length b / 5) × (len ≤ length t)
+    write-room q = enough-by (ltb (length b / 5) (k .n)) (ltb (length t) len) refl refl q

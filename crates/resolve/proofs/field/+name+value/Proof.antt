@@ -91,7 +91,7 @@ module _ (t : ℕ) where
         names.name-refused lent (a .verb) (a .left) path (row Name (a .start) (a .end)) (a .st) (a .words .now) (meant .meaning-of .result)
             (meant .meaning-of .ensures .0) (asked .may-open .result) (asked .may-open .ensures) (a .chunks .now) (a .text .now) _
             (told .reason .given .1),
-        (tt, refl),
+        ((start .pre .1 .2, start .pre .1 .3), refl),
       )
 
   name-counted-requires : name-lts.Need-counted-requires (name-calls t) (name-at t) name.Post
@@ -467,7 +467,7 @@ module _ (t : ℕ) where
             (ways.literal-stopped lent (a .verb) (a .left) path (a .rows .now) (l .i) (l .st) (l .chunks) (l .text) (v .result) (v .ensures) (e .0 .0) (e .0 .1 .0)
             (at .0) (r .result) _ _ (e .1) _ (cut-part (a .file .now) (e .0 .0) (e .0 .1 .0) (at .1) (at .2)) (r .ensures .0)
             _ (c .before .f .given .1)),
-        (tt, l .inv .7),
+        (subst BoundedWent (c .before .f .given .1) (r .ensures .1), l .inv .7),
       )
 
   value-name-requires : value-lts.Need-name-requires (value-calls t) (value-at t) value.Post value-Inv-loop value-μ-loop
@@ -554,7 +554,7 @@ module _ (t : ℕ) where
             (ways.name-stopped lent (a .verb) (a .left) path (a .rows .now) (l .i) (l .st) (l .chunks) (l .text) (v .result) (v .ensures) (e .0 .0) (e .0 .1 .0)
             (at .0) (r .result) _ _ (e .1) _ (l .inv .7) (r .ensures .0)
             _ (c .before .f2 .given .1)),
-        (tt, r .ensures .1 .1 ∙ l .inv .7),
+        (subst BoundedWent (c .before .f2 .given .1) (r .ensures .1 .0), r .ensures .1 .1 ∙ l .inv .7),
       )
 
 pub +name+value-spec : {M : Type 1} → statement M

@@ -2,12 +2,14 @@
 use native.Mathlib.Omega.{arith}
 use mathlib.Core.Path.{refl}
 use mathlib.Core.Bool.{_&&_}
+use mathlib.Core.List.{[]}
 use lib.ListN.{length}
 use borrow.Author.Needs.{needs}
+use Rattle.lookup.proofs.Lookup.{lookup}
 use Rattle.resolve.specs.Field.{fieldOf}
 use Rattle.resolve.specs.Checks.{isRight, lentOf}
 use Rattle.resolve.proofs.ways.AskedWays.{asked-file, asked-bad, asked-scratch, asked-all, file-small}
-use Rattle.resolve.proofs.ways.FieldWays.{right-as, lent-right, which-inside, field-at}
+use Rattle.resolve.proofs.ways.FieldWays.{right-as, lent-right, which-inside}
 use Rattle.resolve.proofs.field.field.Statement.{statement}
 use Rattle.resolve.proofs.field.field.Tie as tie
 
@@ -59,37 +61,9 @@ returns-3 c =
     (right-as (a .file .now) (a .rows .now) (a .months .now) (a .words .now) (a .which) (x .result) (y .result) (x .ensures) (y .ensures))
     (right .if1 .left) (c .if2 .taken)
 
-mul-write : tie.Need-mul-write
-mul-write c =
-    let right = c .before .before .before in
-    let chosen = right .before in
-    let y = chosen .is-value in
-    let lent = chosen .before in
-    let x = lent .are-lent in
-    let passed = lent .before in
-    let check = passed .before .before in
-    let r = check .check-file in
-    let start = check .before .before .before .before .before .before .before .before in
-    let a = start .args in
-    omega (arith, which-inside (a .file .now) (a .rows .now) (a .months .now) (a .words .now) (a .which) (x .result) (y .result) (x .ensures) (y .ensures) (right .if1 .left))
-
-add-write : tie.Need-add-write
-add-write c =
-    let right = c .before .before .before in
-    let chosen = right .before in
-    let y = chosen .is-value in
-    let lent = chosen .before in
-    let x = lent .are-lent in
-    let passed = lent .before in
-    let check = passed .before .before in
-    let r = check .check-file in
-    let start = check .before .before .before .before .before .before .before .before in
-    let a = start .args in
-    omega (arith, which-inside (a .file .now) (a .rows .now) (a .months .now) (a .words .now) (a .which) (x .result) (y .result) (x .ensures) (y .ensures) (right .if1 .left))
-
 write-requires : tie.Need-write-requires
 write-requires c κs =
-    let table = c .before .before .before .before .before in
+    let table = c .before .before .before .before .before .before .before in
     let names = table .before in
     let room = names .before in
     let right = room .before in
@@ -102,19 +76,21 @@ write-requires c κs =
     let r = check .check-file in
     let start = check .before .before .before .before .before .before .before .before in
     let a = start .args in
-    let inside = which-inside (a .file .now) (a .rows .now) (a .months .now) (a .words .now) (a .which) (x .result) (y .result) (x .ensures) (y .ensures) (right .if1 .left) in (
-      file-small (a .file .now) (r .result) (r .ensures) (passed .enum-told .given .1),
-      lent-right (a .file .now) (a .rows .now) (a .months .now) (a .words .now) (a .which) (x .result) (y .result) (x .ensures) (y .ensures) (right .if1 .left),
-      record { scratch = room .if2 .left; names = names .names .ensures; marks = table .table .ensures },
-      omega arith,
-      omega (arith, inside),
-    )
+    let rest = right .if1 .left in
+    record {
+      short = file-small (a .file .now) (r .result) (r .ensures) (passed .enum-told .given .1);
+      lent = lent-right (a .file .now) (a .rows .now) (a .months .now) (a .words .now) (a .which) (x .result) (y .result) (x .ensures) (y .ensures) rest;
+      index = lookup .no-index (a .file .now) (a .rows .now) [] [] refl;
+      ready = record { scratch = room .if2 .left; names = names .names .ensures; marks = table .table .ensures };
+      which =
+          which-inside (a .file .now) (a .rows .now) (a .months .now) (a .words .now) (a .which) (x .result) (y .result) (x .ensures) (y .ensures) rest;
+    }
 
 returns-4 : tie.Need-returns-4
 returns-4 c =
     let wrote = c .before .before .before .before .before .before in
     let w = wrote .write in
-    let room = wrote .before .before .before .before .before .before .before .before in
+    let room = wrote .before .before .before .before .before .before .before .before .before .before in
     let right = room .before in
     let chosen = right .before in
     let y = chosen .is-value in
@@ -131,8 +107,7 @@ returns-4 c =
     (passed .enum-told .given .1) (x .result && y .result)
     (right-as (a .file .now) (a .rows .now) (a .months .now) (a .words .now) (a .which) (x .result) (y .result) (x .ensures) (y .ensures))
     (right .if1 .left) (room .if2 .left) (w .result) _ _
-    (field-at (lentOf (a .file .now) (a .rows .now) (a .months .now) (a .words .now)) (a .verbatim) (a .rows .now) (a .which) refl (a .chunks .now)
-    (a .text .now) (w .result) _ _ (w .ensures))
+    (w .ensures .0)
 
 pub field-spec : {M : Type 1} → statement M
 field-spec =
@@ -148,8 +123,8 @@ field-spec =
     returns-3
     (λ c κs. search needs)
     (λ c κs. search needs)
-    mul-write
-    add-write
+    (λ c. search needs)
+    (λ c. search needs)
     (λ c. search needs)
     (λ c. search needs)
     write-requires

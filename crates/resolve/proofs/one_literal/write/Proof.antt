@@ -6,7 +6,7 @@ use lib.ListN.{length}
 use borrow.Author.Needs.{needs}
 use Rattle.literal.specs.Literal.{resolveLiteral}
 use Rattle.literal.specs.Inner.{ReadyLiteral}
-use Rattle.resolve.proofs.ways.WriteWays.{write-few, write-refused, write-full, write-done}
+use Rattle.resolve.proofs.ways.WriteWays.{write-few, write-room, write-refused, write-full, write-held, write-done}
 use Rattle.resolve.proofs.one_literal.write.Statement.{statement}
 use Rattle.resolve.proofs.one_literal.write.Tie as tie
 
@@ -41,9 +41,37 @@ copy-requires c κs =
     (a .text .now) (told .rows .given .0 .0) (told .rows .given .0 .1 .0) (told .rows .given .1) (parse .parse .ensures .1) in
     (omega arith, omega (arith, few .0, begin .pre .1, parse .parse .kept .1 .1 .1 .1 .1 .0), omega (arith, few .0))
 
+copy-numbers-requires : tie.Need-copy-numbers-requires
+copy-numbers-requires c κs =
+    let small = c .before .before in
+    let room = small .before .before .before .before .before .before in
+    let told = room .before .before in
+    let parse = told .before .before .before .before .before in
+    let a = parse .before .before .before .before .before .before .before .before .before .args in
+    let enough = write-room (resolveLiteral (a .verbatim) (a .s .now) (a .base)) _ (parse .parse .result) _ _ (parse .parse .ensures .0) (a .chunks .now)
+    (a .text .now) (told .rows .given .0 .0) (told .rows .given .0 .1 .0) (told .rows .given .1) (parse .parse .ensures .1) (room .if1 .left) in
+    (omega (arith, small .if2 .taken, parse .parse .kept .1 .1 .1 .1 .1 .1 .0), omega (arith, enough .0))
+
+returns-2 : tie.Need-returns-2
+returns-2 c =
+    let rows = c .before .before in
+    let small = rows .before .before .before in
+    let copy = small .before .before .before in
+    let room = copy .before .before .before in
+    let told = room .before .before in
+    let parse = told .before .before .before .before .before in
+    let begin = parse .before .before .before .before .before .before .before .before .before in
+    let a = begin .args in
+    let few = write-few (resolveLiteral (a .verbatim) (a .s .now) (a .base)) _ (parse .parse .result) _ _ (parse .parse .ensures .0) (a .chunks .now)
+    (a .text .now) (told .rows .given .0 .0) (told .rows .given .0 .1 .0) (told .rows .given .1) (parse .parse .ensures .1) in
+    write-held (resolveLiteral (a .verbatim) (a .s .now) (a .base)) _ (parse .parse .result) _ _ (parse .parse .ensures .0) (a .chunks .now)
+    (a .text .now) (told .rows .given .0 .0) (told .rows .given .0 .1 .0) (told .rows .given .1) (parse .parse .ensures .1) (room .if1 .left)
+    (omega (arith, few .0, begin .pre .1, parse .parse .kept .1 .1 .1 .1 .1 .0)) (copy .copy .result) _ (copy .copy .ensures .0)
+    (omega (arith, small .if2 .taken)) _ (rows .copy-numbers .ensures)
+
 parse-requires-2 : tie.Need-parse-requires-2
 parse-requires-2 c κs =
-    let parse = c .before .before .before .before .before .before .before .before .before .before .before .before .before .before in
+    let parse = c .before .before .before .before .before .before .before .before .before .before .before .before .before .before .before in
     let p = parse .before .before .before .before .before .before .before .before .before .pre in
     record {
       file = p .0;
@@ -54,25 +82,24 @@ parse-requires-2 c κs =
       marks = p .3;
     }
 
-returns-2 : tie.Need-returns-2
-returns-2 c =
+returns-3 : tie.Need-returns-3
+returns-3 c =
     let bad = c .before in
     let parse = bad .before .before .before .before .before in
     let a = parse .before .before .before .before .before .before .before .before .before .args in
     write-refused (resolveLiteral (a .verbatim) (a .s .now) (a .base)) _ (parse .parse .result) _ _ (parse .parse .ensures .0) (a .chunks .now)
     (a .text .now) (bad .f .given .0 .0) (bad .f .given .1)
 
-returns-3 : tie.Need-returns-3
-returns-3 c =
+returns-4 : tie.Need-returns-4
+returns-4 c =
     let again = c .before .before .before .before in
-    let copy = again .before .before .before .before .before in
+    let copy = again .before .before .before .before .before .before in
     let room = copy .before .before .before in
     let told = room .before .before in
     let parse = told .before .before .before .before .before in
     let begin = parse .before .before .before .before .before .before .before .before .before in
     let a = begin .args in
-    let few = write-few (resolveLiteral (a .verbatim) (a .s .now) (a .base)) _ (parse .parse .result) _ _ (parse .parse .ensures .0)
-    (a .chunks .now)
+    let few = write-few (resolveLiteral (a .verbatim) (a .s .now) (a .base)) _ (parse .parse .result) _ _ (parse .parse .ensures .0) (a .chunks .now)
     (a .text .now) (told .rows .given .0 .0) (told .rows .given .0 .1 .0) (told .rows .given .1) (parse .parse .ensures .1) in
     write-done (resolveLiteral (a .verbatim) (a .s .now) (a .base)) _ (parse .parse .result) _ _ (parse .parse .ensures .0) (a .chunks .now)
     (a .text .now) (told .rows .given .0 .0) (told .rows .given .0 .1 .0) (told .rows .given .1) (parse .parse .ensures .1) (room .if1 .left)
@@ -90,10 +117,17 @@ write-spec =
     (λ c. search needs)
     returns
     copy-requires
-    parse-requires-2
+    (λ c. search needs)
+    (λ c. search needs)
+    copy-numbers-requires
+    (λ c. search needs)
+    (λ c. search needs)
     (λ c. search needs)
     returns-2
+    parse-requires-2
+    (λ c. search needs)
+    returns-3
     (λ c. search needs)
     (λ c. search needs)
     (λ c. search needs)
-    returns-3)
+    returns-4)

@@ -2,7 +2,7 @@
 use native.Mathlib.Omega.{arith}
 use borrow.Author.Needs.{needs}
 use Rattle.literal.specs.Literal.{resolveLiteral}
-use Rattle.resolve.proofs.appending.AppendWays.{literal-few, literal-refused, literal-done}
+use Rattle.resolve.proofs.appending.AppendWays.{literal-few, literal-narrow, literal-refused, literal-done}
 use Rattle.resolve.proofs.progress.literal.Statement.{statement}
 use Rattle.resolve.proofs.progress.literal.Tie as tie
 
@@ -27,7 +27,7 @@ returns c =
     let a = start .args in (
       literal-refused (resolveLiteral (a .verb) (a .s .now) (a .base)) (a .st) (a .chunks .now) (a .text .now) _ _ _ (parsed .parse .ensures .0) _
           (told .f .given .1),
-      tt,
+      literal-narrow (a .st .rows) _ (parsed .parse .ensures .1) _ (told .f .given .1),
     )
 
 returns-2 : tie.Need-returns-2
