@@ -1,0 +1,14 @@
+-- The laws and proofs of `whole`, lowest first. The proof of a function is MODULE/FUNCTION/Proof.antt.
+
+-- the values of a file, one behind the other
+pub mod values
+-- the values of a file counted
+pub mod counting
+-- the ways through each function
+pub mod ways
+-- what the values are resolved into is well-formed
+pub mod WellFormedFile
+-- the answer of each value is the one that `resolve_field` gives for it
+pub mod EachValue
+-- any two outcomes that the public contract allows are the same
+pub mod Unique

@@ -1,0 +1,195 @@
+-- What the literals of a value come to at most.
+--     few-flat                      flattened chunks are no more than they were
+--     none-most, literal-most       no element more, and a literal
+--     row-there                     a literal is a whole row
+--     spans, sums                   the tests of `most_of`
+--     summed-none, summed-on, summed-end        `most_of`: the beginning, one literal more, and the end
+--     field-under                   a value comes to no more than its elements
+-- Assumes nothing.
+use Prim.Native.Nat.{ℕ, zero, suc, _+_, _-_, _*_, _/_, _≤_, _<_, min}
+use native.Mathlib.Omega.{arith}
+use native.Mathlib.Numerals.{add-one}
+use mathlib.Core.Path.{_≡_, refl, sym, ap, subst, _∙_}
+use mathlib.Core.Bool.{Bool, true, false, cond, _||_}
+use mathlib.Core.List.{List, [], _∷_, _++_}
+use lib.ListN.{length, drop, length-append, length-take}
+use lib.Dec.{leb, ltb}
+use borrow.Author.Tests.{leb-true, leb-false, ltb-false}
+use Rattle.text.specs.Scan.{part}
+use Rattle.row.specs.declared.form.Kind.the-variants.{Literal, Name}
+use Rattle.row.specs.Row.{Row}
+use Rattle.row.specs.Rules.{isKind}
+use Rattle.row.specs.Numbers.{rowsOf}
+use Rattle.row.specs.Laid.{rowAt}
+use Rattle.row.proofs.Laid.{laid}
+use Rattle.chunk.specs.Chunk.{Chunk}
+use Rattle.literal.specs.Content.{joins, join, flattenFrom, flatten}
+use Rattle.literal.specs.Literal.{Resolved, chunks, resolveLiteral}
+use Rattle.literal.specs.Literal as literal
+use Rattle.literal.specs.Rows.{textsOf}
+use Rattle.literal.proofs.Flattening.{flattening}
+use Rattle.literal.proofs.WellFormed.{well-formed}
+use Rattle.resolve.specs.declared.field.Element.{Element}
+use Rattle.resolve.specs.declared.field.Element.the-variants as element
+use Rattle.resolve.specs.Resolves.{mostWritten}
+use Rattle.resolve.specs.Field.{Lent, Run, done, stop, behind, onward, walk, elements, ofLiteral, ofRun, flattened, name, mostOpen, fieldOf}
+use Rattle.resolve.specs.Field as field
+use Rattle.resolve.specs.Uses.{firstElement}
+use Rattle.whole.specs.WholeFile.{chunksIn}
+use Rattle.whole.specs.Bounds.{Within, AtMost, Under}
+use Rattle.whole.proofs.counting.CountWays.{either-false}
+
+-- ---- chunks
+
+few-from : (cs : List Chunk) (c : Chunk) → length (flattenFrom c cs) ≤ suc (length cs)
+unfolding flattenFrom
+few-from [] c = omega arith
+few-from (d ∷ cs) c = by (joins (c .kind) (d .kind)) (few-from cs (join c d)) (few-from cs d)
+  where
+    by : (w : Bool) → length (flattenFrom (join c d) cs) ≤ suc (length cs) → length (flattenFrom d cs) ≤ suc (length cs)
+        → length (cond w (flattenFrom (join c d) cs) (c ∷ flattenFrom d cs)) ≤ suc (suc (length cs))
+    by true h k = omega arith
+    by false h k = omega arith
+
+pub few-flat : (cs : List Chunk) → length (flatten cs) ≤ length cs
+few-flat [] = omega arith
+few-flat (c ∷ cs) = few-from cs c
+
+part-size : (s : List ℕ) (a e : ℕ) → length (part s a e) ≤ e - a
+part-size s a e = omega (arith, length-take (min e (length s) - a) (drop a s))
+
+-- ---- runs
+
+onward-within : (x : Run) (g : ℕ → Run) (n m p q : ℕ) → Within x n m → ((k : ℕ) → Within (g k) p q) → Within (onward x g) (n + p) (m + q)
+onward-within (done cs k) g n m p q h f = by (g k) (f k)
+  where
+    by : (y : Run) → Within y p q → Within (behind cs y) (n + p) (m + q)
+    by (done ds j) i = (
+      omega (arith, h .0, i .0, length-append cs ds),
+      omega (arith, h .1, i .1, ap length (flattening .texts-both cs ds), length-append (textsOf cs) (textsOf ds)),
+    )
+    by (stop f) i = tt
+onward-within (stop f) g n m p q h i = tt
+
+literal-within : (verb : Bool) (file : List ℕ) (a e k : ℕ)
+    → Within (ofLiteral (resolveLiteral verb (part file a e) a) k) (e - a + 1) (2 * (e - a))
+literal-within verb file a e k =
+    by (resolveLiteral verb (part file a e) a) (well-formed .few verb (part file a e) a) (well-formed .twice verb (part file a e) a)
+  where
+    by : (x : Resolved) → ((cs : List Chunk) → x ≡ chunks cs → length cs ≤ length (part file a e) + 1)
+        → ((cs : List Chunk) → x ≡ chunks cs → length (textsOf cs) ≤ 2 * length (part file a e))
+        → Within (ofLiteral x k) (e - a + 1) (2 * (e - a))
+    by (chunks cs) f t = (omega (arith, f cs refl, part-size file a e), omega (arith, t cs refl, part-size file a e))
+    by (literal.refused g) f t = tt
+
+-- ---- the first of the rows
+
+module _ (r : Row) (ss : List Row) where
+  literal-row : (a e : ℕ) → firstElement (r ∷ ss) ≡ element.Literal a e → (isKind Literal (r .kind) ≡ true) × (r .start ≡ a) × (r .end ≡ e)
+  literal-row a e = by (isKind Literal (r .kind)) (isKind Name (r .kind))
+    where
+      by : (x y : Bool) → cond x (element.Literal (r .start) (r .end)) (cond y (element.Name (r .start) (r .end)) element.Nothing) ≡ element.Literal a e
+          → (x ≡ true) × (r .start ≡ a) × (r .end ≡ e)
+      by true y h = (refl, cc, cc)
+      by false true h = let z : _≡_ {A = ℕ} 0 1 = cc in absurd (omega arith)
+      by false false h = let z : _≡_ {A = ℕ} 0 1 = cc in absurd (omega arith)
+
+  no-row : firstElement (r ∷ ss) ≡ element.Nothing → (isKind Literal (r .kind) || isKind Name (r .kind)) ≡ false
+  no-row = by (isKind Literal (r .kind)) (isKind Name (r .kind))
+    where
+      by : (x y : Bool) → cond x (element.Literal (r .start) (r .end)) (cond y (element.Name (r .start) (r .end)) element.Nothing) ≡ element.Nothing
+          → (x || y) ≡ false
+      by true y h = let z : _≡_ {A = ℕ} 0 1 = cc in absurd (omega arith)
+      by false true h = let z : _≡_ {A = ℕ} 0 1 = cc in absurd (omega arith)
+      by false false h = refl
+
+pub none-most : (rs : List Row) → firstElement rs ≡ element.Nothing → AtMost rs 0 0
+unfolding walk elements textsOf
+none-most [] h l verb name k = (omega arith, omega arith)
+none-most (r ∷ rs) h l verb name k =
+    subst (λ (b : Bool). Within (walk (field.element l verb name) (cond b (r ∷ elements rs) []) k) 0 0) (sym (no-row r rs h)) (omega arith, omega arith)
+
+pub literal-most : (r : Row) (ss : List Row) (a e n m : ℕ) → firstElement (r ∷ ss) ≡ element.Literal a e → AtMost ss n m
+    → AtMost (r ∷ ss) (e - a + 1 + n) (2 * (e - a) + m)
+unfolding walk elements
+literal-most r ss a e n m h f l verb name k =
+    let t = literal-row r ss a e h in
+    let one = field.element l verb name in
+    let first = ofLiteral (resolveLiteral verb (part (l .file) a e) a) k in
+    let is : walk one (elements (r ∷ ss)) k ≡ onward first (walk one (elements ss)) = (rw (t .0, t .0, t .1, t .2)) in
+    subst (λ (x : Run). Within x (e - a + 1 + n) (2 * (e - a) + m)) (sym is)
+    (onward-within first (walk one (elements ss)) (e - a + 1) (2 * (e - a)) n m (literal-within verb (l .file) a e k) (f l verb name))
+
+-- ---- the loop
+
+four : (k : ℕ) → suc k * 4 ≡ suc (suc (suc (suc (k * 4))))
+four k = omega arith
+
+pub row-there : (rows : List ℕ) (i a e : ℕ) → firstElement (rowsOf (drop i rows)) ≡ element.Literal a e → i + 4 ≤ length rows
+row-there rows i a e h = by (leb (i + 4) (length rows)) refl
+  where
+    by : (w : Bool) → leb (i + 4) (length rows) ≡ w → i + 4 ≤ length rows
+    by true p = leb-true (i + 4) (length rows) p
+    by false p =
+        let q = sym (ap firstElement (laid .rows-end rows i (leb-false (i + 4) (length rows) p))) ∙ h in
+        let z : _≡_ {A = ℕ} 0 1 = cc in absurd (omega arith)
+
+-- the rows from row k on are the rows of the numbers from k * 4 on
+rows-by : (k : ℕ) (l : List ℕ) → drop k (rowsOf l) ≡ rowsOf (drop (k * 4) l)
+unfolding rowsOf
+rows-by zero l = refl
+rows-by (suc k) [] = rw (four k)
+rows-by (suc k) (a ∷ []) = rw (four k)
+rows-by (suc k) (a ∷ b ∷ []) = rw (four k)
+rows-by (suc k) (a ∷ b ∷ c ∷ []) = rw (four k)
+rows-by (suc k) (a ∷ b ∷ c ∷ d ∷ l) = rw (four k) (rows-by k l)
+
+-- the tests of the code
+pub spans : (a e : ℕ) → (ltb e a || ltb mostWritten e) ≡ false → (a ≤ e) × (e ≤ mostWritten)
+spans a e h = let t = either-false (ltb e a) (ltb mostWritten e) h in (ltb-false e a (t .0), ltb-false mostWritten e (t .1))
+
+pub sums : (n m : ℕ) → (ltb mostWritten n || ltb mostWritten m) ≡ false → (n ≤ mostWritten) × (m ≤ mostWritten)
+sums n m h = let t = either-false (ltb mostWritten n) (ltb mostWritten m) h in (ltb-false mostWritten n (t .0), ltb-false mostWritten m (t .1))
+
+-- the literals from number i to number j come to n and m at most, and those from j on to what comes on top
+abbrev pub Summed : List ℕ → ℕ → ℕ → ℕ → ℕ → Type 0
+Summed rows i n m j = (p q : ℕ) → AtMost (rowsOf (drop j rows)) p q → AtMost (rowsOf (drop i rows)) (n + p) (m + q)
+
+most-as : (rs : List Row) {n m p q : ℕ} → n ≡ p → m ≡ q → AtMost rs n m → AtMost rs p q
+most-as rs {n} {m} {p} {q} e f h = subst (λ (x : ℕ). AtMost rs p x) f (subst (λ (x : ℕ). AtMost rs x m) e h)
+
+pub summed-none : (rows : List ℕ) (i : ℕ) → Summed rows i 0 0 i
+summed-none rows i p q h = most-as (rowsOf (drop i rows)) (omega arith) (omega arith) h
+
+pub summed-on : (rows : List ℕ) (i n m j : ℕ) → Summed rows i n m j → (v : Element) → v ≡ firstElement (rowsOf (drop j rows)) → (a e : ℕ)
+    → v ≡ element.Literal a e → Summed rows i (n + (e - a + 1)) (m + 2 * (e - a)) (j + 4)
+summed-on rows i n m j s v w a e x p q h =
+    let is : firstElement (rowsOf (drop j rows)) ≡ element.Literal a e = sym w ∙ x in
+    let next = laid .rows-next rows j (row-there rows j a e is) in
+    let first = literal-most (rowAt rows j) (rowsOf (drop (j + 4) rows)) a e p q (sym (ap firstElement next) ∙ is) h in
+    most-as (rowsOf (drop i rows)) (omega arith) (omega arith)
+    (s (e - a + 1 + p) (2 * (e - a) + q) (subst (λ (rs : List Row). AtMost rs (e - a + 1 + p) (2 * (e - a) + q)) (sym next) first))
+
+-- the elements of the value of row i stand behind its row
+pub summed-end : (rows : List ℕ) (i n m j : ℕ) → Summed rows (i * 4 + 4) n m j → (v : Element) → v ≡ firstElement (rowsOf (drop j rows))
+    → v ≡ element.Nothing → AtMost (drop (i + 1) (rowsOf rows)) n m
+summed-end rows i n m j s v w x =
+    let at : drop (i + 1) (rowsOf rows) ≡ rowsOf (drop (i * 4 + 4) rows) = rows-by (i + 1) rows ∙ ap (λ (n : ℕ). rowsOf (drop n rows)) (next i) in
+    subst (λ (rs : List Row). AtMost rs n m) (sym at)
+    (most-as (rowsOf (drop (i * 4 + 4) rows)) (omega arith) (omega arith) (s 0 0 (none-most (rowsOf (drop j rows)) (sym w ∙ x))))
+  where
+    next : (i : ℕ) → (i + 1) * 4 ≡ i * 4 + 4
+    next i = omega arith
+
+-- ---- the value
+
+flat-under : (x : Run) (n m : ℕ) → Within x n m → Under (ofRun (flattened x)) n m
+unfolding textsOf
+flat-under (done cs k) n m h = (omega (arith, few-flat cs, h .0), omega (arith, ap length (flattening .texts-flat cs), h .1))
+flat-under (stop f) n m h = (omega arith, omega arith)
+
+pub field-under : (l : Lent) (verb : Bool) (i n m : ℕ) → AtMost (drop (i + 1) (l .rows)) n m → Under (fieldOf l verb i) n m
+field-under l verb i n m h =
+    let one = name l verb mostOpen [] in
+    let k = subst (λ (j : ℕ). AtMost (drop j (l .rows)) n m) (add-one i) h in
+    flat-under (walk (field.element l verb one) (elements (drop (suc i) (l .rows))) 0) n m (k l verb one 0)

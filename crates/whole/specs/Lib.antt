@@ -1,0 +1,5 @@
+pub mod WholeFile
+pub mod Filing
+pub mod Bounds
+pub mod WellFormedFile
+pub mod EachValue
