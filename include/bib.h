@@ -13,6 +13,11 @@
  *   bytes   how many bytes of text it wrote; 0 if it refuses
  *   names   how many names it resolved; 0 if it refuses
  *
+ * and the one that resolves a whole file has these two, where count is how many values it resolved:
+ *
+ *   chunk_rows   how many chunk rows it wrote; 0 if it refuses
+ *   bytes        how many bytes of text it wrote; 0 if it refuses
+ *
  * A refusal leaves what is lent for rows or bytes as it was. What is accepted leaves all that lies
  * past the answer as it was. Scratch, which the calls that resolve are lent too, holds zeros after
  * every call, whatever it held.
@@ -61,6 +66,10 @@ extern "C" {
 #define BIB_MOST_NAMES 4096
 #define BIB_MONTH_NUMBERS 4
 
+/* The numbers of a value's answer where a whole file is resolved, and a good length for heads there. */
+#define BIB_ANSWER_NUMBERS 6
+#define BIB_GOOD_HEADS(row_count) ((size_t)(row_count) / 2 + 1)
+
 /* Numbers that are enough for the rows of every file of so many bytes, salvaged or read strictly. */
 #define BIB_ENOUGH_NUMBERS(file_len) (((size_t)(file_len) + 1) * BIB_ROW_NUMBERS)
 
@@ -87,7 +96,8 @@ enum bib_status {
     BIB_NO_ROOM = 16,                 /* there is an answer, and more of it than was lent for it */
     BIB_BAD_ROWS = 17                 /* not a sequence of rows, or a number out of its range; of a
                                          literal: its ends are reversed, outside the file or inside a
-                                         character; of a field: see bib_resolve_field */
+                                         character; of fields: see bib_resolve_field and
+                                         bib_resolve_file */
 };
 
 /* What a row is of. */
@@ -201,6 +211,47 @@ uint32_t bib_resolve_field(const uint8_t *file, size_t file_len,
                            uint8_t *text, size_t text_len,
                            uint64_t *count, uint64_t *bytes, uint64_t *names,
                            uint64_t *start, uint64_t *end);
+
+/* Resolves every value of a file, of fields and of definitions, in the order of their rows: each as
+ * bib_resolve_field does, with the same rows and months, but what is lent is checked once, and names
+ * are found by an index that is made once. flags has a byte for each value row, in the order of the
+ * rows: 0, or any other number for a value of a verbatim field.
+ *
+ * A value has six numbers in answers. They are 0, its number of names, the first of its chunk rows and
+ * the one past its last, counted from 0 in chunks, and the first byte of its text and the one past its
+ * last, in text. Or, if the value is refused: the refusal's number, 0, its start, its end, 0 and 0; it
+ * has then no chunks and no text, and the other values are resolved all the same. The numbers of text
+ * in a value's chunk rows begin at 0 at the value's own first byte of text. So the chunk rows from a to
+ * b and the text from t to u can be handed to the writers as text + t, u - t, chunks + 5 * a and
+ * 5 * (b - a).
+ *
+ * The call is faster with room for whatever the literals can come to, since it need not count first what
+ * they do come to, by resolving each value twice. A literal of n bytes has at most n + 1 chunks and 2 * n
+ * bytes of text, so that is 5 * (bytes of all literals + number of literals) numbers in chunks and
+ * 2 * (bytes of all literals) bytes in text, and on top of it what the names bring. All literals together
+ * have no more bytes than the file. The answer is the same with any room that is enough.
+ *
+ * heads and next are for the index of the names: heads may have any length, and BIB_GOOD_HEADS of the
+ * number of rows is a good one; next has a number for each row. With fewer the answer is the same, and
+ * names are found by searching all rows, which is slow where there are many. Both hold zeros after
+ * every call, as scratch does.
+ *
+ * Refuses with 1 a file that is too long; then with 2; then with 17 rows or months as in
+ * bib_resolve_field, or fewer flags than value rows; then with 16 if scratch has fewer than
+ * BIB_LEAST_SCRATCH bytes; then with 16 if answers, chunks or text are too short for all values. */
+uint32_t bib_resolve_file(const uint8_t *file, size_t file_len,
+                          const uint32_t *rows, size_t rows_len,
+                          const uint8_t *flags, size_t flags_len,
+                          const uint32_t *months, size_t months_len,
+                          const uint8_t *words, size_t words_len,
+                          uint8_t *scratch, size_t scratch_len,
+                          uint32_t *heads, size_t heads_len,
+                          uint32_t *next, size_t next_len,
+                          uint32_t *answers, size_t answers_len,
+                          uint32_t *chunks, size_t chunks_len,
+                          uint8_t *text, size_t text_len,
+                          uint64_t *count, uint64_t *chunk_rows, uint64_t *bytes,
+                          uint64_t *start, uint64_t *end);
 
 #ifdef __cplusplus
 }

@@ -9,7 +9,8 @@ use denote.Ref.{now}
 use Rattle.text.proofs.general.Outcomes.{Both}
 use Rattle.row.specs.declared.fault.Outcome.{Outcome}
 use Rattle.resolve.specs.Resolves.{Value}
-use Rattle.bib.specs.Export.{Exported, ExportedResolving}
+use Rattle.whole.specs.WholeFile.{All}
+use Rattle.bib.specs.Export.{Exported, ExportedResolving, ExportedFile}
 use Rattle.bib.proofs.bib_read.Kinds as read-kinds
 use Rattle.bib.proofs.bib_read.Reads as read
 use Rattle.bib.proofs.bib_salvage.Reads as salvage
@@ -24,6 +25,8 @@ use Rattle.bib.proofs.bib_resolve_literal.Kinds as resolve-literal-kind
 use Rattle.bib.proofs.bib_resolve_literal.Reads as resolve-literal
 use Rattle.bib.proofs.bib_resolve_field.Kinds as resolve-field-kinds
 use Rattle.bib.proofs.bib_resolve_field.Reads as resolve-field
+use Rattle.bib.proofs.bib_resolve_file.Kinds as resolve-file-kinds
+use Rattle.bib.proofs.bib_resolve_file.Reads as resolve-file
 
 -- the same status, count, start, end, and rows or bytes
 pub record SameCall (r r′ n n′ x x′ y y′ : ℕ) (b b′ : List ℕ) : Type 0 where
@@ -143,3 +146,58 @@ pub one-bib-resolve-field : Both 12 resolve-field-kinds.ps resolve-field-kinds.r
     (now (n .1 .1 .1 .0)) (now (m .1 .1 .1 .0)) (now (n .1 .1 .1 .1 .0)) (now (m .1 .1 .1 .1 .0))
     (now (a .0)) (now (b .0)) (now (a .1 .0)) (now (b .1 .0)) (now (a .1 .1 .0)) (now (b .1 .1 .0)))
 one-bib-resolve-field κs a x y s t p q = same-resolving p q
+
+-- of the call over a whole file: the same status, values, chunk rows, bytes, start and end
+pub record SameTold (r r′ k k′ n n′ m m′ x x′ y y′ : ℕ) : Type 0 where
+  pub status : r ≡ r′
+  pub values : k ≡ k′
+  pub rows : n ≡ n′
+  pub bytes : m ≡ m′
+  pub start : x ≡ x′
+  pub end : y ≡ y′
+
+-- and the same scratch, index, answers, chunk rows and text
+pub record SameLeft (w w′ h h′ x x′ q q′ b b′ t t′ : List ℕ) : Type 0 where
+  pub scratch : w ≡ w′
+  pub heads : h ≡ h′
+  pub next : x ≡ x′
+  pub answers : q ≡ q′
+  pub chunks : b ≡ b′
+  pub text : t ≡ t′
+
+same-file : {a : All} {w₀ h₀ x₀ q₀ b₀ t₀ w w′ h h′ x x′ q q′ b b′ t t′ : List ℕ} {r r′ k k′ n n′ m m′ i i′ j j′ : ℕ}
+    → ExportedFile a w₀ h₀ x₀ q₀ b₀ t₀ r k n m i j w h x q b t → ExportedFile a w₀ h₀ x₀ q₀ b₀ t₀ r′ k′ n′ m′ i′ j′ w′ h′ x′ q′ b′ t′
+    → SameTold r r′ k k′ n n′ m m′ i i′ j j′ × SameLeft w w′ h h′ x x′ q q′ b b′ t t′
+same-file p q = (
+  record {
+    status = p .answer .told .status ∙ sym (q .answer .told .status);
+    values = p .answer .told .number ∙ sym (q .answer .told .number);
+    rows = p .answer .rows-told ∙ sym (q .answer .rows-told);
+    bytes = p .answer .text-told ∙ sym (q .answer .text-told);
+    start = p .answer .told .from ∙ sym (q .answer .told .from);
+    end = p .answer .told .to ∙ sym (q .answer .told .to);
+  },
+  record {
+    scratch = p .scratch ∙ sym (q .scratch);
+    heads = p .heads ∙ sym (q .heads);
+    next = p .next ∙ sym (q .next);
+    answers = p .answers ∙ sym (q .answers);
+    chunks = p .chunks ∙ sym (q .chunks);
+    text = p .text ∙ sym (q .text);
+  },
+)
+
+-- the scratch comes sixth, then the index, the answers, the chunk rows and the text, and then the five that tell
+pub one-bib-resolve-file : Both 16 resolve-file-kinds.ps resolve-file-kinds.r resolve-file.Post
+    (λ κs r s r′ t.
+    let a = s .1 .1 .1 .1 .1 in
+    let b = t .1 .1 .1 .1 .1 in
+    let c = a .1 .1 .1 in
+    let d = b .1 .1 .1 in
+    let n = c .1 .1 .1 in
+    let m = d .1 .1 .1 in
+    SameTold r r′ (now (n .0)) (now (m .0)) (now (n .1 .0)) (now (m .1 .0)) (now (n .1 .1 .0)) (now (m .1 .1 .0))
+    (now (n .1 .1 .1 .0)) (now (m .1 .1 .1 .0)) (now (n .1 .1 .1 .1 .0)) (now (m .1 .1 .1 .1 .0))
+    × SameLeft (now (a .0)) (now (b .0)) (now (a .1 .0)) (now (b .1 .0)) (now (a .1 .1 .0)) (now (b .1 .1 .0))
+    (now (c .0)) (now (d .0)) (now (c .1 .0)) (now (d .1 .0)) (now (c .1 .1 .0)) (now (d .1 .1 .0)))
+one-bib-resolve-file κs a x y s t p q = same-file p q

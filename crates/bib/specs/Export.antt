@@ -5,6 +5,8 @@
 --     Exported      the contract of every exported call that writes one thing: an outcome, and all that is left in the lent rows or bytes
 --     ToldResolving, ExportedResolving
 --                   the same of the calls that resolve, which write rows and text, and are lent scratch
+--     ToldFiling, ExportedFile
+--                   the same of the call that resolves every value of a file, which is also lent numbers for answers and for an index
 -- Assumes nothing.
 use Prim.Native.Nat.{ℕ}
 use mathlib.Core.Path.{_≡_}
@@ -29,6 +31,9 @@ use Rattle.resolve.specs.OneLiteral.{literalOf}
 use Rattle.resolve.specs.OneField.{valueAt}
 use Rattle.resolve.specs.declared.answer.Answer.{Answer}
 use Rattle.resolve.specs.declared.answer.Answer.the-variants as answer
+use Rattle.whole.specs.WholeFile.{All, tellAll, answersLeft, chunksLeft, textsLeft}
+use Rattle.whole.specs.declared.file.Filed.{Filed}
+use Rattle.whole.specs.declared.file.Filed.the-variants as filed
 
 -- ---- outcomes
 
@@ -128,3 +133,34 @@ ExportedLiteral file a e verb w = ExportedResolving (literalOf file a e verb (le
 abbrev pub ExportedField : List ℕ → List ℕ → ℕ → Bool → List ℕ → List ℕ → List ℕ → List ℕ → List ℕ → ℕ → ℕ → ℕ → ℕ → ℕ → ℕ
     → List ℕ → List ℕ → List ℕ → Type 0
 ExportedField file rows which verb months words w = ExportedResolving (valueAt file rows which verb months words (length w)) w
+
+-- ---- the call that resolves every value of a file
+
+-- the number of values, or the refusal; beside it the chunk rows and the bytes of text, or 0
+abbrev pub ofFiled : Filed → Outcome
+ofFiled (filed.Values k n m) = Count k
+ofFiled (filed.Refused f) = Refused f
+
+abbrev pub rowsIn : Filed → ℕ
+rowsIn (filed.Values k n m) = n
+rowsIn (filed.Refused f) = 0
+
+abbrev pub bytesIn : Filed → ℕ
+bytesIn (filed.Values k n m) = m
+bytesIn (filed.Refused f) = 0
+
+pub record ToldFiling (a : Filed) (r count rows bytes start end : ℕ) : Type 0 where
+  pub told : Told (ofFiled a) r count start end
+  pub rows-told : rows ≡ rowsIn a
+  pub text-told : bytes ≡ bytesIn a
+
+-- `bib_resolve_file`, which comes to all values or to a refusal, over the lent scratch w, the index's numbers h and x, the answers q, the chunk
+-- rows b and the text t, answers r, tells the counts and the place, and leaves w′, h′, x′, q′, b′ and t′
+pub record ExportedFile (a : All) (w h x q b t : List ℕ) (r count rows bytes start end : ℕ) (w′ h′ x′ q′ b′ t′ : List ℕ) : Type 0 where
+  pub answer : ToldFiling (tellAll a q b t) r count rows bytes start end
+  pub answers : q′ ≡ answersLeft a q b t
+  pub chunks : b′ ≡ chunksLeft a q b t
+  pub text : t′ ≡ textsLeft a q b t
+  pub scratch : w′ ≡ replicate (length w) 0
+  pub heads : h′ ≡ replicate (length h) 0
+  pub next : x′ ≡ replicate (length x) 0

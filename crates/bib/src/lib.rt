@@ -15,12 +15,16 @@ use resolve::field;
 use resolve::one_literal;
 use row::fault;
 use row::fault::Outcome;
+use whole::file as whole_file;
+use whole::file::Filed;
 ghost use mathlib.Core.Path.{_≡_};
+ghost use lib.ListN.{length};
 ghost use Rattle.raw.specs.Read.{strict};
 ghost use Rattle.salvage.specs.Salvage.{salvaged};
 ghost use Rattle.bib.specs.Export.{ofReading, isSet, Told, ExportedReading, ExportedPack, ExportedUnpack};
 ghost use Rattle.bib.specs.Export.{ExportedFormatVerbatim, ExportedToBiblatexString};
-ghost use Rattle.bib.specs.Export.{ToldResolving, ExportedLiteral, ExportedField};
+ghost use Rattle.whole.specs.WholeFile.{allOf};
+ghost use Rattle.bib.specs.Export.{ToldResolving, ExportedLiteral, ExportedField, ToldFiling, ExportedFile};
 
 // What a reading comes to.
 fn of_reading(reading: Reading) -> Outcome
@@ -253,4 +257,75 @@ pub extern "C" fn bib_resolve_field(
         text,
     );
     tell_resolving(resolved, count, bytes, names, start, end)
+}
+
+// What resolving a whole file comes to, in lent numbers.
+fn tell_filing(
+    filed: Filed,
+    count: &mut u64,
+    chunk_rows: &mut u64,
+    bytes: &mut u64,
+    start: &mut u64,
+    end: &mut u64,
+) -> u32
+    ensures { λ r. ⌜ ToldFiling filed r (now (count .exit)) (now («chunk_rows» .exit)) (now (bytes .exit)) (now (start .exit)) (now (end .exit)) ⌝ }
+{
+    match filed {
+        Filed::Values {
+            values,
+            rows,
+            bytes: size,
+        } => {
+            *chunk_rows = rows as u64;
+            *bytes = size as u64;
+            return tell(Outcome::Count(values), count, start, end);
+        }
+        Filed::Refused(f) => {
+            *chunk_rows = 0;
+            *bytes = 0;
+            return tell(Outcome::Refused(f), count, start, end);
+        }
+    }
+}
+
+// Resolves every value of a file, in the order of its rows. `flags` has a number for each value, which is not 0 where the field is verbatim;
+// `answers` takes six numbers for each value. `heads` and `next` are for the index of the names, and hold zeros after the call.
+#[no_mangle]
+pub extern "C" fn bib_resolve_file(
+    file: &[u8],
+    rows: &[u32],
+    flags: &[u8],
+    months: &[u32],
+    words: &[u8],
+    scratch: &mut [u8],
+    heads: &mut [u32],
+    next: &mut [u32],
+    answers: &mut [u32],
+    chunks: &mut [u32],
+    text: &mut [u8],
+    count: &mut u64,
+    chunk_rows: &mut u64,
+    bytes: &mut u64,
+    start: &mut u64,
+    end: &mut u64,
+) -> u32
+    ensures { λ r. ⌜ ExportedFile (allOf (now (file .entry)) (now (rows .entry)) (now (flags .entry)) (now (months .entry)) (now (words .entry))
+        (length (now (scratch .entry)))) (now (scratch .entry)) (now (heads .entry)) (now (next .entry)) (now (answers .entry)) (now (chunks .entry))
+        (now (text .entry)) r (now (count .exit)) (now («chunk_rows» .exit)) (now (bytes .exit)) (now (start .exit)) (now (end .exit))
+        (now (scratch .exit)) (now (heads .exit)) (now (next .exit)) (now (answers .exit)) (now (chunks .exit)) (now (text .exit)) ⌝ }
+{
+    let filed = whole_file::resolve_file(
+        file,
+        rows,
+        flags,
+        months,
+        words,
+        scratch,
+        heads,
+        next,
+        answers,
+        chunks,
+        text,
+    );
+    tell_filing(filed, count, chunk_rows, bytes, start, end)
 }

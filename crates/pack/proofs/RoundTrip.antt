@@ -2,22 +2,21 @@
 -- Assumes nothing.
 use Prim.Native.Nat.{ℕ, _*_, _/_, _%_, _≤_}
 use native.Mathlib.Omega.{arith}
-use mathlib.Core.Path.{_≡_, refl, ap, _∙_, subst}
+use mathlib.Core.Path.{_≡_, ap, _∙_, subst}
 use mathlib.Core.Bool.{true}
 use mathlib.Core.List.{List, _++_}
 use lib.ListN.{length, take, drop}
 use lib.Seq.{take-at}
 use Rattle.row.specs.Row.{flat}
-use Rattle.row.specs.Rules.{isRows, run, next}
-use Rattle.row.specs.Numbers.{rowsOf, areRows}
+use Rattle.row.specs.Numbers.{rowsOf}
 use Rattle.row.proofs.Laid.{laid}
 use Rattle.row.specs.declared.fault.Outcome.{Outcome}
 use Rattle.row.specs.declared.fault.Outcome.the-variants.{Count}
-use Rattle.pack.specs.Digits.{digits, Bytes}
-use Rattle.pack.specs.Seven.{packing, unpacking, every}
+use Rattle.pack.specs.Digits.{Bytes}
+use Rattle.pack.specs.Seven.{packing, unpacking}
 use Rattle.pack.specs.Pack.{isPackable, bytesFor, Pack}
 use Rattle.pack.specs.Unpack.{isUnpackable, Unpack}
-use Rattle.pack.specs.RoundTrip.{edgeRows, edgeBytes, RoundTrip}
+use Rattle.pack.specs.RoundTrip.{RoundTrip}
 use Rattle.pack.proofs.bytes.SevenBytes.{unpacking-length}
 use Rattle.pack.proofs.bytes.AcceptedInput.{packable, packable-seven, unpackable, ends-of-spans, spans-of-ends, flat-packable}
 use Rattle.pack.proofs.bytes.Inverse.{packs-back, packing-length, unpacks-back}
@@ -70,22 +69,6 @@ packs s c c′ n w u b b′ r p h =
     let g = pack-gives (flat (unpacking s)) b b′ r (d .0) (omega (arith, e)) (subst (λ (l : List ℕ). Pack l b r b′) x p) in
     (g .0 ∙ ap Count e, g .1 ∙ rw (d .1, e))
 
--- ---- 01's example
-
-edge-fits : isPackable edgeRows ≡ true
-unfolding isPackable areRows isRows run next every rowsOf
-edge-fits = refl
-
-edge-bytes : packing (rowsOf edgeRows) ≡ edgeBytes
-unfolding packing digits rowsOf
-edge-bytes = refl
-
-edge : (b b′ : List ℕ) (r : Outcome) → Pack edgeRows b r b′ → 14 ≤ length b
-    → (r ≡ Count 14) × (b′ ≡ edgeBytes ++ drop 14 b)
-edge b b′ r p h =
-    let g = pack-gives edgeRows b b′ r edge-fits h p in
-    (g .0, g .1 ∙ ap (λ (l : List ℕ). l ++ drop 14 b) edge-bytes)
-
 pub round-trip : RoundTrip
 round-trip =
     record {
@@ -96,5 +79,4 @@ round-trip =
       fitting = fitting;
       strictly = strictly;
       readings = readings;
-      edge = edge;
     }

@@ -4,7 +4,7 @@
 use Prim.Native.Nat.{ℕ, _*_, _/_, _≤_}
 use mathlib.Core.Path.{_≡_}
 use mathlib.Core.Bool.{true}
-use mathlib.Core.List.{List, [], _∷_, _++_}
+use mathlib.Core.List.{List, _++_}
 use lib.ListN.{length, take, drop}
 use Rattle.raw.specs.declared.answer.Reading.the-variants as reading
 use Rattle.row.specs.Row.{Row, flat}
@@ -20,13 +20,6 @@ use Rattle.pack.specs.Digits.{Bytes}
 use Rattle.pack.specs.Seven.{packing, unpacking}
 use Rattle.pack.specs.Pack.{isPackable, Pack}
 use Rattle.pack.specs.Unpack.{isUnpackable, Unpack}
-
--- [01:Edge table] "rows 9, 0, 0, 4 and 10, 7, 4, 4 packed"
-abbrev pub edgeRows : List ℕ
-edgeRows = 9 ∷ 0 ∷ 0 ∷ 4 ∷ 10 ∷ 7 ∷ 4 ∷ 4 ∷ []
-
-abbrev pub edgeBytes : List ℕ
-edgeBytes = 0x90 ∷ 0x00 ∷ 0x00 ∷ 0x00 ∷ 0x00 ∷ 0x00 ∷ 0x04 ∷ 0xA7 ∷ 0x00 ∷ 0x00 ∷ 0x04 ∷ 0x00 ∷ 0x00 ∷ 0x00 ∷ []
 
 pub record RoundTrip : Type 0 where
   -- the definitions: on all that they accept, packing and unpacking are inverse to each other
@@ -48,6 +41,3 @@ pub record RoundTrip : Type 0 where
   pub strictly : (s : List ℕ) (q : ℕ) (rs : List Row) → strict s ≡ ok q rs → isPackable (flat rs) ≡ true
   pub readings : (s c c′ : List ℕ) (n : ℕ) → Read s c (reading.Rows n) c′
       → (b b′ : List ℕ) (r : Outcome) → Pack (take (n * 4) c′) b r b′ → n * 7 ≤ length b → r ≡ Count (n * 7)
-  -- and 01's two rows are 01's fourteen bytes
-  pub edge : (b b′ : List ℕ) (r : Outcome) → Pack edgeRows b r b′ → 14 ≤ length b
-      → (r ≡ Count 14) × (b′ ≡ edgeBytes ++ drop 14 b)

@@ -24,4 +24,4 @@ unfolding
     stringLiteral numberTurn number bracedTurn inBraces braced ident singleField abbrElement abbrTurn abbrField comment field fieldEnd
     fieldsTurn fields key spells formOf lead rest atSign strings preamble commented body entry fileTurn file strict moved utf8 head cut
     pieces salvageOf
-worked = record { salvage = refl; strictly = refl; later = refl }
+worked = record { strictly = refl; later = refl }
