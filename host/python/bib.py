@@ -18,18 +18,20 @@ import ctypes.util
 import enum
 import os
 import pathlib
-from typing import Iterable, NamedTuple, Tuple
+from typing import Iterable, NamedTuple, Tuple, Union
 
 __all__ = ["Chunk", "ChunkRow", "Kind", "MOST_BYTES", "MOST_LITERAL", "Refusal", "Resolved", "Row"]
-__all__ += ["format_verbatim", "pack", "read", "resolve_field", "resolve_literal", "salvage", "to_biblatex_string", "unpack"]
+__all__ += ["format_verbatim", "pack", "read", "resolve_field", "resolve_file", "resolve_literal", "salvage"]
+__all__ += ["to_biblatex_string", "unpack"]
 
 # The most bytes that a file may have, and a literal that is resolved; the numbers of a row, the bytes of a packed one, and the
-# numbers of a chunk row; and the least scratch.
+# numbers of a chunk row and of a value's answer; and the least scratch.
 MOST_BYTES = 16_777_215
 MOST_LITERAL = 16_384
 _NUMBERS = 4
 _BYTES = 7
 _CHUNK_NUMBERS = 5
+_ANSWER_NUMBERS = 6
 _LEAST_SCRATCH = 32_768
 # More chunks or bytes of text than this are never written, however much is lent.
 _MOST_WRITTEN = 4_294_000_000
@@ -153,6 +155,7 @@ _to_biblatex_string = _function("bib_to_biblatex_string", _LENT + _LENT + [ctype
 _PLACES = [ctypes.c_size_t, ctypes.c_size_t]
 _resolve_literal = _function("bib_resolve_literal", _LENT + _PLACES + [ctypes.c_uint32] + _LENT + _LENT, 5)
 _resolve_field = _function("bib_resolve_field", _LENT + _LENT + [ctypes.c_size_t, ctypes.c_uint32] + _LENT * 4, 5)
+_resolve_file = _function("bib_resolve_file", _LENT * 10, 5)
 
 
 def _call(function, given: tuple, room) -> int:
@@ -253,9 +256,34 @@ def _resolved(function, given: tuple, most_chunks: int, most_text: int) -> Resol
     count, written, names, place, place_end = (number.value for number in told)
     if status != 0:
         raise Refusal(status, place, place_end)
-    numbers = rows[: count * _CHUNK_NUMBERS]
-    chunks = (ChunkRow(*numbers[i : i + _CHUNK_NUMBERS]) for i in range(0, len(numbers), _CHUNK_NUMBERS))
-    return Resolved(bytes(text[:written]), tuple(chunks), names)
+    return Resolved(bytes(text[:written]), _chunks(rows[: count * _CHUNK_NUMBERS]), names)
+
+
+def _chunks(numbers: list) -> Tuple[ChunkRow, ...]:
+    return tuple(ChunkRow(*numbers[i : i + _CHUNK_NUMBERS]) for i in range(0, len(numbers), _CHUNK_NUMBERS))
+
+
+def _months(months: Iterable[Tuple[str, str]]):
+    """The numbers of month words, to be lent, and the bytes that they are of."""
+    places, words = [], b""
+    for part in (part.encode() for month in months for part in month):
+        places += [len(words), len(words) + len(part)]
+        words += part
+    return (ctypes.c_uint32 * len(places))(*places), words
+
+
+def _in_more_room(resolve, room: int):
+    """What is resolved in as much room as it needs, which is not known before names are resolved: at first this much; then more, as
+    long as the call writes so much and memory lasts."""
+    while True:
+        try:
+            return resolve(room)
+        except Refusal as refusal:
+            if refusal.number != _NO_ROOM or room >= _MOST_WRITTEN:
+                raise
+        except MemoryError:
+            raise Refusal(_NO_ROOM, 0, 0) from None
+        room *= 4
 
 
 def resolve_field(
@@ -268,22 +296,45 @@ def resolve_field(
     lent = _numbers(rows)
     # What cannot be lent as a row's number is past the rows.
     which = which if 0 <= which < len(lent) // _NUMBERS else len(lent)
-    places, words = [], b""
-    for part in (part.encode() for month in months for part in month):
-        places += [len(words), len(words) + len(part)]
-        words += part
-    month_rows = (ctypes.c_uint32 * len(places))(*places)
+    month_rows, words = _months(months)
     given = (file, len(file), lent, len(lent), which, int(bool(is_verbatim)), month_rows, len(month_rows), words, len(words))
-    # How much a field needs is not known before its names are resolved. At first enough for literals alone; then more, as long as the
-    # call writes so much and memory lasts.
+    # Enough for literals alone.
     start, end = lent[4 * which + 2 : 4 * which + 4] or (0, 0)
     room = min(max(end - start, 0), len(file)) + 256
-    while True:
-        try:
-            return _resolved(_resolve_field, given, room, 2 * room)
-        except Refusal as refusal:
-            if refusal.number != _NO_ROOM or room >= _MOST_WRITTEN:
-                raise
-        except MemoryError:
-            raise Refusal(_NO_ROOM, 0, 0) from None
-        room *= 4
+    return _in_more_room(lambda room: _resolved(_resolve_field, given, room, 2 * room), room)
+
+
+def resolve_file(
+    file: bytes, rows: Iterable[Tuple[int, int, int, int]], flags: Iterable[bool], months: Iterable[Tuple[str, str]] = ()
+) -> Tuple[Union[Resolved, Refusal], ...]:
+    """Resolves every value of a file, each as `resolve_field` does, in one call. The flags say of each value, in the order of the rows,
+    whether its field is verbatim. A value that is refused has its refusal in the answer; it is not raised, and stops no other."""
+    file = bytes(file)
+    lent = _numbers(rows)
+    values = sum(kind == Kind.VALUE for kind in lent[::_NUMBERS])
+    lent_flags = bytes(bool(flag) for flag in flags)
+    month_rows, words = _months(months)
+    given = (file, len(file), lent, len(lent), lent_flags, len(lent_flags), month_rows, len(month_rows), words, len(words))
+    return _in_more_room(lambda room: _resolved_all(given, len(lent) // _NUMBERS, values, room), 2 * values + len(file) + 256)
+
+
+def _resolved_all(given: tuple, rows: int, values: int, room: int) -> Tuple[Union[Resolved, Refusal], ...]:
+    """What the call over a whole file gives, with room for so many chunks and so much text."""
+    number = ctypes.c_uint32
+    scratch, heads, next_rows = (ctypes.c_uint8 * _LEAST_SCRATCH)(), (number * (rows // 2 + 1))(), (number * rows)()
+    answers, chunks, text = (number * (values * _ANSWER_NUMBERS))(), (number * (room * _CHUNK_NUMBERS))(), (ctypes.c_uint8 * room)()
+    lent = [part for memory in (scratch, heads, next_rows, answers, chunks, text) for part in (memory, len(memory))]
+    told = [ctypes.c_uint64() for _ in range(5)]
+    status = _resolve_file(*given, *lent, *map(ctypes.byref, told))
+    _, chunk_rows, written, place, place_end = (number.value for number in told)
+    if status != 0:
+        raise Refusal(status, place, place_end)
+    all_chunks, all_text = chunks[: chunk_rows * _CHUNK_NUMBERS], bytes(text[:written])
+
+    def value(answer: list) -> Union[Resolved, Refusal]:
+        status, names, first, last, start, end = answer
+        if status != 0:
+            return Refusal(status, first, last)
+        return Resolved(all_text[start:end], _chunks(all_chunks[first * _CHUNK_NUMBERS : last * _CHUNK_NUMBERS]), names)
+
+    return tuple(value(answers[i : i + _ANSWER_NUMBERS]) for i in range(0, len(answers), _ANSWER_NUMBERS))

@@ -145,6 +145,35 @@ class Resolving(unittest.TestCase):
                 bib.resolve_field(b"a", [(8, 0, 0, 1), (5, 0, 0, 1), (6, 0, 0, 2)], which, False)
             self.assertEqual(caught.exception.number, 17)
 
+    def test_files(self):
+        """Every value as alone, with flags that differ, and refusals that stop no other value."""
+        file = "@b{k,t=a#{\\'e}, url={\\'e}, m=may, n=nothing, o={$}}@string{a={{x}é}}@string{b=b}".encode()
+        rows, months = bib.read(file), [("may", "May")]
+        chosen = [i for i, row in enumerate(rows) if row.kind == Kind.VALUE]
+        flags = [False, True, False, False, True, False, True]
+        resolved = bib.resolve_file(file, rows, flags, months)
+        self.assertEqual(len(resolved), len(chosen))
+        for which, flag, value in zip(chosen, flags, resolved):
+            try:
+                self.assertEqual(value, bib.resolve_field(file, rows, which, flag, months))
+            except Refusal as refusal:
+                places = [(one.number, one.start, one.end) for one in (value, refusal)]
+                self.assertEqual(places[0], places[1])
+        numbers = [value.number if isinstance(value, Refusal) else 0 for value in resolved]
+        self.assertEqual(numbers, [0, 0, 0, 12, 0, 0, 13])
+        self.assertEqual(bib.resolve_file(b"", [], []), ())
+        for too_few in (flags[:6], []):
+            with self.assertRaises(Refusal) as caught:
+                bib.resolve_file(file, rows, too_few, months)
+            self.assertEqual(caught.exception.number, 17)
+
+    def test_more_room_than_at_first(self):
+        file = b"@string{d0={" + b"{x}y" * 100 + b"}}"
+        file += b"".join(b"@string{d%d=d%d#d%d}" % (i, i - 1, i - 1) for i in range(1, 12))
+        resolved = bib.resolve_file(file, bib.read(file), [False] * 12)
+        self.assertEqual([value.names for value in resolved], [2 ** (i + 1) - 2 for i in range(12)])
+        self.assertEqual(resolved[11].text, b"xy" * 100 * 2_048)
+
 
 class Words(unittest.TestCase):
     def test_as_the_header_has_them(self):

@@ -5,12 +5,15 @@
 //! the literals' bytes.
 //!
 //! The proved call is given a file, and checks all of it: so it is timed twice, once with each
-//! literal as a file of its own (`alone`), and once in the file that it stands in (`in its file`).
+//! literal as a file of its own (`alone`), and once in the file that it stands in (`in its file`). And
+//! all literals are put into one file each for as many bytes as a file may have, which the call over a
+//! whole file resolves (`one call`).
 
 use std::collections::HashMap;
 use std::hint::black_box;
 use std::path::PathBuf;
 
+use cases::fields::{literal, Draft};
 use oracle::mechanics::is_verbatim_field;
 use oracle::raw::{Field, RawChunk};
 use oracle::resolve::parse_field;
@@ -18,6 +21,7 @@ use oracle::{ChunksExt, Kind, Row, Spanned, CHUNK_NUMBERS, LONGEST_LITERAL};
 use proved::Lent;
 
 use crate::timing::{growth, Times};
+use crate::wholes::{Read, Rooms as WholeRooms};
 
 /// The longest of the commands' literals is as long as it may be, and the other half as long.
 const SIZES: [usize; 2] = [LONGEST_LITERAL / 2, LONGEST_LITERAL];
@@ -147,13 +151,17 @@ fn of_file<'a>(file: &'a [u8], rows: &[Row], literals: &mut Vec<Literal<'a>>) {
     }
 }
 
+/// Each check of a long file takes longer than all else: one in so many literals shows it.
+fn one_in(literals: &[Literal]) -> usize {
+    1 + literals.len() / 5_000
+}
+
 fn real(literals: &[Literal], rounds: usize) {
-    let bytes: usize = literals.iter().map(|l| l.end - l.start).sum();
-    let count = literals.len();
-    println!("  {count} literals of real files, {bytes} bytes");
     let fields: Vec<Field> = literals.iter().map(Literal::field).collect();
-    let (mut rust, mut alone, mut in_file) = (Times::new(), Times::new(), Times::new());
+    let [mut rust, mut alone, mut one_call, mut in_file] = [(); 4].map(|()| Times::new());
     let (map, mut rooms) = (HashMap::new(), Rooms::new());
+    let drafts = put_together(literals);
+    let mut wholes: Vec<_> = drafts.iter().map(lent_whole).collect();
     for _ in 0..rounds {
         rust.run(|| {
             let each = literals.iter().zip(&fields);
@@ -167,29 +175,65 @@ fn real(literals: &[Literal], rounds: usize) {
             });
             each.sum::<usize>()
         });
-        // Each check of a long file takes longer than all else: some literals show it.
+        one_call.run(|| {
+            let each = wholes.iter_mut();
+            each.map(|(rooms, read)| rooms.resolve_and_format(read))
+                .sum::<usize>()
+        });
         in_file.run(|| {
-            let some = literals.iter().step_by(1 + count / 5_000).map(|literal| {
-                let Literal {
-                    file, start, end, ..
-                } = *literal;
-                of_proved(&mut rooms, file, start, end, literal.verbatim())
-            });
+            let some = literals.iter().step_by(one_in(literals));
+            let some = some.map(|l| of_proved(&mut rooms, l.file, l.start, l.end, l.verbatim()));
             some.sum::<usize>()
         });
     }
-    let some = literals.iter().step_by(1 + count / 5_000);
-    let some: usize = some.map(|l| l.end - l.start).sum();
-    println!("    Rust        {}", rust.speed(bytes));
-    let ratio = rust.ratio(&alone);
-    println!("    alone       {}, ratio {ratio}", alone.speed(bytes));
-    println!("    in its file {}", in_file.speed(some));
-    let each = |times: &Times| 1e9 * times.best() / count as f64;
-    println!(
-        "    a literal: Rust {:.0} ns, alone {:.0} ns",
-        each(&rust),
-        each(&alone)
+    print(
+        literals,
+        &rust,
+        &[("alone", &alone), ("one call", &one_call)],
+        &in_file,
     );
+}
+
+/// The Rust's times, others beside them, and those of some literals in their files.
+fn print(literals: &[Literal], rust: &Times, others: &[(&str, &Times)], in_file: &Times) {
+    let bytes = |literals: &mut dyn Iterator<Item = &Literal>| -> usize {
+        literals.map(|literal| literal.end - literal.start).sum()
+    };
+    let all = bytes(&mut literals.iter());
+    println!("  {} literals of real files, {all} bytes", literals.len());
+    let each = |times: &Times| 1e9 * times.best() / literals.len() as f64;
+    let nanoseconds = each(rust);
+    println!(
+        "    Rust        {}, {nanoseconds:.0} ns each",
+        rust.speed(all)
+    );
+    for (name, times) in others {
+        let (speed, ratio, nanoseconds) = (times.speed(all), rust.ratio(times), each(times));
+        println!("    {name:11} {speed}, ratio {ratio}, {nanoseconds:.0} ns each");
+    }
+    let some = bytes(&mut literals.iter().step_by(one_in(literals)));
+    println!("    in its file {}", in_file.speed(some));
+}
+
+/// The literals as fields of one entry, in as few files as they fit into.
+fn put_together(literals: &[Literal]) -> Vec<Draft> {
+    const MOST: usize = 16_000_000;
+    let mut drafts: Vec<Draft> = Vec::new();
+    for one in literals {
+        if drafts.last().is_none_or(|draft| draft.file.len() > MOST) {
+            drafts.push(Draft::default());
+            drafts.last_mut().expect("it was made").entry();
+        }
+        let draft = drafts.last_mut().expect("there is one");
+        draft.field(one.name, &[literal(one.text())]);
+    }
+    drafts
+}
+
+/// A file of literals, and what is lent for it.
+fn lent_whole(draft: &Draft) -> (WholeRooms, Read<'_>) {
+    let read = Read::new(draft.file.as_bytes(), draft.rows.clone());
+    (WholeRooms::of(&read), read)
 }
 
 fn of_rust(name: &str, field: &Field, map: &HashMap<&str, &Field<'_>>) -> usize {

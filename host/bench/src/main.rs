@@ -3,8 +3,9 @@
 //!     cargo run --release -p bench -- FOLDER              with the real .bib files below FOLDER
 //!     cargo run --release -p bench -- --rounds 21 FOLDER  more rounds than 11
 //!     cargo run --release -p bench                        the made shapes only
-//!     cargo run --release -p bench -- --only literals FOLDER    of reading, utf8, packing, salvage
-//!                                                         and literals just this
+//!     cargo run --release -p bench -- --processor FOLDER  the processor's time, where there is other work
+//!     cargo run --release -p bench -- --only literals FOLDER    of reading, utf8, packing, salvage,
+//!                                                         literals, names and wholes just this
 //!
 //! The Rust is `std::str::from_utf8` and `RawBibliography::parse`. The proved reader is timed
 //! twice: `lent`, into rows that are there and were written before, and `fresh`, into rows that are
@@ -20,14 +21,17 @@
 //! Then the UTF-8 check alone beside `std::str::from_utf8`; packing and unpacking the rows beside the
 //! Rust packer, with ratios of the same sense; and salvage: on files sound and damaged beside strict
 //! reading, where the figure is salvage's time divided by strict reading's, and on files of many
-//! pieces. And literals, resolved and formatted, beside the Rust's functions.
+//! pieces. And literals, and all fields of files, resolved and formatted, beside the Rust's functions;
+//! and a program against the names of the Rust's modules, over the original and over the proved library.
 
 mod literals;
+mod names;
 mod packing;
 mod salvage;
 mod shapes;
 mod timing;
 mod utf8;
+mod wholes;
 
 use std::path::PathBuf;
 use std::process::ExitCode;
@@ -64,12 +68,29 @@ fn main() -> ExitCode {
             return ExitCode::from(2);
         }
     };
+    let rounds = wanted.rounds;
+    println!("{rounds} rounds; MB/s of the best run (of the median), 1 MB = 1,000,000 bytes");
+    rows(&wanted);
+    let Wanted { folders, .. } = &wanted;
+    if wanted.has("literals") {
+        literals::run(folders, rounds);
+    }
+    if wanted.has("names") {
+        names::run(folders, rounds);
+    }
+    if wanted.has("wholes") {
+        wholes::run(folders, rounds);
+    }
+    ExitCode::SUCCESS
+}
+
+/// All that gives rows or takes them.
+fn rows(wanted: &Wanted) {
     let Wanted {
         rounds,
         ref folders,
         ..
-    } = wanted;
-    println!("{rounds} rounds; MB/s of the best run (of the median), 1 MB = 1,000,000 bytes");
+    } = *wanted;
     if wanted.has("reading") {
         shapes::all(folders)
             .iter()
@@ -87,10 +108,6 @@ fn main() -> ExitCode {
     if wanted.has("salvage") {
         salvage::run(folders, rounds);
     }
-    if wanted.has("literals") {
-        literals::run(folders, rounds);
-    }
-    ExitCode::SUCCESS
 }
 
 fn wanted() -> Result<Wanted, String> {
@@ -106,6 +123,7 @@ fn wanted() -> Result<Wanted, String> {
                 let number = words.next().and_then(|n| n.parse().ok());
                 wanted.rounds = number.filter(|n| *n > 0).ok_or("--rounds takes a number")?;
             }
+            "--processor" => timing::by_processor(),
             "--only" => wanted.only = words.next().ok_or("--only takes a word")?,
             _ => wanted.folders.push(word.into()),
         }

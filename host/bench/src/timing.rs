@@ -1,9 +1,56 @@
 //! Times of runs.
 
 use std::hint::black_box;
+use std::sync::atomic::{AtomicBool, Ordering};
 use std::time::Instant;
 
 use oracle::raw::RawBibliography;
+
+/// Whether the processor's time is taken, and not the wall's.
+static BY_PROCESSOR: AtomicBool = AtomicBool::new(false);
+
+/// From here on the time that this thread has on a processor is taken: on a machine that has other work
+/// the wall's time says little.
+pub fn by_processor() {
+    BY_PROCESSOR.store(true, Ordering::Relaxed);
+}
+
+/// A clock that runs by the wall or by the processor.
+struct Clock {
+    wall: Instant,
+    processor: f64,
+}
+
+impl Clock {
+    fn start() -> Self {
+        Self {
+            wall: Instant::now(),
+            processor: processor(),
+        }
+    }
+
+    /// Seconds since the start.
+    fn elapsed(&self) -> f64 {
+        match BY_PROCESSOR.load(Ordering::Relaxed) {
+            true => processor() - self.processor,
+            false => self.wall.elapsed().as_secs_f64(),
+        }
+    }
+}
+
+/// The seconds that this thread had on a processor, by Linux; 0 where they are not asked for.
+fn processor() -> f64 {
+    if !BY_PROCESSOR.load(Ordering::Relaxed) {
+        return 0.0;
+    }
+    let times = std::fs::read_to_string("/proc/thread-self/schedstat");
+    let times = times.expect("Linux says how long a thread has run");
+    let nanoseconds = times
+        .split(' ')
+        .next()
+        .and_then(|time| time.parse::<f64>().ok());
+    1e-9 * nanoseconds.expect("its first number is that in nanoseconds")
+}
 
 /// The times of several runs, in seconds.
 pub struct Times(Vec<f64>);
@@ -15,9 +62,9 @@ impl Times {
 
     /// Times one run. What it gives is dropped after the clock has stopped.
     pub fn run<T>(&mut self, run: impl FnOnce() -> T) {
-        let start = Instant::now();
+        let clock = Clock::start();
         let given = black_box(run());
-        self.0.push(start.elapsed().as_secs_f64());
+        self.0.push(clock.elapsed());
         drop(given);
     }
 

@@ -126,7 +126,8 @@ impl Months {
     }
 }
 
-const ENGLISH: [(&str, &str); 12] = [
+/// The months' words and texts.
+pub const ENGLISH: [(&str, &str); 12] = [
     ("jan", "January"),
     ("feb", "February"),
     ("mar", "March"),

@@ -1,4 +1,4 @@
-//! Fields: names and months, chains of names and cycles, as many names as there may be and more, long
+//! Files with fields, to ask about one by one or all at once: names and months, chains of names and cycles, as many names as there may be and more, long
 //! and deep literals, files drawn at random, rows and months that are none, and real files.
 
 use cases::fields::{literal, name, Draft, Element, Fields as Drawing, Months, NAMES};
@@ -10,7 +10,8 @@ use oracle::{
 };
 
 use crate::judge::Judge;
-use crate::values::{plainly, Asked, Tried, Values};
+use crate::values::{Asks, Tried};
+use crate::wholes;
 
 /// Files that a reader takes, with what is to be looked at: the order of definitions and uses, which
 /// definition counts, months that are shadowed, what is joined, cycles, and what is refused first.
@@ -67,8 +68,8 @@ fn given<'a>(draft: &'a Draft, months: &'a Months) -> Given<'a> {
 }
 
 /// Files with names, each with several lists of months and every kind of room.
-pub fn names(judge: &mut Judge) {
-    let mut values = Values::new();
+pub fn names<A: Asks>(judge: &mut Judge) {
+    let mut asks = A::new();
     let mut twice = Months::default();
     twice.lend("may", "Mai");
     twice.lend("ma", "no");
@@ -78,8 +79,8 @@ pub fn names(judge: &mut Judge) {
     for file in NAMED {
         let draft = read(file);
         for months in [Months::default(), Months::english(), twice.clone()] {
-            values.check(judge, given(&draft, &months), Tried::All);
-            values.check_numbers(judge, given(&draft, &months));
+            asks.check(judge, given(&draft, &months), Tried::All);
+            asks.check_numbers(judge, given(&draft, &months));
         }
     }
 }
@@ -101,8 +102,8 @@ fn ends() -> Vec<Vec<Element>> {
 
 /// Names inside each other around the deepest, defined forwards and backwards, with what stands before
 /// and behind.
-pub fn chains(judge: &mut Judge, long: bool) {
-    let (mut values, months) = (Values::new(), Months::english());
+pub fn chains<A: Asks>(judge: &mut Judge, long: bool) {
+    let (mut asks, months) = (A::new(), Months::english());
     let depths = match long {
         true => (0..=DEEPEST_NAME + 4).collect::<Vec<usize>>(),
         false => (DEEPEST_NAME - 2..=DEEPEST_NAME + 2).collect(),
@@ -112,7 +113,7 @@ pub fn chains(judge: &mut Judge, long: bool) {
             for around in [0, 1, 2, 3] {
                 for backwards in [false, true] {
                     let draft = chain(depth, &end, around, backwards);
-                    values.check(judge, given(&draft, &months), Tried::One);
+                    asks.check(judge, given(&draft, &months), Tried::One);
                 }
             }
         }
@@ -148,8 +149,8 @@ fn chain(depth: usize, end: &[Element], around: usize, backwards: bool) -> Draft
 }
 
 /// Counts of names around the most: flat, by doublings, and with what is refused at the same use.
-pub fn counts(judge: &mut Judge, long: bool) {
-    let (mut values, months) = (Values::new(), Months::english());
+pub fn counts<A: Asks>(judge: &mut Judge, long: bool) {
+    let (mut asks, months) = (A::new(), Months::english());
     let most = MOST_NAMES as usize;
     let ends = [
         vec![],
@@ -162,16 +163,20 @@ pub fn counts(judge: &mut Judge, long: bool) {
         vec![name("may"), name("self")],
     ];
     let reach = if long { 6 } else { 1 };
+    let parts = match long {
+        true => &["may", "d0", "d3", "d11"][..],
+        false => &["may", "d11"],
+    };
     // The name that is too deep is also one too many.
     let both = most - DEEPEST_NAME;
     for end in ends {
         for count in (most - reach..=most + reach).chain(both - 1..=both + 1) {
-            for part in ["may", "d0", "d3", "d11"] {
+            for part in parts {
                 let draft = many(count, part, &end);
                 let value = draft.next() - 1;
                 let value = (0..=value).rev().find(|row| draft.rows[4 * row] == 5);
                 let given = given(&draft, &months);
-                values.check_these(judge, given, value.into_iter(), Tried::One);
+                asks.check_these(judge, given, value.into_iter(), Tried::One);
             }
         }
     }
@@ -206,8 +211,8 @@ fn many(count: usize, part: &str, end: &[Element]) -> Draft {
 }
 
 /// Literals around the longest, in a field and in a definition, with what is refused before and behind.
-pub fn literals(judge: &mut Judge) {
-    let (mut values, months) = (Values::new(), Months::english());
+pub fn literals<A: Asks>(judge: &mut Judge) {
+    let (mut asks, months) = (A::new(), Months::english());
     let fault = |number: usize| [name("nothing"), literal("}"), literal("x")][number].clone();
     for length in LONGEST_LITERAL - 1..=LONGEST_LITERAL + 1 {
         for part in ["a", "é", "{a}", "$x$", "\\'e", "---", " \n", "}"] {
@@ -219,15 +224,15 @@ pub fn literals(judge: &mut Judge) {
                 draft.entry();
                 draft.field("t", &elements);
                 draft.field("t", &[fault(behind), name("a"), name("a"), fault(before)]);
-                values.check(judge, given(&draft, &months), Tried::One);
+                asks.check(judge, given(&draft, &months), Tried::One);
             }
         }
     }
 }
 
 /// Literals whose arguments stand too deep, which the Rust takes.
-pub fn deep(judge: &mut Judge) {
-    let (mut values, months) = (Values::new(), Months::english());
+pub fn deep<A: Asks>(judge: &mut Judge) {
+    let (mut asks, months) = (A::new(), Months::english());
     let nest = |depth: usize| "\\x{".repeat(depth) + &"}".repeat(depth);
     for depth in [63, 64, 65, 66] {
         let text = nest(depth);
@@ -246,18 +251,15 @@ pub fn deep(judge: &mut Judge) {
             if depth > 64 {
                 fields = fields.told_too_deep(&text, 3 * 64 + 2);
             }
-            for which in 0..draft.next() {
-                for verbatim in [0, 1] {
-                    values.check_one(judge, given, &fields, plainly(which, verbatim));
-                }
-            }
+            let chosen = 0..draft.next();
+            asks.ask(judge, (given, &fields), chosen, None, Tried::One);
         }
     }
 }
 
 /// Many definitions, some of them of the same names, and fields that use some.
-pub fn definitions(judge: &mut Judge, seed: u64, long: bool) {
-    let (mut random, mut values) = (Random::new(seed, 20), Values::new());
+pub fn definitions<A: Asks>(judge: &mut Judge, seed: u64, long: bool) {
+    let (mut random, mut asks) = (Random::new(seed, 20), A::new());
     let months = Months::english();
     for turn in 0..if long { 400 } else { 8 } {
         let count = [10, 100, 1_000, 4_000][turn % 4];
@@ -279,16 +281,27 @@ pub fn definitions(judge: &mut Judge, seed: u64, long: bool) {
         let fields = (first..draft.next()).filter(|row| draft.rows[4 * row] == 5);
         let fields: Vec<usize> = fields.collect();
         let given = given(&draft, &months);
-        values.check_these(judge, given, fields.into_iter(), Tried::One);
+        asks.check_these(judge, given, fields.into_iter(), Tried::One);
     }
 }
 
 /// Random files with random months.
-pub fn drawn(judge: &mut Judge, seed: u64, long: bool) {
-    let (mut random, mut values) = (Random::new(seed, 16), Values::new());
+pub fn drawn<A: Asks>(judge: &mut Judge, seed: u64, long: bool) {
+    let (mut random, mut asks) = (Random::new(seed, 16), A::new());
     for turn in 0..if long { 600_000 } else { 1_000 } {
         let (draft, months) = draw(&mut random, turn);
-        values.check(judge, given(&draft, &months), Tried::One);
+        asks.check(judge, given(&draft, &months), Tried::One);
+    }
+}
+
+/// Random files, each as a whole and value by value.
+pub fn one_by_one(judge: &mut Judge, seed: u64, long: bool) {
+    let mut random = Random::new(seed, 21);
+    for turn in 0..if long { 20_000 } else { 300 } {
+        let (draft, months) = draw(&mut random, turn);
+        let flag = |_| [0, 0, 1, 0xFF][random.below(4)];
+        let flags: Vec<u8> = (0..draft.next()).map(flag).collect();
+        wholes::one_by_one(judge, given(&draft, &months), &flags);
     }
 }
 
@@ -300,17 +313,17 @@ fn draw(random: &mut Random, turn: usize) -> (Draft, Months) {
 }
 
 /// Random files with every kind of room.
-pub fn rooms(judge: &mut Judge, seed: u64, long: bool) {
-    let (mut random, mut values) = (Random::new(seed, 17), Values::new());
+pub fn rooms<A: Asks>(judge: &mut Judge, seed: u64, long: bool) {
+    let (mut random, mut asks) = (Random::new(seed, 17), A::new());
     for turn in 0..if long { 3_000 } else { 12 } {
         let (draft, months) = draw(&mut random, turn);
-        values.check(judge, given(&draft, &months), Tried::All);
+        asks.check(judge, given(&draft, &months), Tried::All);
     }
 }
 
 /// Random files whose rows, months or places are broken, and every row number.
-pub fn broken(judge: &mut Judge, seed: u64, long: bool) {
-    let (mut random, mut values) = (Random::new(seed, 18), Values::new());
+pub fn broken<A: Asks>(judge: &mut Judge, seed: u64, long: bool) {
+    let (mut random, mut asks) = (Random::new(seed, 18), A::new());
     for turn in 0..if long { 60_000 } else { 250 } {
         let (mut draft, mut months) = draw(&mut random, 3 * turn);
         match turn % 4 {
@@ -319,7 +332,7 @@ pub fn broken(judge: &mut Judge, seed: u64, long: bool) {
             2 => move_places(&mut random, &mut months.numbers, months.words.len()),
             _ => damage(&mut random, &mut months),
         }
-        values.check_numbers(judge, given(&draft, &months));
+        asks.check_numbers(judge, given(&draft, &months));
     }
 }
 
@@ -350,15 +363,15 @@ fn damage(random: &mut Random, months: &mut Months) {
 
 /// Every sequence of at most five (quick: three) kinds, and what is longer behind a value, with every
 /// row chosen.
-pub fn sequences(judge: &mut Judge, long: bool) {
-    let (mut values, most) = (Values::new(), if long { 5 } else { 3 });
+pub fn sequences<A: Asks>(judge: &mut Judge, long: bool) {
+    let (mut asks, most) = (A::new(), if long { 5 } else { 3 });
     for head in [&[][..], &[1, 2, 3, 4, 5, 6], &[8, 5, 7], &[1, 2, 3, 4]] {
         let left = if head.is_empty() { most } else { most - 1 };
-        extend(judge, &mut values, &mut head.to_vec(), left);
+        extend(judge, &mut asks, &mut head.to_vec(), left);
     }
 }
 
-fn extend(judge: &mut Judge, values: &mut Values, kinds: &mut Vec<u32>, left: usize) {
+fn extend(judge: &mut Judge, asks: &mut impl Asks, kinds: &mut Vec<u32>, left: usize) {
     // All rows have the same bytes, so that a name is defined wherever there is a definition.
     let row = |kind: &u32| [*kind, if *kind == 10 { 7 } else { 0 }, 1, 3];
     let draft = Draft {
@@ -367,20 +380,20 @@ fn extend(judge: &mut Judge, values: &mut Values, kinds: &mut Vec<u32>, left: us
     };
     let months = Months::default();
     let given = given(&draft, &months);
-    values.check_these(judge, given, 0..kinds.len() + 1, Tried::No);
+    asks.check_these(judge, given, 0..kinds.len() + 1, Tried::No);
     if left == 0 {
         return;
     }
     for kind in 0..=11 {
         kinds.push(kind);
-        extend(judge, values, kinds, left - 1);
+        extend(judge, asks, kinds, left - 1);
         kinds.pop();
     }
 }
 
 /// Every number in every place of the rows and of the months, one at a time.
-pub fn numbers(judge: &mut Judge) {
-    let mut values = Values::new();
+pub fn numbers<A: Asks>(judge: &mut Judge) {
+    let mut asks = A::new();
     let file = "@string{é={漢}}@b{k,t=é#{\\'e}#may}";
     let (draft, mut months) = (read(file), Months::default());
     months.lend("may", "é漢");
@@ -392,32 +405,32 @@ pub fn numbers(judge: &mut Judge) {
         for number in numbers(file.len()) {
             let mut draft = draft.clone();
             draft.rows[at] = number;
-            values.check_numbers(judge, given(&draft, &months));
+            asks.check_numbers(judge, given(&draft, &months));
         }
     }
     for at in 0..months.numbers.len() {
         for number in numbers(months.words.len()) {
             let mut months = months.clone();
             months.numbers[at] = number;
-            values.check_numbers(judge, given(&draft, &months));
+            asks.check_numbers(judge, given(&draft, &months));
         }
     }
     for count in 0..draft.rows.len() {
         let mut draft = draft.clone();
         draft.rows.truncate(count);
-        values.check_numbers(judge, given(&draft, &months));
+        asks.check_numbers(judge, given(&draft, &months));
     }
     for count in 0..months.numbers.len() {
         let mut months = months.clone();
         months.numbers.truncate(count);
-        values.check_numbers(judge, given(&draft, &months));
+        asks.check_numbers(judge, given(&draft, &months));
     }
 }
 
 /// 01's order of refusals: files that are too long or not UTF-8, with rows and months that are right
 /// and not, scratch of every length around the least, and a value that is refused.
-pub fn order(judge: &mut Judge) {
-    let mut values = Values::new();
+pub fn order<A: Asks>(judge: &mut Judge) {
+    let mut asks = A::new();
     let (sound, months) = (
         read("@string{a={x}#nothing}@b{k,t=a#{}}"),
         Months::english(),
@@ -443,26 +456,21 @@ pub fn order(judge: &mut Judge) {
                 };
                 let fields = Fields::new(given);
                 let scratch = [0, 1, LEAST_SCRATCH - 1, LEAST_SCRATCH, LEAST_SCRATCH + 1];
-                for scratch in scratch {
+                for scratch in scratch.map(Some) {
                     let chosen = if number < 3 { 0..11 } else { 0..3 };
-                    for which in chosen {
-                        let asked = Asked {
-                            which,
-                            verbatim: 0,
-                            scratch,
-                        };
-                        values.check_one(judge, given, &fields, asked);
-                    }
+                    asks.ask(judge, (given, &fields), chosen, scratch, Tried::One);
                 }
             }
         }
     }
 }
 
-/// The values of a file, with English months. The call looks at all of the file each time, so that of
-/// a long file not every value is asked for, but some that are spread over it.
-pub fn of_file(judge: &mut Judge, values: &mut Values, file: &[u8]) {
+/// The values of a file, with English months. The call for one looks at all of the file each time, so
+/// that of a long file not every value is asked for, but some that are spread over it.
+pub fn of_file(judge: &mut Judge, asks: &mut impl Asks, file: &[u8]) {
     const WORK: usize = 20_000_000_000;
+    // Only a short file is searched for every name, which is tried too.
+    const SHORT: usize = 200_000;
     let Ok(rows) = oracle::salvage(file) else {
         return;
     };
@@ -484,5 +492,10 @@ pub fn of_file(judge: &mut Judge, values: &mut Values, file: &[u8]) {
     };
     let step = 1 + chosen.len() * (file.len() + rows.len()) / WORK;
     let some = chosen.into_iter().step_by(step).take(most);
-    values.check_these(judge, given, some, Tried::No);
+    let tried = if file.len() < SHORT {
+        Tried::One
+    } else {
+        Tried::No
+    };
+    asks.check_these(judge, given, some, tried);
 }

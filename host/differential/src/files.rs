@@ -10,13 +10,14 @@ use crate::judge::{Judge, SALVAGE};
 use crate::literals;
 use crate::packs::Packs;
 use crate::resolves::Resolves;
-use crate::values::Values;
+use crate::values::{Asks, Values};
+use crate::wholes::Wholes;
 
 /// How a copy of a file is spoilt, with another file at hand.
 type Spoil = fn(&mut Random, &mut Vec<u8>, &[u8]);
 
 /// Compares each file, and copies of it that are damaged; packs the rows of each; then salvages
-/// each, and damaged copies; and resolves the literals of each, and the fields.
+/// each, and damaged copies; and resolves the literals of each, the fields, and all fields at once.
 pub fn run(judge: &mut Judge, paths: &[PathBuf], copies: usize, seed: u64) {
     let texts = cases::files(paths);
     let bytes: usize = texts.iter().map(Vec::len).sum();
@@ -50,6 +51,32 @@ pub fn run(judge: &mut Judge, paths: &[PathBuf], copies: usize, seed: u64) {
         let all = texts.iter();
         all.for_each(|text| fields::of_file(j, &mut values, text))
     });
+    judge.group("a program over the Rust's names", |j| moved(j, &texts));
+    judge.group("whole files", |j| {
+        let mut wholes = Wholes::new();
+        let all = texts.iter();
+        all.for_each(|text| fields::of_file(j, &mut wholes, text))
+    });
+}
+
+/// A program over the names of the Rust's modules: over the original, and over the proved library.
+fn moved(judge: &mut Judge, texts: &[Vec<u8>]) {
+    let sources = texts
+        .iter()
+        .filter_map(|text| std::str::from_utf8(text).ok());
+    for [original, ours] in sources.filter_map(moved::both) {
+        if judge.count(original.is_ok(), original == ours) {
+            println!(
+                "case {} differs: the program says, over the original and over ours:",
+                judge.cases
+            );
+            let (Ok(original) | Err(original), Ok(ours) | Err(ours)) = (original, ours);
+            let lines = original.lines().zip(ours.lines());
+            for (one, other) in lines.filter(|(one, other)| one != other).take(5) {
+                println!("  {one}\n  {other}");
+            }
+        }
+    }
 }
 
 fn spoilt(judge: &mut Judge, texts: &[Vec<u8>], copies: usize, mut random: Random, spoil: Spoil) {

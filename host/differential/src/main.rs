@@ -1,8 +1,9 @@
 //! Compares the proved reader with the Rust, row by row and refusal by refusal; then packing and
 //! unpacking with a Rust packer, salvage with 01's cutting around the Rust, the writers of chunks
-//! with the Rust's, and resolving of literals and fields, chunk by chunk, with the Rust's.
+//! with the Rust's, and resolving of literals, of fields and of whole files, chunk by chunk, with the
+//! Rust's.
 //!
-//!     cargo run --release -p differential                    some 2,850,000 cases, in a minute at most
+//!     cargo run --release -p differential                    some 2,920,000 cases, in a minute at most
 //!     cargo run --release -p differential -- --long          some hundred million
 //!     cargo run --release -p differential -- --seed 7        other random cases
 //!     cargo run --release -p differential -- --only literals   the groups whose names have this word
@@ -20,6 +21,7 @@ mod exhaustive;
 mod fields;
 mod files;
 mod judge;
+mod lent;
 mod literals;
 mod packing;
 mod packs;
@@ -28,6 +30,7 @@ mod resolves;
 mod room;
 mod salvage;
 mod values;
+mod wholes;
 mod writes;
 mod writing;
 
@@ -35,6 +38,8 @@ use std::path::PathBuf;
 use std::process::ExitCode;
 
 use judge::{Judge, SALVAGE};
+use values::{Asks, Values};
+use wholes::Wholes;
 
 /// What the command line asks for.
 struct Wanted {
@@ -65,7 +70,12 @@ fn main() -> ExitCode {
         salvaging(&mut judge, &wanted);
         writing(&mut judge, &wanted);
         resolving(&mut judge, &wanted);
-        resolving_fields(&mut judge, &wanted);
+        resolving_fields::<Values>(&mut judge, &wanted, "fields");
+        resolving_fields::<Wholes>(&mut judge, &wanted, "whole files");
+        let Wanted { long, seed, .. } = wanted;
+        judge.group("whole files beside single fields", |j| {
+            fields::one_by_one(j, seed, long)
+        });
     } else {
         files::run(&mut judge, &wanted.paths, wanted.damage, wanted.seed);
     }
@@ -152,24 +162,26 @@ fn resolving(judge: &mut Judge, wanted: &Wanted) {
     judge.group("literals, longest files", literals::files);
 }
 
-fn resolving_fields(judge: &mut Judge, wanted: &Wanted) {
+/// The groups of files with fields, by what asks about them.
+fn resolving_fields<A: Asks>(judge: &mut Judge, wanted: &Wanted, what: &str) {
     let Wanted { long, seed, .. } = *wanted;
-    judge.group("fields, names and months", fields::names);
-    judge.group("fields, chains", |j| fields::chains(j, long));
-    judge.group("fields, counts", |j| fields::counts(j, long));
-    judge.group("fields, long literals", fields::literals);
-    judge.group("fields, deep literals", fields::deep);
-    judge.group("fields, many definitions", |j| {
-        fields::definitions(j, seed, long)
+    let mut group = |name: &str, run: &dyn Fn(&mut Judge)| {
+        judge.group(&format!("{what}, {name}"), |j| run(j));
+    };
+    group("names and months", &fields::names::<A>);
+    group("chains", &|j| fields::chains::<A>(j, long));
+    group("counts", &|j| fields::counts::<A>(j, long));
+    group("long literals", &fields::literals::<A>);
+    group("deep literals", &fields::deep::<A>);
+    group("many definitions", &|j| {
+        fields::definitions::<A>(j, seed, long)
     });
-    judge.group("fields, drawn", |j| fields::drawn(j, seed, long));
-    judge.group("fields, room", |j| fields::rooms(j, seed, long));
-    judge.group("fields, broken", |j| fields::broken(j, seed, long));
-    judge.group("fields, all short sequences", |j| {
-        fields::sequences(j, long)
-    });
-    judge.group("fields, every number", fields::numbers);
-    judge.group("fields, order of refusals", fields::order);
+    group("drawn", &|j| fields::drawn::<A>(j, seed, long));
+    group("room", &|j| fields::rooms::<A>(j, seed, long));
+    group("broken", &|j| fields::broken::<A>(j, seed, long));
+    group("all short sequences", &|j| fields::sequences::<A>(j, long));
+    group("every number", &fields::numbers::<A>);
+    group("order of refusals", &fields::order::<A>);
 }
 
 fn wanted() -> Result<Wanted, String> {

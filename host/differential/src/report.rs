@@ -1,11 +1,13 @@
 //! Prints a difference in full.
 
 use oracle::{Row, CHUNK_NUMBERS};
-use proved::{Answer, File, Resolved};
+use proved::{Answer, File, Filed, Resolved};
 
-use crate::resolves::{Asked, Rooms};
+use crate::lent::Rooms;
+use crate::resolves::Asked;
 use crate::room::{Lent, Room};
 use crate::values;
+use crate::wholes::Lengths;
 
 /// Longer files and lists are cut.
 const MOST_BYTES: usize = 2_000;
@@ -63,15 +65,8 @@ pub fn packing<T: Lent, U: Lent>(case: u64, name: &str, room: usize, input: &[T]
     println!("  proved {}", said(given.answer, given.unit));
 }
 
-/// The literal and what both answer: what is wanted, with its rows and text, and what is given.
-pub fn literal(
-    case: u64,
-    file: &[u8],
-    asked: Asked,
-    rooms: Rooms,
-    (wanted, rows, text): (Resolved, &[u32], &[u8]),
-    answer: Resolved,
-) {
+/// The literal that a case was of.
+pub fn literal(case: u64, file: &[u8], asked: Asked, rooms: Rooms) {
     let Asked {
         span: (from, to),
         verbatim,
@@ -85,22 +80,38 @@ pub fn literal(
     let shown = file.get(from..to).unwrap_or(file);
     let shown = &shown[..shown.len().min(MOST_BYTES)];
     println!("  literal b\"{}\"", shown.escape_ascii());
-    resolved((wanted, rows, text), answer);
 }
 
-/// The field and what both answer.
-pub fn field(
-    case: u64,
-    file: &File,
-    asked: values::Asked,
-    rooms: Rooms,
-    given: (Resolved, &[u32], &[u8]),
-    answer: Resolved,
-) {
+/// The field that a case was of.
+pub fn field(case: u64, file: &File, asked: values::Asked, rooms: Rooms) {
     println!(
         "case {case} differs: a field, {asked:?}, room for {} numbers and {} bytes",
         rooms.0, rooms.1
     );
+    input(file);
+}
+
+/// The file that a case was of, and what both answer.
+pub fn whole(
+    case: u64,
+    file: &File,
+    flags: &[u8],
+    lengths: Lengths,
+    (wanted, answers): (Filed, &[u32]),
+    answer: Filed,
+) {
+    println!("case {case} differs: a whole file, {lengths:?}");
+    input(file);
+    println!("  flags  {:?}", &flags[..flags.len().min(MOST_ROWS)]);
+    println!("  Rust   {wanted:?}");
+    for row in answers.chunks(proved::ANSWER_NUMBERS).take(MOST_ROWS) {
+        println!("        {}", u32::list(row));
+    }
+    println!("  proved {answer:?}");
+}
+
+/// What a call that resolves fields was lent to be read.
+fn input(file: &File) {
     let shown = &file.bytes[..file.bytes.len().min(MOST_BYTES)];
     println!("  file   b\"{}\"", shown.escape_ascii());
     for row in file.rows.chunks(4).take(MOST_ROWS) {
@@ -112,10 +123,10 @@ pub fn field(
         u32::list(file.months),
         shown.escape_ascii()
     );
-    resolved(given, answer);
 }
 
-fn resolved((wanted, rows, text): (Resolved, &[u32], &[u8]), answer: Resolved) {
+/// What both answer: what is wanted, with its rows and text, and what is given.
+pub fn resolved((wanted, rows, text): (Resolved, &[u32], &[u8]), answer: Resolved) {
     println!("  Rust   {wanted:?}");
     for row in rows.chunks(CHUNK_NUMBERS).take(MOST_ROWS) {
         println!("        {}", u32::list(row));
@@ -125,6 +136,12 @@ fn resolved((wanted, rows, text): (Resolved, &[u32], &[u8]), answer: Resolved) {
         text[..text.len().min(MOST_BYTES)].escape_ascii()
     );
     println!("  proved {answer:?}");
+}
+
+/// Whether memory holds zeros that must.
+pub fn zeroed<T: Lent>(name: &str, held: &Room<T>, length: usize) {
+    let not = if held.is_zeroed(length) { "" } else { "not " };
+    println!("        {name} {not}zeroed");
 }
 
 /// What the proved function changed in the room: all rows that are not as they were, and whether

@@ -1,15 +1,13 @@
 //! One literal of a file: the proved call and the Rust, for a verbatim field and another, with
 //! several rooms lent, and everything compared.
 
-use oracle::{Refusal, LEAST_SCRATCH};
-use proved::{Lent, Resolved};
+use oracle::Refusal;
 
 use crate::judge::Judge;
+use crate::lent::{
+    all_rooms, one_more, unchanged, Expected, Held, Output, Rooms, BEHIND, FLAGS, SCRATCH,
+};
 use crate::report;
-use crate::room::Room;
-
-/// The refusal for want of room.
-const NO_ROOM: u32 = 16;
 
 /// What a literal stands between in its file, by turns: what would go on the literal's last part, or
 /// its first, if a resolver looked outside.
@@ -24,26 +22,6 @@ const CONTEXTS: [(&str, &str); 8] = [
     ("a", "\u{301}"),
 ];
 
-/// What stands behind the file in memory.
-const BEHIND: &[u8] = b"}$}\x80 e";
-
-/// Numbers that say that a field is verbatim: any but 0.
-pub const FLAGS: [u32; 5] = [1, 2, 0x100, 0x8000_0000, u32::MAX];
-
-/// Lengths of scratch that is enough, by turns.
-pub const SCRATCH: [usize; 4] = [
-    LEAST_SCRATCH,
-    LEAST_SCRATCH,
-    LEAST_SCRATCH + 1,
-    LEAST_SCRATCH + 4_096,
-];
-
-/// Zeros, to compare scratch with.
-pub static ZEROS: [u8; 4_096] = [0; 4_096];
-
-/// What both say of a literal, if it has room: the Rust, or a case that is written from 01.
-pub type Expected = Result<oracle::Resolved, Refusal>;
-
 /// Where a literal stands in its file, and what field it is of.
 #[derive(Clone, Copy)]
 pub struct Asked {
@@ -53,16 +31,9 @@ pub struct Asked {
     pub scratch: usize,
 }
 
-/// Numbers lent for chunk rows, and bytes for text.
-pub type Rooms = (usize, usize);
-
 pub struct Resolves {
-    /// A copy of the file, with what stands behind.
-    file: Vec<u8>,
-    length: usize,
-    scratch: Room<u8>,
-    chunks: Room<u32>,
-    text: Room<u8>,
+    file: Held<u8>,
+    output: Output,
     /// Literals so far, for contexts, flags and rooms to take turns.
     turn: usize,
 }
@@ -70,11 +41,8 @@ pub struct Resolves {
 impl Resolves {
     pub fn new() -> Self {
         Self {
-            file: Vec::new(),
-            length: 0,
-            scratch: Room::new(),
-            chunks: Room::new(),
-            text: Room::new(),
+            file: Held::new(BEHIND),
+            output: Output::new(),
             turn: 0,
         }
     }
@@ -110,7 +78,8 @@ impl Resolves {
         self.turn += 1;
         let (before, after) = CONTEXTS[self.turn % CONTEXTS.len()];
         let (from, to) = (before.len(), before.len() + literal.len());
-        self.take(&[before.as_bytes(), literal.as_bytes(), after.as_bytes()].concat());
+        let file = [before, literal, after].concat();
+        self.file.take(file.as_bytes());
         for verbatim in [0, FLAGS[self.turn % FLAGS.len()]] {
             let asked = Asked {
                 span: (from, to),
@@ -127,40 +96,21 @@ impl Resolves {
             };
             self.check_expected(judge, asked, &expected, rooms);
         }
-        self.check_input(judge, |front| {
-            let rest = front.strip_prefix(before.as_bytes());
-            let rest = rest.and_then(|rest| rest.strip_prefix(literal.as_bytes()));
-            rest == Some(after.as_bytes())
-        });
+        unchanged(judge, self.file.is(file.as_bytes()));
     }
 
     /// Any places of any file, with any scratch: 01's order of refusals.
     pub fn check_file(&mut self, judge: &mut Judge, file: &[u8], asked: Asked) {
         self.turn += 1;
-        self.take(file);
+        self.file.take(file);
         let expected = self.ask_the_rust(asked);
         self.check_expected(judge, asked, &expected, one_more);
-        self.check_input(judge, |front| front == file);
-    }
-
-    fn take(&mut self, file: &[u8]) {
-        self.length = file.len();
-        self.file.clear();
-        self.file.extend_from_slice(file);
-        self.file.extend_from_slice(BEHIND);
+        unchanged(judge, self.file.is(file));
     }
 
     fn ask_the_rust(&self, asked: Asked) -> Expected {
-        let file = &self.file[..self.length];
+        let file = self.file.lent();
         oracle::resolve_literal(file, asked.span, asked.verbatim != 0, asked.scratch)
-    }
-
-    /// What is lent to be read is as it was.
-    fn check_input(&self, judge: &mut Judge, is_same: impl FnOnce(&[u8]) -> bool) {
-        if !is_same(&self.file[..self.length]) || self.file[self.length..] != *BEHIND {
-            judge.count(false, false);
-            println!("resolving changed the file that it was lent");
-        }
     }
 
     fn check_expected(
@@ -194,112 +144,17 @@ impl Resolves {
 
     fn compare(&mut self, judge: &mut Judge, asked: Asked, expected: &Expected, rooms: Rooms) {
         let Asked {
-            span,
+            span: (from, to),
             verbatim,
             scratch,
         } = asked;
-        let mut lent = Lent {
-            scratch: self.scratch.lend(scratch),
-            chunks: self.chunks.lend(rooms.0),
-            text: self.text.lend(rooms.1),
-        };
-        let file = &self.file[..self.length];
-        let answer = proved::resolve_literal(file, span.0, span.1, verbatim, &mut lent);
-        let wanted = wanted(expected, rooms);
-        let (rows, text) = match expected {
-            Ok(resolved) if wanted.number == 0 => (&resolved.rows[..], &resolved.text[..]),
-            _ => (&[][..], &[][..]),
-        };
-        let same = answer == wanted && self.holds(rows, text, scratch, rooms);
-        if judge.count(wanted.number == 0, same) {
-            report::literal(
-                judge.cases,
-                file,
-                asked,
-                rooms,
-                (wanted, rows, text),
-                answer,
-            );
-            report::touched(&self.chunks, rooms.0, rows.len());
-            report::touched(&self.text, rooms.1, text.len());
-            let clean = self.is_zeroed(scratch);
-            println!(
-                "        scratch {}",
-                if clean { "zeroed" } else { "not zeroed" }
-            );
-        }
-        self.restore(same, rows.len(), text.len(), scratch);
-    }
-
-    /// Whether the rooms hold these rows and this text and else are as they were, and the scratch
-    /// holds zeros.
-    fn holds(&self, rows: &[u32], text: &[u8], scratch: usize, rooms: Rooms) -> bool {
-        self.chunks.front(rows.len()) == rows
-            && self.chunks.rest_is_untouched(rooms.0, rows.len())
-            && self.text.front(text.len()) == text
-            && self.text.rest_is_untouched(rooms.1, text.len())
-            && self.is_zeroed(scratch)
-    }
-
-    /// Whether the scratch holds zeros, and what lies around it is as it was.
-    fn is_zeroed(&self, scratch: usize) -> bool {
-        let mut blocks = self.scratch.front(scratch).chunks(ZEROS.len());
-        blocks.all(|block| *block == ZEROS[..block.len()])
-            && self.scratch.rest_is_untouched(scratch, scratch)
-    }
-
-    fn restore(&mut self, same: bool, rows: usize, text: usize, scratch: usize) {
-        if same {
-            self.chunks.restore(rows);
-            self.text.restore(text);
-            self.scratch.restore(scratch);
-        } else {
-            self.chunks.restore_all();
-            self.text.restore_all();
-            self.scratch.restore_all();
-        }
-    }
-}
-
-/// A room beside just enough, by turns: too short by a number, by a row or by a byte, or too long.
-pub fn one_more(numbers: usize, bytes: usize, turn: usize) -> Vec<Rooms> {
-    let some = [
-        (numbers - 1, bytes),
-        (numbers, bytes.saturating_sub(1)),
-        (numbers + 4, bytes + 1),
-        (numbers - 5, bytes + 9),
-        (numbers + 9, bytes + 33),
-        (0, 0),
-    ];
-    vec![some[turn % some.len()]]
-}
-
-pub fn all_rooms(numbers: usize, bytes: usize, _: usize) -> Vec<Rooms> {
-    let less = [0, 1, 4, 5, numbers / 2].into_iter();
-    let less = less.chain([numbers - 5, numbers - 1]);
-    let rows = less.chain([0, 1, 4, 5, 97].map(|more| numbers + more));
-    let less = [0, 1, bytes / 2, bytes.saturating_sub(1)];
-    let texts: Vec<usize> = less
-        .into_iter()
-        .chain([bytes, bytes + 1, bytes + 97])
-        .collect();
-    rows.flat_map(|row| texts.iter().map(move |text| (row, *text)))
-        .collect()
-}
-
-/// 01's order: what the literal or field is refused with, and only then the room.
-pub fn wanted(expected: &Expected, rooms: Rooms) -> Resolved {
-    match expected {
-        Err(refusal) => Resolved::refused(refusal.number, refusal.start.into(), refusal.end.into()),
-        Ok(resolved) => {
-            let rows = resolved.rows.len() / oracle::CHUNK_NUMBERS;
-            if rooms.0 / oracle::CHUNK_NUMBERS < rows || rooms.1 < resolved.text.len() {
-                return Resolved::refused(NO_ROOM, 0, 0);
-            }
-            Resolved {
-                names: resolved.names,
-                ..Resolved::accepted(rows as u64, resolved.text.len() as u64)
-            }
-        }
+        let file = self.file.lent();
+        self.output.compare(
+            judge,
+            expected,
+            (scratch, rooms),
+            |lent| proved::resolve_literal(file, from, to, verbatim, lent),
+            |case| report::literal(case, file, asked, rooms),
+        );
     }
 }

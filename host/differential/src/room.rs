@@ -4,9 +4,12 @@
 const GUARD: usize = 8;
 
 /// What can be lent: the numbers of rows, and bytes.
-pub trait Lent: Copy + PartialEq {
+pub trait Lent: Copy + PartialEq + 'static {
     /// How many are a row.
     const ROW: usize;
+
+    /// Zeros, to compare with.
+    const ZEROS: &'static [Self];
 
     /// What the memory holds before a case, at a place.
     fn canary(place: usize) -> Self;
@@ -17,6 +20,7 @@ pub trait Lent: Copy + PartialEq {
 
 impl Lent for u32 {
     const ROW: usize = packer::NUMBERS;
+    const ZEROS: &'static [Self] = &[0; 1_024];
 
     fn canary(place: usize) -> Self {
         0xA500_0000 ^ (place as u32).wrapping_mul(0x9E37_79B1)
@@ -30,6 +34,7 @@ impl Lent for u32 {
 
 impl Lent for u8 {
     const ROW: usize = packer::BYTES;
+    const ZEROS: &'static [Self] = &[0; 4_096];
 
     fn canary(place: usize) -> Self {
         (u32::canary(place) >> 13) as u8
@@ -76,6 +81,18 @@ impl<T: Lent> Room<T> {
             && self.held[rest.clone()] == self.untouched[rest]
     }
 
+    /// Whether, of `length` lent, the first are these, and all else is as it was.
+    pub fn holds(&self, some: &[T], length: usize) -> bool {
+        self.front(some.len()) == some && self.rest_is_untouched(length, some.len())
+    }
+
+    /// Whether all that was lent holds zeros, and the guards are as they were.
+    pub fn is_zeroed(&self, length: usize) -> bool {
+        let mut blocks = self.front(length).chunks(T::ZEROS.len());
+        blocks.all(|block| *block == T::ZEROS[..block.len()])
+            && self.rest_is_untouched(length, length)
+    }
+
     /// Of `length` lent, what is not as it was, by places from the first that was lent.
     pub fn changed(&self, length: usize) -> impl Iterator<Item = i64> + '_ {
         (0..length + 2 * GUARD)
@@ -87,6 +104,14 @@ impl<T: Lent> Room<T> {
     pub fn restore(&mut self, written: usize) {
         let end = GUARD + written;
         self.held[..end].copy_from_slice(&self.untouched[..end]);
+    }
+
+    /// Makes all as it was. Where the call did as it must, only the first `written` are not.
+    pub fn renew(&mut self, same: bool, written: usize) {
+        match same {
+            true => self.restore(written),
+            false => self.restore_all(),
+        }
     }
 
     /// Makes all as it was.

@@ -77,30 +77,35 @@ impl<'a> Fields<'a> {
         if scratch < LEAST_SCRATCH {
             return Err(Refusal::new(16, 0..0));
         }
-        let mut walk = Walk {
-            sound,
-            is_verbatim,
-            open: Vec::new(),
-            names: 0,
+        sound.resolve(field, is_verbatim, &sound.definitions())
+    }
+
+    /// Resolves every value in the order of the rows, with a flag for each, which is not 0 where its
+    /// field is verbatim, and so much scratch; or why none is.
+    pub fn resolve_all(
+        &self,
+        flags: &[u8],
+        scratch: usize,
+    ) -> Result<Vec<Result<Resolved, Refusal>>, Refusal> {
+        let sound = self.0.as_ref().map_err(|refusal| *refusal)?;
+        let mut rows: Vec<&usize> = sound.values.keys().collect();
+        rows.sort();
+        if flags.len() < rows.len() {
+            return Err(Refusal::new(17, 0..0));
+        }
+        if scratch < LEAST_SCRATCH {
+            return Err(Refusal::new(16, 0..0));
+        }
+        let definitions = sound.definitions();
+        let value = |(row, flag): (&usize, &u8)| {
+            sound.resolve(&sound.values[row], *flag != 0, &definitions)
         };
-        let walked = walk.field(field);
-        if let Err(Stop::Added(refusal)) = walked {
-            return Err(refusal);
-        }
-        let answer = sound.ask_the_rust(field, is_verbatim);
-        match (&answer, &walked) {
-            (Ok(_), Ok(())) => {}
-            (Err(rusts), Err(Stop::Rusts(walks))) if rusts == walks => {}
-            _ => panic!(
-                "the Rust's answer is {answer:?}, but the walk over the field ends with {walked:?}"
-            ),
-        }
-        answer.map(|resolved| Resolved {
-            names: walk.names,
-            ..resolved
-        })
+        Ok(rows.into_iter().zip(flags).map(value).collect())
     }
 }
+
+/// The value of each name, as `parse_field` is lent them.
+type Definitions<'d> = HashMap<&'d str, &'d Field<'d>>;
 
 impl<'a> Sound<'a> {
     fn new(given: Given<'a>) -> Result<Self, Refusal> {
@@ -152,12 +157,41 @@ impl<'a> Sound<'a> {
         })
     }
 
-    fn ask_the_rust(&self, field: &Field, is_verbatim: bool) -> Result<Resolved, Refusal> {
+    fn definitions(&self) -> Definitions<'_> {
         let value = |(name, row): (&&'a str, &usize)| (*name, &self.values[row]);
-        let definitions = self.definitions.iter().map(value).collect();
+        self.definitions.iter().map(value).collect()
+    }
+
+    fn resolve(
+        &self,
+        field: &Field,
+        is_verbatim: bool,
+        definitions: &Definitions,
+    ) -> Result<Resolved, Refusal> {
+        let mut walk = Walk {
+            sound: self,
+            is_verbatim,
+            open: Vec::new(),
+            names: 0,
+        };
+        let walked = walk.field(field);
+        if let Err(Stop::Added(refusal)) = walked {
+            return Err(refusal);
+        }
         let name = field_name(is_verbatim);
-        let chunks = with_months(&self.months, || parse_field(name, field, &definitions));
-        chunks.map(|chunks| laid(&chunks)).map_err(refusal)
+        let chunks = with_months(&self.months, || parse_field(name, field, definitions));
+        let answer = chunks.map(|chunks| laid(&chunks)).map_err(refusal);
+        match (&answer, &walked) {
+            (Ok(_), Ok(())) => {}
+            (Err(rusts), Err(Stop::Rusts(walks))) if rusts == walks => {}
+            _ => panic!(
+                "the Rust's answer is {answer:?}, but the walk over the field ends with {walked:?}"
+            ),
+        }
+        answer.map(|resolved| Resolved {
+            names: walk.names,
+            ..resolved
+        })
     }
 }
 

@@ -59,6 +59,12 @@ pub(crate) fn with_months<T>(months: &Months, call: impl FnOnce() -> T) -> T {
     answer
 }
 
+/// Calls with these month words and their texts lent.
+pub fn lending_months<T>(months: &[(&str, &str)], call: impl FnOnce() -> T) -> T {
+    let month = |(word, text): &(&str, &str)| (word.to_string(), kept(text));
+    with_months(&months.iter().map(month).collect(), call)
+}
+
 /// The text of a month word, and its number from 0, which nobody asks for. Of equal words the first
 /// counts.
 ///

@@ -6,19 +6,27 @@ use oracle::{Fields, Given, Refusal, Resolved, LEAST_SCRATCH};
 const WORDS: &[u8] = b"mayMaymayMai";
 const MONTHS: [u32; 8] = [0, 3, 3, 6, 6, 9, 9, 12];
 
-/// The first value of a file, not verbatim.
-fn first(file: &str) -> Result<Resolved, Refusal> {
+/// The rows of a file that the Rust reads, as numbers.
+fn numbers(file: &str) -> Vec<u32> {
     let rows = oracle::read(file.as_bytes()).expect("the Rust reads it");
-    let which = rows.iter().position(|row| row.kind == 5).expect("a value");
     let numbers = |row: &oracle::Row| [row.kind, row.detail, row.start, row.end];
-    let rows: Vec<u32> = rows.iter().flat_map(numbers).collect();
-    let given = Given {
+    rows.iter().flat_map(numbers).collect()
+}
+
+fn fields<'a>(file: &'a str, rows: &'a [u32]) -> Fields<'a> {
+    Fields::new(Given {
         file: file.as_bytes(),
-        rows: &rows,
+        rows,
         months: &MONTHS,
         words: WORDS,
-    };
-    Fields::new(given).resolve(which, false, LEAST_SCRATCH)
+    })
+}
+
+/// The first value of a file, not verbatim.
+fn first(file: &str) -> Result<Resolved, Refusal> {
+    let rows = numbers(file);
+    let which = rows.chunks(4).position(|row| row[0] == 5).expect("a value");
+    fields(file, &rows).resolve(which, false, LEAST_SCRATCH)
 }
 
 fn refused(file: &str, number: u32, start: u32, end: u32) {
@@ -73,4 +81,25 @@ fn added_refusals() {
     assert!(first(&many(4_097)).is_err_and(|refusal| refusal.number == 15));
     let long = format!("@string{{b={{{}}}}}", "a".repeat(16_385));
     refused(&long, 1, 11, 11 + 16_385);
+}
+
+/// All values in the order of the rows, each as alone; and what refuses all of them.
+#[test]
+fn all_values() {
+    let file = "@b{k,t=a#{y},u=no,v={$}}@string{a={x}}";
+    let rows = numbers(file);
+    let fields = fields(file, &rows);
+    let all = fields.resolve_all(&[0, 0, 1, 0], LEAST_SCRATCH).unwrap();
+    let which = (0..rows.len() / 4).filter(|row| rows[4 * row] == 5);
+    for (which, (value, is_verbatim)) in which.zip(all.iter().zip([false, false, true, false])) {
+        assert_eq!(*value, fields.resolve(which, is_verbatim, LEAST_SCRATCH));
+    }
+    let accepted: Vec<bool> = all.iter().map(Result::is_ok).collect();
+    assert_eq!(accepted, [true, false, true, true]);
+    let refused = |number| {
+        let (start, end) = (0, 0);
+        Err(Refusal { number, start, end })
+    };
+    assert_eq!(fields.resolve_all(&[0; 3], 0), refused(17));
+    assert_eq!(fields.resolve_all(&[0; 4], LEAST_SCRATCH - 1), refused(16));
 }

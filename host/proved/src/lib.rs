@@ -1,8 +1,10 @@
 //! Safe wrappers over the proved library's C functions, as include/bib.h declares them.
 
+mod filing;
 mod resolving;
 mod writing;
 
+pub use filing::{resolve_file, Filed, LentForFile, ANSWER_NUMBERS};
 pub use resolving::{
     resolve_field, resolve_literal, File, Lent, Resolved, LEAST_SCRATCH, MOST_LITERAL,
 };

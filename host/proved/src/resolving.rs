@@ -69,14 +69,16 @@ pub struct Resolved {
     pub end: u64,
 }
 
-/// What an answer holds before the call, so that a number which is not set shows.
+/// What an answer's numbers hold before the call, so that one which is not set shows.
+pub(crate) const NOT_SET: u64 = 0xDEAD_BEEF_DEAD_BEEF;
+
 const UNSET: Resolved = Resolved {
-    number: 0xDEAD_BEEF,
-    count: 0xDEAD_BEEF_DEAD_BEEF,
-    bytes: 0xDEAD_BEEF_DEAD_BEEF,
-    names: 0xDEAD_BEEF_DEAD_BEEF,
-    start: 0xDEAD_BEEF_DEAD_BEEF,
-    end: 0xDEAD_BEEF_DEAD_BEEF,
+    number: NOT_SET as u32,
+    count: NOT_SET,
+    bytes: NOT_SET,
+    names: NOT_SET,
+    start: NOT_SET,
+    end: NOT_SET,
 };
 
 impl Resolved {
@@ -103,6 +105,33 @@ impl Resolved {
     }
 }
 
+/// Calls a function that resolves with what it is given, and behind that with what it is lent and the
+/// numbers that come back, which both functions have.
+macro_rules! resolve {
+    ($function:ident($($given:expr),*), $lent:expr) => {{
+        let mut answer = UNSET;
+        // SAFETY: the pointers are of slices and of numbers that live through the call, each slice
+        // with its own length, and the function asks for nothing else.
+        answer.number = unsafe {
+            $function(
+                $($given,)*
+                $lent.scratch.as_mut_ptr(),
+                $lent.scratch.len(),
+                $lent.chunks.as_mut_ptr(),
+                $lent.chunks.len(),
+                $lent.text.as_mut_ptr(),
+                $lent.text.len(),
+                &mut answer.count,
+                &mut answer.bytes,
+                &mut answer.names,
+                &mut answer.start,
+                &mut answer.end,
+            )
+        };
+        answer
+    }};
+}
+
 /// Resolves the literal that stands in a file from a byte up to another, of a verbatim field unless
 /// `verbatim` is 0. Any ends and any room will do; the scratch holds zeros afterwards.
 pub fn resolve_literal(
@@ -112,30 +141,10 @@ pub fn resolve_literal(
     verbatim: u32,
     lent: &mut Lent,
 ) -> Resolved {
-    let mut answer = UNSET;
-    // SAFETY: the pointers are of slices and of numbers that live through the call, each slice with
-    // its own length, and the function asks for nothing else.
-    answer.number = unsafe {
-        bib_resolve_literal(
-            file.as_ptr(),
-            file.len(),
-            from,
-            to,
-            verbatim,
-            lent.scratch.as_mut_ptr(),
-            lent.scratch.len(),
-            lent.chunks.as_mut_ptr(),
-            lent.chunks.len(),
-            lent.text.as_mut_ptr(),
-            lent.text.len(),
-            &mut answer.count,
-            &mut answer.bytes,
-            &mut answer.names,
-            &mut answer.start,
-            &mut answer.end,
-        )
-    };
-    answer
+    resolve!(
+        bib_resolve_literal(file.as_ptr(), file.len(), from, to, verbatim),
+        lent
+    )
 }
 
 /// A file with its rows, and month words: four numbers each, which say where the word begins and
@@ -151,9 +160,7 @@ pub struct File<'a> {
 /// Resolves the value whose row is number `which` of a file's rows, from 0, of a verbatim field
 /// unless `verbatim` is 0. Any numbers and any room will do; the scratch holds zeros afterwards.
 pub fn resolve_field(file: File, which: usize, verbatim: u32, lent: &mut Lent) -> Resolved {
-    let mut answer = UNSET;
-    // SAFETY: as above.
-    answer.number = unsafe {
+    resolve!(
         bib_resolve_field(
             file.bytes.as_ptr(),
             file.bytes.len(),
@@ -164,19 +171,8 @@ pub fn resolve_field(file: File, which: usize, verbatim: u32, lent: &mut Lent) -
             file.months.as_ptr(),
             file.months.len(),
             file.words.as_ptr(),
-            file.words.len(),
-            lent.scratch.as_mut_ptr(),
-            lent.scratch.len(),
-            lent.chunks.as_mut_ptr(),
-            lent.chunks.len(),
-            lent.text.as_mut_ptr(),
-            lent.text.len(),
-            &mut answer.count,
-            &mut answer.bytes,
-            &mut answer.names,
-            &mut answer.start,
-            &mut answer.end,
-        )
-    };
-    answer
+            file.words.len()
+        ),
+        lent
+    )
 }

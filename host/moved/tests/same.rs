@@ -1,0 +1,75 @@
+//! The program says the same over the original and over the proved library.
+
+use std::path::Path;
+
+use cases::{Grammar, Random};
+
+/// Compares; whether both could be asked.
+fn compare(source: &str) -> bool {
+    let Some([original, ours]) = moved::both(source) else {
+        return false;
+    };
+    assert!(original == ours, "{source}: {original:?} and {ours:?}");
+    true
+}
+
+#[test]
+fn on_fields_made_by_hand() {
+    let original = moved::with_months(moved::original::made_by_hand);
+    assert_eq!(original, moved::ours::made_by_hand());
+}
+
+#[test]
+fn on_the_examples() {
+    let folder = Path::new(env!("CARGO_MANIFEST_DIR")).join("../../examples");
+    let mut compared = 0;
+    for file in cases::files(&[folder]) {
+        // A source is text: what is not UTF-8 has no place here.
+        if let Ok(source) = std::str::from_utf8(&file) {
+            compared += usize::from(compare(source));
+        }
+    }
+    assert!(compared > 50, "only {compared} examples were compared");
+}
+
+/// What strict reading takes, with names in every order, and what it does not.
+const SOURCES: [&str; 16] = [
+    "",
+    "@preamble{\"a\"} @preamble{ {b} } @preamble{\"c\"}",
+    "@a{k,}",
+    "@a{k}",
+    "@a{k,t=}",
+    "@a{k,y=1.2.3}",
+    "@a{k, t = {x\\}y} }",
+    "@string{a={x}}@b{k,t=a#{y}#may}@string{a={{z}}#b}@string{b=jan}",
+    "@string{a={{x}}}@b{k,t={{y}}#a#{{z}}#a#{$m$}#a}",
+    "@b{k,t=a#{y},u={$}#a,v=\"}\",w={\\'}#{e}}",
+    "@b{k,url={\\%--$},file=a#{\\'e}}@string{a={\\'e}}",
+    "@string{\u{e9}={x},e\u{301}={y}}@b{k,t=\u{e9}#e\u{301}#\u{e8}}",
+    "@b{k,T={\\'{\\i} --- \\\"o {\\emph{a {b}}} $x_1$},URL={\\'e},y=1998#{ }#12}",
+    "@string{a={}}@b{k,t=a#a,u={}#a#{},v={{}}#a}",
+    "@a{k,t={a\n  b\r\n\r\nc}}",
+    "@comment{x} text @b{k, t = {a},, }",
+];
+
+#[test]
+fn on_sources() {
+    let compared = SOURCES.into_iter().filter(|source| compare(source));
+    assert_eq!(compared.count(), SOURCES.len());
+}
+
+/// Files drawn by the grammar of .bib files.
+#[test]
+fn on_drawn_files() {
+    let (mut random, mut file) = (Random::new(1, 22), Vec::new());
+    let mut compared = 0;
+    for _ in 0..3_000 {
+        file.clear();
+        let (random, out, odd) = (&mut random, &mut file, usize::MAX);
+        Grammar { random, out, odd }.file(20);
+        if let Ok(source) = std::str::from_utf8(&file) {
+            compared += usize::from(compare(source));
+        }
+    }
+    assert!(compared > 2_000, "only {compared} files were compared");
+}

@@ -1,0 +1,110 @@
+//! Fields that no file has: made by hand, standing anywhere, with nothing in them, and past the limits.
+
+use std::collections::HashMap;
+
+use biblatex_shapes::raw::{Field, ParseErrorKind, RawBibliography, RawChunk};
+use biblatex_shapes::resolve::parse_field;
+use biblatex_shapes::{Chunk, ChunksExt, Span, Spanned};
+
+fn literal(text: &str, start: usize) -> Spanned<RawChunk<'_>> {
+    Spanned::new(RawChunk::Normal(text), start..start + text.len())
+}
+
+fn name(text: &str, start: usize) -> Spanned<RawChunk<'_>> {
+    Spanned::new(RawChunk::Abbreviation(text), start..start + text.len())
+}
+
+fn normal(text: &str, span: Span) -> Spanned<Chunk> {
+    Spanned::new(Chunk::Normal(text.into()), span)
+}
+
+#[test]
+fn places() {
+    let (a, b) = (vec![literal("x{y}", 500)], vec![name("a", 40)]);
+    let map = HashMap::from([("a", &a), ("b", &b)]);
+    let field = vec![literal("", 7), name("b", 1_000), literal("z", 3)];
+    let chunks = parse_field("title", &field, &map).unwrap();
+    let y = Spanned::new(Chunk::Verbatim("y".into()), 502..503);
+    assert_eq!(chunks, [normal("x", 7..501), y, normal("z", 3..4)]);
+    assert_eq!(chunks.span(), 7..4);
+    let month = parse_field("month", &vec![name("may", 9)], &map).unwrap();
+    assert_eq!(month, [normal("May", 9..12)]);
+}
+
+/// A definition without elements stands for nothing, and so does one that names only such.
+#[test]
+fn nothing() {
+    let (none, both) = (vec![], vec![name("none", 0), name("none", 5)]);
+    let map = HashMap::from([("none", &none), ("both", &both)]);
+    let resolved = |field: Field| parse_field("t", &field, &map).unwrap();
+    assert_eq!(resolved(vec![]), []);
+    assert_eq!(resolved(vec![name("both", 0)]), []);
+    let around = vec![literal("{x}", 0), name("both", 10), literal("{y}", 20)];
+    let x = Spanned::new(Chunk::Verbatim("x".into()), 1..2);
+    let y = Spanned::new(Chunk::Verbatim("y".into()), 21..22);
+    assert_eq!(
+        resolved(around),
+        [normal("", 0..0), x, normal("", 20..20), y]
+    );
+    assert_eq!([].format_verbatim(), "");
+    assert_eq!([].to_biblatex_string(false), "{}");
+    assert_eq!([].span(), 0..0);
+}
+
+#[test]
+fn refusals() {
+    let refused = |field: Field, map: &HashMap<&str, &Field>| {
+        let error = parse_field("title", &field, map).unwrap_err();
+        (error.kind, error.span)
+    };
+    let none = HashMap::new();
+    let unknown = ParseErrorKind::UnknownAbbreviation("b".into());
+    assert_eq!(refused(vec![name("b", 9)], &none), (unknown, 9..10));
+    let eof = (ParseErrorKind::UnexpectedEof, 5..5);
+    assert_eq!(refused(vec![literal("a$b", 2)], &none), eof);
+    assert_eq!(refused(vec![literal("", 9), literal("$", 4)], &none), eof);
+    let cycle = vec![name("a", 30)];
+    let map = HashMap::from([("a", &cycle)]);
+    let cyclic = ParseErrorKind::CyclicAbbreviation("a".into());
+    assert_eq!(refused(vec![name("a", 9)], &map), (cyclic, 30..31));
+    let long = "x".repeat(16_385);
+    let too_long = (ParseErrorKind::TooLong, 8..8 + 16_385);
+    assert_eq!(refused(vec![literal(&long, 8)], &none), too_long);
+    let deep = "\\x{".repeat(65) + &"}".repeat(65);
+    let brace = 1 + 3 * 64 + 2;
+    let too_deep = (ParseErrorKind::TooDeep, brace..brace + 1);
+    assert_eq!(refused(vec![literal(&deep, 1)], &none), too_deep);
+    let many = vec![name("may", 0); 4_097];
+    assert_eq!(refused(many, &none), (ParseErrorKind::TooManyNames, 0..3));
+}
+
+/// More than is lent at first.
+#[test]
+fn long_answers() {
+    let long = vec![literal("{a}b", 0); 200];
+    let map = HashMap::from([("long", &long)]);
+    let chunks = parse_field("t", &vec![name("long", 0); 50], &map).unwrap();
+    assert_eq!(chunks.format_verbatim(), "ab".repeat(200 * 50));
+}
+
+#[test]
+fn too_long_a_source() {
+    let source = " ".repeat(16_777_216);
+    let error = RawBibliography::parse(&source).unwrap_err();
+    assert_eq!((error.kind, error.span), (ParseErrorKind::TooLong, 0..0));
+}
+
+/// Spanned values are changed and shown as in the original.
+#[test]
+fn spanned() {
+    let spanned = Spanned::new(1, 2..3);
+    assert_eq!(spanned.as_ref().map(|one| one + 1), Spanned::new(2, 2..3));
+    assert_eq!(format!("{spanned:?} {spanned:#?}"), "1 1 <2..3>");
+    assert!(Spanned::detached(()).is_detached());
+    assert!(!Spanned::zero(()).is_detached());
+    let mut chunk = Chunk::Verbatim("a_b".into());
+    assert_eq!(chunk.to_biblatex_string(false), "a\\_b");
+    chunk.get_mut().push('$');
+    assert_eq!(chunk.get(), "a_b$");
+    assert_eq!(Chunk::Math("a_b".into()).to_biblatex_string(false), "a_b");
+}
