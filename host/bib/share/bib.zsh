@@ -6,10 +6,20 @@ _bib_lints() {
     _values -s , 'warning' $names
 }
 
+# The keys of the file, which are the last words of the lines that are not fields.
+_bib_keys() {
+    local -a keys
+    keys=(${(f)"$(bib show -- $words[2] 2>/dev/null | sed -n 's/^[^ ][^ ]* \([^ ][^ ]*\)$/\1/p')"})
+    compadd -a keys
+}
+
 _bib() {
     local -a works
     works=(
         'check:what is wrong in each file'
+        'show:the entries of a file, or those of some keys, resolved'
+        'write:each entry again as BibTeX, resolved'
+        'resolve:every value of a file, resolved, for scripts'
         'rows:the rows of a file, read strictly'
         'salvage:the rows of a file, read piece by piece'
         'pack:the rows of a file in seven bytes each'
@@ -28,12 +38,21 @@ _bib() {
             '*--deny[makes errors of these warnings]:warning:_bib_lints' \
             '--strict[exit status 1 for warnings too]' \
             '--all[shows every warning]' \
-            '--list[explains every warning]' \
+            '--no-resolve[leaves out what only resolving refuses]' \
+            '--list[explains every warning and error]' \
             '--json[a JSON object for each finding]' \
             '(-q --quiet)'{-q,--quiet}'[no output, only the exit status]' \
             '--color[when to use colour]:when:(auto always never)' \
             '--help[what can be asked]' \
             '*:file:_files'
+    elif [[ $words[1] == resolve ]]; then
+        _arguments \
+            '--verbatim[which values are verbatim]:which:(none all names)' \
+            '--months[the months that are known]:which:(none english)' \
+            '--help[what can be asked]' \
+            ':file:_files'
+    elif [[ $words[1] == show ]]; then
+        _arguments '--help[what can be asked]' ':file:_files' '*:key:_bib_keys'
     else
         _arguments '--help[what can be asked]' ':file:_files'
     fi

@@ -1,8 +1,8 @@
 //! What is wrong in a file, in words for its author.
 //!
-//! The proved reader alone judges what is read. A file that strict reading accepts has no errors;
-//! of another one salvage tells the damaged pieces, which are the errors. Warnings are about what
-//! is read, but surely not meant.
+//! The proved library alone judges. Errors are what it refuses: a file that strict reading accepts has
+//! none in reading, of another one salvage tells the damaged pieces; and then what is refused where the
+//! values that were read are resolved. Warnings are about what is read, but surely not meant.
 //!
 //! ```
 //! let mut seen = Vec::new();
@@ -20,6 +20,8 @@ mod cursor;
 mod damage;
 mod encoding;
 mod entries;
+mod errors;
+mod explain;
 mod finding;
 mod hints;
 mod items;
@@ -27,18 +29,24 @@ mod lines;
 mod outside;
 mod text;
 mod trace;
+mod unresolved;
+mod values;
 
+pub use errors::{AboutError, ERRORS};
+pub use explain::Explainer;
 pub use finding::{About, Code, Finding, Level, Lint, LINTS};
 pub use items::{Item, Items, What};
 pub use lines::{Line, Lines};
+pub use unresolved::Unresolved;
 
 use std::cell::OnceCell;
 use std::collections::TryReserveError;
 
-use crate::{Kind, Reason, Refusal, Rows};
+use crate::{Kind, Reason, Refusal, ResolvedFile, Rows};
 use encoding::{Encoding, Format};
 use entries::Repeats;
 use text::field_in_value;
+use values::Values;
 
 /// What a file has.
 #[derive(Debug, Clone, Copy, PartialEq, Eq, Default)]
@@ -76,26 +84,28 @@ pub fn check<E>(
     file: &[u8],
     say: impl FnMut(&Finding, &Lines) -> Result<(), E>,
 ) -> Result<Counts, Stop<E>> {
-    check_reading(file, &Reading::of(file), say)
+    check_reading(file, &Reading::resolved(file), say)
 }
 
-/// The same, where the file has been read.
+/// The same, where the file has been read, and resolved if that is wanted.
 pub fn check_reading<E>(
     file: &[u8],
     reading: &Result<Reading, Refusal>,
     say: impl FnMut(&Finding, &Lines) -> Result<(), E>,
 ) -> Result<Counts, Stop<E>> {
-    let Reading { rows, is_cut } = match reading {
+    let reading = match reading {
         Ok(reading) => reading,
         Err(refusal) if refusal.reason == Reason::TooLong => {
             return too_long(say, *refusal).map_err(Stop::Caller)
         }
         Err(refusal) => return Err(Stop::Refused(*refusal)),
     };
+    let rows = &reading.rows;
     let mut checker = Checker {
         file,
         rows,
-        is_cut: *is_cut,
+        is_cut: reading.is_cut,
+        values: Values::of(file, reading)?,
         keys: Repeats::in_file(file, rows, Kind::Key)?,
         names: Repeats::in_file(file, rows, Kind::DefinitionName)?,
         encoding: Encoding::of(file, rows),
@@ -121,6 +131,8 @@ pub struct Reading {
     pub rows: Rows,
     /// Strict reading accepts the file, but salvage would cut it inside an entry.
     pub is_cut: bool,
+    /// The values that cannot be resolved, in the order of their rows; none before they are.
+    pub unresolved: Vec<Unresolved>,
 }
 
 impl Reading {
@@ -130,12 +142,37 @@ impl Reading {
         let rows = crate::salvage(file)?;
         let is_damaged = rows.iter().any(|row| row.kind == Kind::Damage);
         let is_cut = is_damaged && crate::accepts(file);
-        if !is_cut {
-            return Ok(Self { rows, is_cut });
+        if is_cut {
+            drop(rows);
+            return Ok(Self::new(crate::read(file)?, is_cut));
         }
-        drop(rows);
-        let rows = crate::read(file)?;
-        Ok(Self { rows, is_cut })
+        Ok(Self::new(rows, is_cut))
+    }
+
+    /// A reading of which is known what cannot be resolved.
+    pub fn resolved(file: &[u8]) -> Result<Self, Refusal> {
+        let mut reading = Self::of(file)?;
+        // A file that is all damage needs no memory for it.
+        if reading.rows.iter().any(|row| row.kind == Kind::Value) {
+            reading.resolve(file)?;
+        }
+        Ok(reading)
+    }
+
+    fn new(rows: Rows, is_cut: bool) -> Self {
+        Self {
+            rows,
+            is_cut,
+            unresolved: Vec::new(),
+        }
+    }
+
+    /// Resolves every value that was read: with the English months, and with the fields of
+    /// [`is_verbatim_field`](crate::is_verbatim_field) as verbatim ones. Damaged pieces count as blanks.
+    pub fn resolve(&mut self, file: &[u8]) -> Result<ResolvedFile, Refusal> {
+        let resolved = unresolved::resolve(file, &self.rows)?;
+        self.unresolved = Unresolved::all(&self.rows, &resolved)?;
+        Ok(resolved)
     }
 }
 
@@ -163,6 +200,7 @@ pub(crate) struct Checker<'a, S> {
     file: &'a [u8],
     rows: &'a Rows,
     is_cut: bool,
+    values: Values<'a>,
     keys: Repeats,
     names: Repeats,
     encoding: Encoding,

@@ -15,17 +15,20 @@ pub struct Resolved {
 
 impl Resolved {
     /// What an answer that accepts has in the room that was lent for rows and text.
-    pub(crate) fn new(mut rows: Vec<u32>, mut bytes: Vec<u8>, answer: proved::Resolved) -> Self {
-        bytes.truncate(answer.bytes as usize);
-        bytes.shrink_to_fit();
-        rows.truncate(answer.count as usize * NUMBERS);
-        rows.shrink_to_fit();
+    pub(crate) fn new(rows: Vec<u32>, bytes: Vec<u8>, answer: proved::Resolved) -> Self {
         Self {
-            text: text(bytes),
-            rows,
+            text: text(written(bytes, answer.bytes as usize)),
+            rows: written(rows, answer.count as usize * NUMBERS),
             names: answer.names as usize,
         }
     }
+}
+
+/// The written beginning of what was lent, and no more memory than that takes.
+pub(crate) fn written<T>(mut lent: Vec<T>, count: usize) -> Vec<T> {
+    lent.truncate(count);
+    lent.shrink_to_fit();
+    lent
 }
 
 /// The braces around a BibLaTeX string, and the extra one that may be open at its end.

@@ -1,5 +1,5 @@
 //! Reads .bib files by the proved library: strictly, or piece by piece; packs their rows, and
-//! unpacks them; resolves literals and fields into chunks; and writes chunks.
+//! unpacks them; resolves literals, fields and all values of a file into chunks; and writes chunks.
 //!
 //! Each function lends the proved one what its answer can need, and answers with just that, or with
 //! the refusal: what is wrong, and where. Refusal 16 means that there was not enough
@@ -14,6 +14,8 @@
 
 pub mod check;
 mod chunk;
+mod fields;
+mod filed;
 mod memory;
 mod months;
 mod refusal;
@@ -21,6 +23,8 @@ mod room;
 mod row;
 
 pub use chunk::Resolved;
+pub use fields::{is_verbatim_field, verbatim_flags, ENGLISH_MONTHS};
+pub use filed::{ResolvedFile, ResolvedValue};
 pub use refusal::{Reason, Refusal};
 pub use row::{Kind, Row, Rows};
 
@@ -150,6 +154,34 @@ pub fn resolve_field(
             None => room.grow()?,
         }
     }
+}
+
+/// Resolves every value of a file, each as [`resolve_field`] does, in one call that checks the file and
+/// finds its definitions once. The flags say of each value, in the order of the rows, whether its field
+/// is verbatim. A value that is refused has its refusal in the answer and stops no other.
+///
+/// ```
+/// let file = b"@string{a={x}}@b{k,t=a#{y},u=b}";
+/// let rows = bib::read(file).unwrap();
+/// let resolved = bib::resolve_file(file, rows.numbers(), &[false; 3], &[]).unwrap();
+/// let texts: Vec<_> = resolved.iter().map(|value| value.map(|value| value.text)).collect();
+/// assert_eq!(texts[..2], [Ok("x"), Ok("xy")]);
+/// assert_eq!(texts[2].unwrap_err().reason, bib::Reason::UnknownAbbreviation);
+/// ```
+pub fn resolve_file(
+    file: &[u8],
+    rows: &[u32],
+    flags: &[bool],
+    months: &[(&str, &str)],
+) -> Result<ResolvedFile, Refusal> {
+    let (months, words) = months::lent(months).ok_or(Refusal::NO_MEMORY)?;
+    let lent = File {
+        bytes: file,
+        rows,
+        months: &months,
+        words: &words,
+    };
+    filed::resolve(lent, flags)
 }
 
 /// A file of n bytes has at most n + 1 rows (`EnoughRoom` of crates/bib/specs/EnoughRoom.antt).

@@ -121,6 +121,15 @@ impl Refusal {
         }
     }
 
+    /// What is wrong. A literal may be too long, or the file.
+    pub fn what(&self) -> &'static str {
+        if self.is_long_literal() {
+            "a literal is longer than 16,384 bytes"
+        } else {
+            self.reason.what()
+        }
+    }
+
     /// Whether it is a literal that is too long, and not the file: that has 0..0.
     fn is_long_literal(&self) -> bool {
         self.reason == Reason::TooLong && self.end > 0
@@ -129,11 +138,7 @@ impl Refusal {
 
 impl fmt::Display for Refusal {
     fn fmt(&self, f: &mut fmt::Formatter<'_>) -> fmt::Result {
-        if self.is_long_literal() {
-            f.write_str("a literal is longer than 16,384 bytes")?;
-        } else {
-            f.write_str(self.reason.what())?;
-        }
+        f.write_str(self.what())?;
         if self.reason.has_place() || self.is_long_literal() {
             write!(f, " at byte {}", self.start)?;
         }

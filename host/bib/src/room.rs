@@ -1,5 +1,5 @@
-//! The room for a field's chunks and text. How much it needs is not known before its names are
-//! resolved, so that it grows until it is enough.
+//! The room for the chunks and the text of a field, or of all fields. How much they need is not known
+//! before their names are resolved, so that it grows until it is enough.
 
 use proved::{File, Lent};
 
@@ -15,8 +15,10 @@ const FOR_NAMES: usize = 256;
 const MOST_WRITTEN: usize = 4_294_000_000;
 
 pub(crate) struct Room {
-    chunks: usize,
-    text: usize,
+    pub(crate) chunks: usize,
+    pub(crate) text: usize,
+    /// The chunks and the text that all literals of a file can need, where less is lent at first.
+    literals: Option<(usize, usize)>,
 }
 
 impl Room {
@@ -29,12 +31,39 @@ impl Room {
         Self {
             chunks: length + FOR_NAMES,
             text: 2 * length + FOR_NAMES,
+            literals: None,
+        }
+    }
+
+    /// At first for all values of a file: what its literals can come to, of which there is at most one to
+    /// a row. The call then sees by their lengths that it has room, and resolves each of them only once.
+    /// Memory is taken only as far as it is written.
+    pub(crate) fn sure(rows: usize, file: usize) -> Self {
+        Self {
+            chunks: file + rows + FOR_NAMES,
+            text: 2 * file + FOR_NAMES,
+            literals: None,
+        }
+    }
+
+    /// Where so much cannot be had: most values have one chunk or two, and less text than they have bytes.
+    pub(crate) fn of_all(values: usize, file: usize) -> Self {
+        Self {
+            chunks: 2 * values + FOR_NAMES,
+            text: file + FOR_NAMES,
+            literals: Some((file + FOR_NAMES, 2 * file + FOR_NAMES)),
         }
     }
 
     /// More of both, since the refusal does not say which was short. Where it is as much as is ever
     /// written there is no more.
     pub(crate) fn grow(&mut self) -> Result<(), Refusal> {
+        // Memory is taken only where something is written, but each try goes over all values.
+        if let Some((chunks, text)) = self.literals.take() {
+            self.chunks = self.chunks.max(chunks);
+            self.text = self.text.max(text);
+            return Ok(());
+        }
         if self.chunks >= MOST_WRITTEN && self.text >= MOST_WRITTEN {
             return Err(Refusal::NO_MEMORY);
         }

@@ -151,10 +151,12 @@ fn lints_of_lists_and_quotes() {
     assert_eq!(lints("@book{k, author = b # { and A}}"), []);
     lint(
         Lint::TypographicQuotes,
-        "@book{k, title = “T”}",
-        "1:18",
+        "@string{“T” = 1}@book{k, title = “T”}",
+        "1:34",
         "@book{k, title = {“T”}}",
     );
+    // Where the name is not defined, that is the error, and it is said once.
+    assert_eq!(lints("@book{k, title = “T”}"), []);
 }
 
 /// Strict reading takes the file, so that nothing is damaged.
@@ -212,7 +214,7 @@ fn hints(file: &str) -> Vec<String> {
 }
 
 /// A hint, a file that it is for, and one like it where it must not appear.
-const HINTS: [(&str, &str, &str); 50] = [
+const HINTS: [(&str, &str, &str); 51] = [
     (
         "the entry has no key: write `@article{KEY,` before its first field",
         "@article{\n  author = {A},\n}",
@@ -444,8 +446,13 @@ const HINTS: [(&str, &str, &str); 50] = [
     ),
     (
         "perhaps it is ISO-2022-JP: try `iconv -f ISO-2022-JP -t UTF-8`",
-        "@book{k, a = {\u{1b}$B4A;z\u{1b}(B}}",
+        "@book{k, url = {\u{1b}$B4A;z\u{1b}(B}}",
         "@book{k, a = {\u{1b}[2J}, a = 1}",
+    ),
+    (
+        "the value has escape sequences: the file may be ISO-2022-JP",
+        "@book{k, a = \"\u{1b}$x\"}",
+        "@book{k, a = {$x$}, a = 1}",
     ),
 ];
 
@@ -599,12 +606,16 @@ fn valid_bibtex_that_is_refused() {
         assert!(bib::accepts(accepted.as_bytes()), "{accepted}");
         assert!(hints(refused)[0].starts_with("BibTeX "), "{refused}");
     }
+    // Here it is resolving that refuses.
+    let definition = "@string{acm = {ACM}}@book{k, publisher = ";
+    assert!(hints(&format!("{definition}ACM}}"))[0].starts_with("BibTeX "));
+    assert!(hints(&format!("{definition}acm}}")).is_empty());
 }
 
 /// No bytes make it fail, and every place is one of the file.
 #[test]
 fn any_bytes() {
-    const PARTS: [&[u8]; 24] = [
+    const PARTS: [&[u8]; 28] = [
         b"@a{k,",
         b"@string{",
         b"@comment{",
@@ -629,6 +640,10 @@ fn any_bytes() {
         "“".as_bytes(),
         b"1.2",
         b"@",
+        b"$",
+        b"a = b # \"\\'{",
+        b"b = a",
+        b"url = ",
     ];
     let mut state = 5u64;
     let mut draw = |below: usize| {

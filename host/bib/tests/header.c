@@ -475,6 +475,147 @@ static void takes_nothing_to_resolve_in_fields(void)
     hold(resolved(&r, 1, ""), "a null file, and null text: an empty value");
 }
 
+/* What the call over a whole file is lent and hands back; all of it is marked first. */
+struct filing {
+    uint32_t status;
+    uint64_t count, chunk_rows, bytes, start, end;
+    uint8_t scratch[BIB_LEAST_SCRATCH + 1];
+    uint32_t heads[ROOM], next[ROOM], answers[ROOM], chunks[ROOM];
+    uint8_t text[32];
+};
+
+/* The lengths that are lent. */
+struct lengths {
+    size_t flags, scratch, heads, next, answers, chunks, text;
+};
+
+static const struct lengths all_lengths = {2, BIB_LEAST_SCRATCH, BIB_GOOD_HEADS(11), 11, 12, 10, 6};
+
+static void resolve_all(struct filing *f, uint32_t months, struct lengths l)
+{
+    static const uint8_t flags[] = {0, 1};
+    const size_t rows = sizeof names_rows / sizeof *names_rows;
+    memset(f, 0xA5, sizeof *f);
+    f->status = bib_resolve_file((const uint8_t *)names_file, strlen(names_file), names_rows, rows, flags, l.flags, names_months, months,
+                                 (const uint8_t *)"mayMay", 6, f->scratch, l.scratch, f->heads, l.heads, f->next, l.next, f->answers,
+                                 l.answers, f->chunks, l.chunks, f->text, l.text, &f->count, &f->chunk_rows, &f->bytes, &f->start, &f->end);
+}
+
+/* Whether the first numbers are zeros, and the others as they were. */
+static int cleared(const uint32_t *numbers, size_t length)
+{
+    for (size_t i = 0; i < length; i++)
+        if (numbers[i] != 0)
+            return 0;
+    return untouched(numbers, length);
+}
+
+static int left_clean(const struct filing *f, struct lengths l)
+{
+    for (size_t i = 0; i < l.scratch; i++)
+        if (f->scratch[i] != 0)
+            return 0;
+    return f->scratch[l.scratch] == 0xA5 && cleared(f->heads, l.heads) && cleared(f->next, l.next);
+}
+
+/* Whether it accepts with two values, these numbers and this text. */
+static int filed(const struct filing *f, struct lengths l, const uint32_t answers[12], uint64_t rows, const uint32_t *chunks,
+                 const char *string)
+{
+    const size_t numbers = (size_t)rows * BIB_CHUNK_NUMBERS;
+    return f->status == BIB_OK && f->count == 2 && f->chunk_rows == rows && f->bytes == strlen(string) && f->start == 0 && f->end == 0
+           && memcmp(f->answers, answers, 12 * sizeof *answers) == 0 && untouched(f->answers, 12)
+           && memcmp(f->chunks, chunks, numbers * sizeof *chunks) == 0 && untouched(f->chunks, numbers) && holds(f->text, string)
+           && left_clean(f, l);
+}
+
+static int filing_refused(const struct filing *f, struct lengths l, uint32_t status)
+{
+    return f->status == status && f->count == 0 && f->chunk_rows == 0 && f->bytes == 0 && f->start == 0 && f->end == 0
+           && untouched(f->answers, 0) && untouched(f->chunks, 0) && holds(f->text, "") && left_clean(f, l);
+}
+
+static void resolves_files(void)
+{
+    static const uint32_t both[] = {0, 2, 0, 1, 0, 5, 0, 0, 1, 2, 5, 6};
+    static const uint32_t chunks[] = {BIB_NORMAL, 0, 5, 28, 16, BIB_NORMAL, 0, 1, 28, 29};
+    static const uint32_t one[] = {BIB_UNKNOWN_ABBREVIATION, 0, 13, 16, 0, 0, 0, 0, 0, 1, 0, 1};
+    static const size_t buckets[] = {0, 1, 2, ROOM};
+    struct lengths l = all_lengths;
+    struct filing f;
+    resolve_all(&f, BIB_MONTH_NUMBERS, l);
+    hold(filed(&f, l, both, 2, chunks, "xyMayx"), "all values, in exactly the room");
+    for (size_t i = 0; i < sizeof buckets / sizeof *buckets; i++) {
+        l.heads = buckets[i];
+        resolve_all(&f, BIB_MONTH_NUMBERS, l);
+        hold(filed(&f, l, both, 2, chunks, "xyMayx"), "all values, whatever the number of buckets");
+    }
+    l = all_lengths;
+    l.next = 10;
+    resolve_all(&f, BIB_MONTH_NUMBERS, l);
+    hold(filed(&f, l, both, 2, chunks, "xyMayx"), "all values, without a number for each row");
+    l = (struct lengths){2, BIB_LEAST_SCRATCH, 3, ROOM, ROOM, ROOM, 32};
+    resolve_all(&f, BIB_MONTH_NUMBERS, l);
+    hold(filed(&f, l, both, 2, chunks, "xyMayx"), "all values, in more room");
+    resolve_all(&f, 0, l);
+    hold(filed(&f, l, one, 1, chunks + 5, "x"), "a value that is refused stops no other");
+}
+
+static void refuses_files(void)
+{
+    struct lengths l = all_lengths;
+    struct filing f;
+    l.answers = 11;
+    resolve_all(&f, BIB_MONTH_NUMBERS, l);
+    hold(filing_refused(&f, l, BIB_NO_ROOM), "a number too few for the answers");
+    l = all_lengths;
+    l.chunks = 9;
+    resolve_all(&f, BIB_MONTH_NUMBERS, l);
+    hold(filing_refused(&f, l, BIB_NO_ROOM), "a number too few for all chunks");
+    l = all_lengths;
+    l.text = 5;
+    resolve_all(&f, BIB_MONTH_NUMBERS, l);
+    hold(filing_refused(&f, l, BIB_NO_ROOM), "a byte too few for all text");
+    l = all_lengths;
+    l.scratch--;
+    resolve_all(&f, BIB_MONTH_NUMBERS, l);
+    hold(filing_refused(&f, l, BIB_NO_ROOM), "too little scratch for a file");
+    l.flags = 1;
+    resolve_all(&f, BIB_MONTH_NUMBERS, l);
+    hold(filing_refused(&f, l, BIB_BAD_ROWS), "a flag too few, before too little scratch");
+    l.flags = 2;
+    resolve_all(&f, BIB_MONTH_NUMBERS - 1, l);
+    hold(filing_refused(&f, l, BIB_BAD_ROWS), "no whole count of month words");
+}
+
+/* The chunk rows and the text of one value are what the writers take. */
+static void formats_a_value_of_a_file(void)
+{
+    struct filing f;
+    uint8_t bytes[32];
+    struct answer a = unset();
+    resolve_all(&f, BIB_MONTH_NUMBERS, all_lengths);
+    const uint32_t *value = f.answers + BIB_ANSWER_NUMBERS;
+    memset(bytes, 0xA5, 32);
+    a.status = bib_format_verbatim(f.text + value[4], value[5] - value[4], f.chunks + BIB_CHUNK_NUMBERS * value[2],
+                                   BIB_CHUNK_NUMBERS * (value[3] - value[2]), bytes, 32, &a.count, &a.start, &a.end);
+    hold(says(a, BIB_OK, 1, 0, 0) && holds(bytes, "x"), "the second value of a file, formatted");
+}
+
+static void takes_nothing_to_resolve_in_files(void)
+{
+    const struct lengths nothing = {0, 0, 0, 0, 0, 0, 0};
+    struct filing f;
+    memset(&f, 0xA5, sizeof f);
+    f.status = bib_resolve_file(NULL, 0, NULL, 0, NULL, 0, NULL, 0, NULL, 0, NULL, 0, NULL, 0, NULL, 0, NULL, 0, NULL, 0, NULL, 0, &f.count,
+                                &f.chunk_rows, &f.bytes, &f.start, &f.end);
+    hold(filing_refused(&f, nothing, BIB_NO_ROOM), "null everything, and so null scratch");
+    f.status = bib_resolve_file(NULL, 0, NULL, 0, NULL, 0, NULL, 0, NULL, 0, f.scratch, BIB_LEAST_SCRATCH, NULL, 0, NULL, 0, NULL, 0, NULL,
+                                0, NULL, 0, &f.count, &f.chunk_rows, &f.bytes, &f.start, &f.end);
+    hold(f.status == BIB_OK && f.count == 0 && f.chunk_rows == 0 && f.bytes == 0 && f.start == 0 && f.end == 0,
+         "null everything but scratch: no values");
+}
+
 int main(void)
 {
     reads();
@@ -496,6 +637,10 @@ int main(void)
     takes_nothing_to_resolve();
     resolves_fields();
     takes_nothing_to_resolve_in_fields();
+    resolves_files();
+    refuses_files();
+    formats_a_value_of_a_file();
+    takes_nothing_to_resolve_in_files();
     printf("%d passed, %d failed\n", passed, failed);
     return failed > 0;
 }

@@ -224,6 +224,58 @@ fn refused_fields() {
     assert_eq!(bib::resolve_field(b"x", &[0, 0, 0, 1], 0, false, &[]), bad);
 }
 
+/// Every value of a file is in the answer over the whole file as it is alone.
+#[test]
+fn resolved_files() {
+    let months = [("may", "May")];
+    let mut file = "@b{k,t=a#{\\'e},url={\\'e},m=may,n=no,o={$}}@string{a={{x}}}".to_string();
+    // More than is lent at first.
+    file += &format!("@string{{d0={{{}}}}}", "{x}y".repeat(100));
+    for i in 1..12 {
+        file += &format!("@string{{d{i}=d{0}#d{0}}}", i - 1);
+    }
+    let rows = bib::read(file.as_bytes()).unwrap();
+    let kinds = rows.iter().enumerate();
+    let values = kinds.filter(|(_, row)| row.kind == Kind::Value);
+    let values: Vec<usize> = values.map(|(which, _)| which).collect();
+    let flags: Vec<bool> = (0..values.len()).map(|value| value % 2 == 1).collect();
+    let resolved = bib::resolve_file(file.as_bytes(), rows.numbers(), &flags, &months).unwrap();
+    assert_eq!((resolved.len(), resolved.is_empty()), (values.len(), false));
+    for (number, value) in resolved.iter().enumerate() {
+        let (which, flag) = (values[number], flags[number]);
+        let alone = bib::resolve_field(file.as_bytes(), rows.numbers(), which, flag, &months);
+        let value = value.map(|value| Resolved {
+            text: value.text.into(),
+            rows: value.rows.into(),
+            names: value.names,
+        });
+        assert_eq!(value, alone);
+    }
+    assert_eq!(resolved.get(0).unwrap().unwrap().text, "xé");
+    assert_eq!(resolved.get(values.len()), None);
+}
+
+#[test]
+fn refused_files() {
+    let file = b"@b{k,t=a,u={x}}";
+    let rows = bib::read(file).unwrap();
+    let refused = |file: &[u8], rows: &[u32], flags: &[bool], want: Refusal| {
+        assert_eq!(bib::resolve_file(file, rows, flags, &[]), Err(want));
+    };
+    let bad = refusal(Reason::BadRows, 0, 0);
+    refused(file, rows.numbers(), &[false], bad);
+    refused(file, &rows.numbers()[1..], &[false; 2], bad);
+    refused(b"\xff", &[], &[], refusal(Reason::NotUtf8, 0, 0));
+    let long = vec![b' '; bib::MOST_BYTES + 1];
+    refused(&long, &[], &[], refusal(Reason::TooLong, 0, 0));
+    assert!(bib::resolve_file(b"", &[], &[], &[]).unwrap().is_empty());
+    // More flags than values are no harm.
+    let resolved = bib::resolve_file(file, rows.numbers(), &[true; 3], &[]).unwrap();
+    let unknown = refusal(Reason::UnknownAbbreviation, 7, 8);
+    assert_eq!(resolved.get(0), Some(Err(unknown)));
+    assert_eq!(resolved.get(1).unwrap().unwrap().rows, [0, 0, 1, 12, 13]);
+}
+
 #[test]
 fn refused_chunks() {
     let both = |text: &[u8], rows: &[u32], want: Refusal| {

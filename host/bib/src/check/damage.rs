@@ -125,8 +125,12 @@ pub(crate) fn whose(trace: &Trace, lines: &Lines, mark: usize) -> String {
     if !is_inside(trace.stage) {
         return String::new();
     }
-    let line = lines.number(trace.at);
-    let subject = subject(trace);
+    in_subject(&subject(trace), lines, trace.at, mark)
+}
+
+/// In what it is: the line on which that begins is said where the mark is on another.
+pub(crate) fn in_subject(subject: &str, lines: &Lines, at: usize, mark: usize) -> String {
+    let line = lines.number(at);
     if line == lines.number(mark) {
         format!(", in {subject}")
     } else {

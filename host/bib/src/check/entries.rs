@@ -103,6 +103,7 @@ impl<E, S: FnMut(&Finding, &super::Lines) -> Result<(), E>> Checker<'_, S> {
                 break;
             };
             let finding = match row.kind {
+                Kind::Value => self.value(index, item)?,
                 Kind::Key => self.key(index, row)?,
                 Kind::FieldName => {
                     field = Some(row);
@@ -126,6 +127,7 @@ impl<E, S: FnMut(&Finding, &super::Lines) -> Result<(), E>> Checker<'_, S> {
                 break;
             };
             let finding = match row.kind {
+                Kind::Value => self.value(index, item)?,
                 Kind::DefinitionName => self.definition(index, row)?,
                 Kind::Literal => self.literal(index, row, None),
                 Kind::Name => self.name(row),
@@ -240,7 +242,9 @@ impl<E, S: FnMut(&Finding, &super::Lines) -> Result<(), E>> Checker<'_, S> {
 
     fn name(&self, row: Row) -> Option<Finding> {
         let name = &self.file[row.span()];
-        is_typographic(name).then(|| {
+        // Where it cannot be resolved, that is said already.
+        let is_said = self.values.is_refused_at(row.start);
+        (is_typographic(name) && !is_said).then(|| {
             let message = format!("{} is taken for the name of a definition", self.shown(row));
             Finding::of_row(Lint::TypographicQuotes, row, message)
                 .with_hint(Some(TYPOGRAPHIC.into()))

@@ -120,8 +120,8 @@ pub const LINTS: [About; 14] = [
     About {
         lint: Lint::TypographicQuotes,
         name: "typographic-quotes",
-        meaning: "A value begins with a typographic quotation mark, which delimits nothing: the value is taken for the name of a definition.",
-        example: "@book{k, title = “T”}",
+        meaning: "A value begins with a typographic quotation mark, which delimits nothing: the value is taken for the name of a definition. Where that is not defined, it is an error.",
+        example: "@string{“T” = {T}}\n@book{k, title = “T”}",
     },
     About {
         lint: Lint::CutInside,

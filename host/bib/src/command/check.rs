@@ -4,6 +4,7 @@ use std::collections::HashMap;
 use std::io::{self, BufWriter, Stdout, Write};
 
 use bib::check::{self, Code, Finding, Level, Lines, Lint, Reading, Stop};
+use bib::Refusal;
 
 use crate::cut::Cut;
 use crate::folder;
@@ -16,8 +17,8 @@ use crate::turns::{Failed, Page, Sink, Turns};
 use crate::words::Asked;
 use crate::{say, Status, Trouble};
 
-/// A file of more bytes waits for its turn, so that one such file is in work at a time: reading
-/// takes up to 24 bytes of memory for each byte.
+/// A file of more bytes waits for its turn, so that one such file is in work at a time: reading and
+/// resolving take up to 48 bytes of memory for each byte.
 const LARGE: usize = 1 << 20;
 
 pub fn check(asked: &Asked, sources: Vec<Source>) -> Result<Status, Trouble> {
@@ -120,13 +121,21 @@ impl Checking<'_> {
             }
             page.write(&self.report.finding(source, finding, level, lines))
         };
-        let reading = Reading::of(file);
+        let reading = self.reading(file);
         let counts = check::check_reading(file, &reading, print)?;
         outcome.entries = counts.entries;
         if let Ok(reading) = &reading {
             outcome.keys = self.keys(file, reading)?;
         }
         Ok(())
+    }
+
+    fn reading(&self, file: &[u8]) -> Result<Reading, Refusal> {
+        if self.asked.no_resolve {
+            Reading::of(file)
+        } else {
+            Reading::resolved(file)
+        }
     }
 
     /// The keys, where those of several files are compared.

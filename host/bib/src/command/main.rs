@@ -2,6 +2,7 @@
 
 mod check;
 mod cut;
+mod entries;
 mod excerpt;
 mod folder;
 mod json;
@@ -10,6 +11,8 @@ mod near;
 mod print;
 mod progress;
 mod report;
+mod resolve;
+mod show;
 mod shown;
 mod source;
 mod style;
@@ -17,6 +20,7 @@ mod system;
 mod turns;
 mod width;
 mod words;
+mod write;
 
 use std::env;
 use std::io::{self, BufWriter, ErrorKind, Write};
@@ -94,6 +98,9 @@ fn run(words: Words) -> Result<Status, Trouble> {
             drop(out);
             return check::check(&asked, sources);
         }
+        Words::Show(source, keys) => show::show(&source, &keys, &mut out)?,
+        Words::Write(source) => write::write(&source, &mut out)?,
+        Words::Resolve(ways, source) => resolve::resolve(ways, &source, &mut out)?,
         Words::One(work, source) => one(work, &source, &mut out)?,
     };
     out.flush()?;

@@ -2,9 +2,13 @@
 
 /// The word of these that is nearest to the one given, if one is near.
 pub fn nearest<'a>(word: &str, known: impl IntoIterator<Item = &'a str>) -> Option<&'a str> {
-    let near = known.into_iter().map(|one| (distance(word, one), one));
-    let (distance, one) = near.min()?;
     let most = if word.len() < 5 { 1 } else { 2 };
+    let length = word.chars().count();
+    // There may be a million words, and most differ too much in length.
+    let known = known.into_iter();
+    let known = known.filter(|one| one.chars().count().abs_diff(length) <= most);
+    let near = known.map(|one| (distance(word, one), one));
+    let (distance, one) = near.min()?;
     (distance <= most).then_some(one)
 }
 

@@ -2,16 +2,21 @@
 
 use std::io::{self, Write};
 
-use bib::check::LINTS;
+use bib::check::{ERRORS, LINTS};
 use bib::{Refusal, Rows};
 
 use crate::shown;
 use crate::Status;
 
 const HELP: &str = "\
-Reads .bib files: every entry, name and field with its place, or what is wrong and where.
+Reads .bib files: every entry, name and field with its place and its resolved text, or what is
+wrong and where.
 
   bib check [FILE..]    what is wrong in each file, with the line and a mark under the place
+  bib show [FILE [KEY..]]
+                        the entries of a file, or those of the keys; names and accents resolved
+  bib write [FILE]      each entry again as BibTeX, names and accents resolved
+  bib resolve [FILE]    every value of a file, read strictly and resolved, for scripts
   bib rows [FILE]       the rows of a file, read strictly
   bib salvage [FILE]    the rows of a file, read piece by piece; damage stays where it is
   bib pack [FILE]       the rows of a file, read strictly, in seven bytes each
@@ -20,39 +25,66 @@ Reads .bib files: every entry, name and field with its place, or what is wrong a
   bib --version         the version
 
 No FILE, or -, is standard input. Of a folder, `bib check` takes all .bib files below it. After --
-every word is a file.
+every word is a file, or a key.
 
-Errors of `bib check` are what the reader refuses, with the number of the refusal; warnings are
-what is read but surely not meant, with a name:
+Errors of `bib check` are what is refused in reading and in resolving, with the number of the
+refusal; warnings are what is read but surely not meant, with a name:
 
   --allow NAME,..       silences these warnings
   --deny NAME,..        makes errors of them
   --strict              exit status 1 for warnings too
   --all                 shows every warning, not only the first 100 of a name in a file
-  --list                explains every warning, with an example
+  --no-resolve          leaves out what only resolving refuses, as names without a definition
+  --list                explains every warning and every error, with an example
   --json                a JSON object in a line for each finding, and nothing else
   --quiet, -q           no output, only the exit status
   --color WHEN          auto, always or never
+
+`bib show` and `bib write` say what they cannot read or resolve as `bib check` does, `bib write` on
+standard error. All three know the English months, and take these fields for verbatim ones: file,
+doi, uri, eprint, verba, verbb, verbc, pdf, url, urlraw. `bib resolve` knows what it is told:
+
+  --verbatim WHICH      the verbatim values: none, all, or names for those of the fields above
+  --months WHICH        the months that are known: none or english
+
+It prints a line `field xNAME START END` or `def xNAME START END` for each value, and then `refused
+NUMBER START END`; or `names N`, `chunk KIND xTEXT START END` for each chunk, and how these are
+written: `verbatim xTEXT`, and `bib0 xTEXT` and `bib1 xTEXT` as BibTeX, not verbatim and verbatim.
+Names and texts are in hex behind the x. The kinds of chunks: 0 normal, 1 verbatim, 2 formula.
 
 Rows are lines `kind detail start end`, and then `rows N`; places are bytes of the file. The kinds:
 0 preamble with its quotes, 1 entry, 2 entry type, 3 key, 4 field name, 5 value, 6 literal, 7 name,
 8 definition name, 9 damaged piece, 10 its cause, whose detail is the number of a refusal.
 A refusal is a line `refused NUMBER START END`; `bib pack` has it on standard error.
 
-Exit status: 0 sound, or with warnings alone; 1 something is wrong in a file; 2 a file cannot be
-read, memory is short, or the words are not known.
+Exit status: 0 sound, or with warnings alone; 1 something is wrong in a file, or it has no such key;
+2 a file cannot be read, memory is short, or the words are not known.
 ";
 
-/// Every lint, what it means, and a file that has it.
+/// Every lint and every error, what it means, and a file that has it.
 pub fn list(out: &mut impl Write) -> io::Result<Status> {
-    for (n, about) in LINTS.iter().enumerate() {
+    for about in &LINTS {
+        explained(about.name, about.meaning, about.example, out)?;
+        writeln!(out)?;
+    }
+    for (n, about) in ERRORS.iter().enumerate() {
         let between = if n > 0 { "\n" } else { "" };
-        writeln!(out, "{between}{}\n  {}", about.name, about.meaning)?;
-        for line in about.example.lines() {
-            writeln!(out, "    {}", shown::sentence(line))?;
-        }
+        let number = format!(
+            "{between}{}: {}",
+            about.reason.number(),
+            about.reason.what()
+        );
+        explained(&number, about.meaning, about.example, out)?;
     }
     Ok(Status::Sound)
+}
+
+fn explained(name: &str, meaning: &str, example: &str, out: &mut impl Write) -> io::Result<()> {
+    writeln!(out, "{name}\n  {meaning}")?;
+    for line in example.lines() {
+        writeln!(out, "    {}", shown::sentence(line))?;
+    }
+    Ok(())
 }
 
 pub fn help(out: &mut impl Write) -> io::Result<Status> {
@@ -73,10 +105,11 @@ pub fn refused(refusal: &Refusal) -> String {
 /// A line for each row, and one with their number.
 pub fn rows(rows: &Rows, out: &mut impl Write) -> io::Result<()> {
     let mut line = Vec::new();
+    let mut digits = [0; 10];
     for row in rows.numbers().chunks_exact(4) {
         line.clear();
         for (number, end) in row.iter().zip(*b"   \n") {
-            decimal(*number, &mut line);
+            line.extend_from_slice(decimal(*number, &mut digits));
             line.push(end);
         }
         out.write_all(&line)?;
@@ -85,8 +118,7 @@ pub fn rows(rows: &Rows, out: &mut impl Write) -> io::Result<()> {
 }
 
 /// By hand: with `write!` a run that prints sixteen million rows takes half as long again.
-fn decimal(number: u32, line: &mut Vec<u8>) {
-    let mut digits = [0; 10];
+pub fn decimal(number: u32, digits: &mut [u8; 10]) -> &[u8] {
     let mut first = digits.len();
     let mut rest = number;
     loop {
@@ -97,5 +129,5 @@ fn decimal(number: u32, line: &mut Vec<u8>) {
             break;
         }
     }
-    line.extend_from_slice(&digits[first..]);
+    &digits[first..]
 }

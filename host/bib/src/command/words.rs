@@ -26,9 +26,29 @@ pub struct Asked {
     pub levels: Levels,
     /// Every warning is shown, however many have one name.
     pub all: bool,
+    /// What was read is not resolved.
+    pub no_resolve: bool,
     pub json: bool,
     pub quiet: bool,
     pub color: Color,
+}
+
+/// Which values `bib resolve` takes for verbatim ones.
+#[derive(Debug, Clone, Copy, Default, PartialEq, Eq)]
+pub enum Verbatim {
+    #[default]
+    None,
+    All,
+    /// Those of the fields that the Rust lists.
+    Names,
+}
+
+/// How `bib resolve` is asked.
+#[derive(Debug, Clone, Copy, Default, PartialEq, Eq)]
+pub struct Ways {
+    pub verbatim: Verbatim,
+    /// The English months are known.
+    pub english: bool,
 }
 
 /// What is asked for.
@@ -38,58 +58,103 @@ pub enum Words {
     Version,
     List,
     Check(Asked, Vec<Source>),
+    /// The entries of a file, or those of these keys.
+    Show(Source, Vec<OsString>),
+    Write(Source),
+    Resolve(Ways, Source),
     One(Work, Source),
 }
 
-const WORKS: [&str; 5] = ["check", "rows", "salvage", "pack", "unpack"];
+const WORKS: [&str; 8] = [
+    "check", "show", "write", "resolve", "rows", "salvage", "pack", "unpack",
+];
 
-const OPTIONS: [&str; 9] = [
-    "--allow", "--deny", "--strict", "--all", "--list", "--json", "--quiet", "--color", "--help",
+const OPTIONS: [&str; 10] = [
+    "--allow",
+    "--deny",
+    "--strict",
+    "--all",
+    "--no-resolve",
+    "--list",
+    "--json",
+    "--quiet",
+    "--color",
+    "--help",
 ];
 
 pub fn parse(mut words: impl Iterator<Item = OsString>) -> Result<Words, Trouble> {
     let Some(first) = words.next() else {
         return Err(Trouble::Words("nothing was asked".into()));
     };
-    let work = match first.to_str() {
-        Some("--help" | "-h" | "help") => return Ok(Words::Help),
-        Some("--version" | "-V") => return Ok(Words::Version),
-        Some("check") => return check(words),
-        Some("rows") => Work::Rows,
-        Some("salvage") => Work::Salvage,
-        Some("pack") => Work::Pack,
-        Some("unpack") => Work::Unpack,
-        _ => return Err(unknown_work(&first)),
-    };
+    match first.to_str() {
+        Some("--help" | "-h" | "help") => Ok(Words::Help),
+        Some("--version" | "-V") => Ok(Words::Version),
+        Some("check") => check(words),
+        Some("show") => show(words),
+        Some("resolve") => resolve(words),
+        Some("write") => one("write", words, Words::Write),
+        Some("rows") => one("rows", words, |source| Words::One(Work::Rows, source)),
+        Some("salvage") => one("salvage", words, |source| Words::One(Work::Salvage, source)),
+        Some("pack") => one("pack", words, |source| Words::One(Work::Pack, source)),
+        Some("unpack") => one("unpack", words, |source| Words::One(Work::Unpack, source)),
+        _ => Err(unknown_work(&first)),
+    }
+}
+
+/// Work on one file that has no options.
+fn one(
+    work: &str,
+    words: impl Iterator<Item = OsString>,
+    asked: impl FnOnce(Source) -> Words,
+) -> Result<Words, Trouble> {
+    let mut rest = Rest::of(words);
+    match rest.next_option().as_deref() {
+        None => Ok(asked(rest.source(work)?)),
+        Some("--help" | "-h") => Ok(Words::Help),
+        Some(option) => Err(unknown(option, &["--help"])),
+    }
+}
+
+/// The first word is the file, and those behind it are keys.
+fn show(words: impl Iterator<Item = OsString>) -> Result<Words, Trouble> {
     let mut rest = Rest::of(words);
     match rest.next_option().as_deref() {
         None => {}
         Some("--help" | "-h") => return Ok(Words::Help),
         Some(option) => return Err(unknown(option, &["--help"])),
     }
-    match <[Source; 1]>::try_from(rest.sources()) {
-        Ok([source]) => Ok(Words::One(work, source)),
-        Err(_) => {
-            let first = first.to_string_lossy();
-            Err(Trouble::Words(format!("`bib {first}` takes one file")))
+    let mut words = rest.files.into_iter();
+    let source = words.next().map_or(Source::Stdin, Source::of);
+    Ok(Words::Show(source, words.collect()))
+}
+
+fn resolve(words: impl Iterator<Item = OsString>) -> Result<Words, Trouble> {
+    let mut rest = Rest::of(words);
+    let mut ways = Ways::default();
+    while let Some(option) = rest.next_option() {
+        let (name, value) = parts(&option);
+        match (name, &value) {
+            ("--verbatim", _) => ways.verbatim = rest.verbatim(value)?,
+            ("--months", _) => ways.english = rest.months(value)?,
+            ("--help" | "-h", None) => return Ok(Words::Help),
+            _ => return Err(unknown(&option, &["--verbatim", "--months", "--help"])),
         }
     }
+    Ok(Words::Resolve(ways, rest.source("resolve")?))
 }
 
 fn check(words: impl Iterator<Item = OsString>) -> Result<Words, Trouble> {
     let mut rest = Rest::of(words);
     let mut asked = Asked::default();
     while let Some(option) = rest.next_option() {
-        let (name, value) = match option.split_once('=') {
-            Some((name, value)) => (name, Some(value.to_string())),
-            None => (option.as_str(), None),
-        };
+        let (name, value) = parts(&option);
         match (name, &value) {
             ("--allow", _) => asked.levels.allowed.extend(rest.lints(name, value)?),
             ("--deny", _) => asked.levels.denied.extend(rest.lints(name, value)?),
             ("--color", _) => asked.color = rest.color(value)?,
             ("--strict", None) => asked.levels.strict = true,
             ("--all", None) => asked.all = true,
+            ("--no-resolve", None) => asked.no_resolve = true,
             ("--json", None) => asked.json = true,
             ("--quiet" | "-q", None) => asked.quiet = true,
             ("--list", None) => return Ok(Words::List),
@@ -100,12 +165,20 @@ fn check(words: impl Iterator<Item = OsString>) -> Result<Words, Trouble> {
     Ok(Words::Check(asked, rest.sources()))
 }
 
-/// The words behind the first: options, and sources among them.
+/// The name of an option, and what stands behind its "=".
+fn parts(option: &str) -> (&str, Option<String>) {
+    match option.split_once('=') {
+        Some((name, value)) => (name, Some(value.to_string())),
+        None => (option, None),
+    }
+}
+
+/// The words behind the first: options, and files among them.
 struct Rest<I> {
     words: I,
     /// After `--` every word is a file.
     is_over: bool,
-    sources: Vec<Source>,
+    files: Vec<OsString>,
 }
 
 impl<I: Iterator<Item = OsString>> Rest<I> {
@@ -113,17 +186,17 @@ impl<I: Iterator<Item = OsString>> Rest<I> {
         Self {
             words,
             is_over: false,
-            sources: Vec::new(),
+            files: Vec::new(),
         }
     }
 
-    /// The next option; the sources before it are kept.
+    /// The next option; the files before it are kept.
     fn next_option(&mut self) -> Option<String> {
         loop {
             let word = self.words.next()?;
             let is_option = word != "-" && word.as_encoded_bytes().starts_with(b"-");
             if self.is_over || !is_option {
-                self.sources.push(Source::of(word));
+                self.files.push(word);
             } else if word == "--" {
                 self.is_over = true;
             } else {
@@ -133,11 +206,18 @@ impl<I: Iterator<Item = OsString>> Rest<I> {
     }
 
     /// All sources; standard input where there are none.
-    fn sources(mut self) -> Vec<Source> {
-        if self.sources.is_empty() {
-            self.sources.push(Source::Stdin);
+    fn sources(self) -> Vec<Source> {
+        if self.files.is_empty() {
+            return vec![Source::Stdin];
         }
-        self.sources
+        self.files.into_iter().map(Source::of).collect()
+    }
+
+    /// The one source of a work.
+    fn source(self, work: &str) -> Result<Source, Trouble> {
+        let one = <[Source; 1]>::try_from(self.sources());
+        let [source] = one.map_err(|_| Trouble::Words(format!("`bib {work}` takes one file")))?;
+        Ok(source)
     }
 
     /// What an option is given, behind its "=" or as the next word.
@@ -157,6 +237,24 @@ impl<I: Iterator<Item = OsString>> Rest<I> {
         let value = self.value(name, value)?;
         let named = |name| Lint::named(name).ok_or_else(|| unknown(name, &names));
         value.split(',').map(named).collect()
+    }
+
+    fn verbatim(&mut self, value: Option<String>) -> Result<Verbatim, Trouble> {
+        match self.value("--verbatim", value)?.as_str() {
+            "none" => Ok(Verbatim::None),
+            "all" => Ok(Verbatim::All),
+            "names" => Ok(Verbatim::Names),
+            other => Err(unknown(other, &["none", "all", "names"])),
+        }
+    }
+
+    /// Whether the English months are to be known.
+    fn months(&mut self, value: Option<String>) -> Result<bool, Trouble> {
+        match self.value("--months", value)?.as_str() {
+            "none" => Ok(false),
+            "english" => Ok(true),
+            other => Err(unknown(other, &["none", "english"])),
+        }
     }
 
     fn color(&mut self, value: Option<String>) -> Result<Color, Trouble> {

@@ -120,6 +120,9 @@ fn list_of_lints() {
     for name in ["field-outside", "duplicate-key", "late-close", "cut-inside"] {
         assert!(run.text().contains(&format!("{name}\n  ")), "{name}");
     }
+    for number in 1..=15 {
+        assert!(run.text().contains(&format!("\n{number}: ")), "{number}");
+    }
     assert!(!run.text().contains('\x1b'));
 }
 
@@ -137,6 +140,44 @@ fn json() {
 ",
     );
     bib(&["check", "--json"], b"@a{k,}").is(0, "");
+}
+
+/// What resolving refuses in what is sound is an error too, unless it is left out.
+#[test]
+fn what_cannot_be_resolved() {
+    let file = b"@a{k, t = {5$ off}}\n@b{l, t = }\n@string{x = y}\n";
+    let damage = "\
+<stdin>:2:11: error: expected a value, in entry l (3)
+@b{l, t = }
+          ^
+  hint: the field `t` has no value: write `t = {}`, or take it out
+";
+    let all = format!(
+        "\
+<stdin>:1:13: error: the text ends too early, in entry k (3)
+@a{{k, t = {{5$ off}}}}
+            ^
+  hint: the `$` at 1:13 begins a formula that does not end: write \\$ where a dollar is meant
+{damage}\
+<stdin>:3:13: error: a name without a definition: `y`, in @string (12)
+@string{{x = y}}
+            ^
+  hint: put a text into braces: {{y}}; or define the name in this file: @string{{y = {{..}}}}
+1 entry sound, 3 errors, 0 warnings
+"
+    );
+    check(file).is(1, &all);
+    let summary = "1 entry sound, 1 error, 0 warnings\n";
+    bib(&["check", "--no-resolve"], file).is(1, &format!("{damage}{summary}"));
+    bib(&["check", "--no-resolve"], b"@a{k, t = x}").is(0, "1 entry sound, 0 errors, 0 warnings\n");
+    bib(&["check", "--json"], b"@a{k, t = x}").is(
+        1,
+        "\
+{\"file\":\"<stdin>\",\"line\":1,\"column\":11,\"start\":10,\"end\":11,\"number\":12,\"level\":\"error\",\
+\"message\":\"a name without a definition: `x`, in entry k\",\
+\"hint\":\"put a text into braces: {x}; or define the name in this file: @string{x = {..}}\",\"key\":\"k\"}
+",
+    );
 }
 
 #[test]

@@ -1,9 +1,19 @@
-//! The broken files of examples/: what is said of each is kept beside it.
+//! The files of examples/: what is said of each is kept beside it, and what is shown of some.
 
 use std::path::Path;
 use std::{fs, process};
 
 use crate::run::{Run, BIB};
+
+/// What a work prints of an example, and ends with.
+fn run(root: &Path, work: &str, name: &str) -> Run {
+    let file = format!("examples/{name}.bib");
+    let output = process::Command::new(BIB)
+        .args([work, &file])
+        .current_dir(root)
+        .output();
+    Run::of(output.expect("the command starts"))
+}
 
 #[test]
 fn broken_files() {
@@ -17,17 +27,20 @@ fn broken_files() {
         .collect();
     assert!(files.len() >= 48, "{} examples are too few", files.len());
     for name in files {
-        let file = format!("examples/{name}.bib");
-        let words = ["check", &file];
-        let output = process::Command::new(BIB)
-            .args(words)
-            .current_dir(&root)
-            .output();
-        let run = Run::of(output.expect("the command starts"));
-        let kept = fs::read(root.join(format!("examples/{name}.out"))).expect("it is kept");
-        let kept = String::from_utf8(kept).expect("it is UTF-8");
-        let status = i32::from(kept.contains(": error: "));
-        assert_ne!(kept.lines().count(), 1, "nothing is said of {name}");
-        run.is(status, &kept);
+        let kept = |end: &str| fs::read_to_string(root.join(format!("examples/{name}.{end}")));
+        let said = kept("out").expect("it is kept");
+        let status = i32::from(said.contains(": error: "));
+        run(&root, "check", name).is(status, &said);
+        let shown = [("show", kept("show")), ("write", kept("write"))];
+        let is_shown = shown.iter().any(|(_, kept)| kept.is_ok());
+        assert!(
+            is_shown || said.lines().count() > 1,
+            "nothing is said of {name}"
+        );
+        for (work, kept) in shown {
+            if let Ok(kept) = kept {
+                run(&root, work, name).is(0, &kept);
+            }
+        }
     }
 }

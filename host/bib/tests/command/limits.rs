@@ -1,14 +1,23 @@
-//! The longest files, of the shapes that need the most rows, in 24 bytes of memory for each byte.
+//! The longest files, of the shapes that need the most rows, in 24 bytes of memory for each byte, and in
+//! 48 where they are resolved.
 
 use crate::run::{shell, Run, Scratch};
 
 const LONGEST: usize = 16_777_215;
 
-/// The bytes of address space that a run may have, which is more than it may use.
-const MOST_KIB: usize = LONGEST * 24 / 1024;
+/// A run that may have so many bytes of address space for each byte of the file, which is more than it
+/// may use.
+fn within(each: usize, line: &str) -> Run {
+    let most = LONGEST * each / 1024;
+    shell(&format!("ulimit -v {most}; {line}"))
+}
 
 fn within_memory(line: &str) -> Run {
-    shell(&format!("ulimit -v {MOST_KIB}; {line}"))
+    within(24, line)
+}
+
+fn resolved_within_memory(line: &str) -> Run {
+    within(48, line)
 }
 
 /// A text that repeats to the longest file.
@@ -37,10 +46,35 @@ fn most_rows_read_strictly() {
     within_memory(&format!("$BIB pack {name} | wc -c")).is(0, &format!("{}\n", rows * 7));
     within_memory(&format!("$BIB salvage {name} | tail -n 1")).is(0, &format!("rows {rows}\n"));
     // All fields have the same name.
-    within_memory(&format!("$BIB check --allow duplicate-field {name}"))
-        .is(0, "1 entry sound, 0 errors, 0 warnings\n");
-    let first = format!("$BIB check --strict {name} | head -n 1 | cut -d: -f 2-4");
+    let sound = "1 entry sound, 0 errors, 0 warnings\n";
+    within_memory(&format!(
+        "$BIB check --no-resolve --allow duplicate-field {name}"
+    ))
+    .is(0, sound);
+    let first = format!("$BIB check --strict --no-resolve {name} | head -n 1 | cut -d: -f 2-4");
     within_memory(&first).is(0, "1:10: warning\n");
+    let first = format!("$BIB check {name} | head -n 1 | cut -d: -f 2-4");
+    resolved_within_memory(&first).is(0, "1:8: error\n");
+}
+
+/// Names that are used four million times, and as many that are defined.
+#[test]
+fn most_names_resolved() {
+    let head = "@string{b={x}}@a{k,";
+    let file = Scratch::new("used.bib", &longest(head, "a=b,", "}"));
+    let name = file.name();
+    let sound = "1 entry sound, 0 errors, 0 warnings\n";
+    resolved_within_memory(&format!("$BIB check --allow duplicate-field {name}")).is(0, sound);
+    resolved_within_memory(&format!("$BIB show {name} | tail -n 1")).is(0, "  a  x\n");
+    resolved_within_memory(&format!("$BIB write {name} | head -n 2 | tail -n 1"))
+        .is(0, "a = {x},\n");
+    let values = (LONGEST - head.len() - 1) / 4 + 1;
+    resolved_within_memory(&format!("$BIB resolve {name} | grep -c '^bib1 x7b787d$'"))
+        .is(0, &format!("{values}\n"));
+    let file = Scratch::new("defined.bib", &longest("@string{", "a=1,", "}"));
+    let sound = "0 entries sound, 0 errors, 0 warnings\n";
+    let name = file.name();
+    resolved_within_memory(&format!("$BIB check --allow duplicate-definition {name}")).is(0, sound);
 }
 
 /// Pieces of two bytes have two rows each.
@@ -78,7 +112,7 @@ fn most_names() {
     let fields = Scratch::new("names.bib", fields.as_bytes());
     within_memory(&format!("$BIB check {}", entries.name()))
         .is(0, &format!("{count} entries sound, 0 errors, 0 warnings\n"));
-    within_memory(&format!("$BIB check {}", fields.name()))
+    resolved_within_memory(&format!("$BIB check {}", fields.name()))
         .is(0, "1 entry sound, 0 errors, 0 warnings\n");
 }
 
@@ -88,7 +122,14 @@ fn short_memory() {
     let long = Scratch::new("short-memory.bib", &longest("@a{k,", "a=b,", "}"));
     let small = Scratch::new("small.bib", b"@a{k,}");
     let (long, small) = (long.name(), small.name());
-    for (work, word) in [("rows", "read"), ("salvage", "salvage"), ("pack", "pack")] {
+    for (work, word) in [
+        ("rows", "read"),
+        ("salvage", "salvage"),
+        ("pack", "pack"),
+        ("show", "show"),
+        ("write", "write"),
+        ("resolve", "resolve"),
+    ] {
         let sentence = format!("bib: cannot {word} {long}: out of memory\n");
         shell(&format!("ulimit -v 100000; $BIB {work} {long}")).says(2, &sentence);
     }

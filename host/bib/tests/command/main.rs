@@ -2,8 +2,10 @@
 
 mod check;
 mod cut;
+mod entries;
 mod examples;
 mod limits;
+mod resolve;
 mod run;
 mod scripts;
 mod terminal;

@@ -105,8 +105,10 @@ fn closed_pipe() {
 
 #[test]
 fn full_device() {
-    for work in ["rows", "check", "pack", "--help"] {
-        let run = shell(&format!("printf '@a{{k,}}' | $BIB {work} > /dev/full"));
+    for work in [
+        "rows", "check", "pack", "show", "write", "resolve", "--help",
+    ] {
+        let run = shell(&format!("printf '@a{{k,t=1}}' | $BIB {work} > /dev/full"));
         run.says(2, "bib: cannot write the output: no space left on device\n");
     }
 }

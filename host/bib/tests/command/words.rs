@@ -19,6 +19,13 @@ fn unknown_words() {
     refused(&["check", "-x"], "`-x` is not known");
     refused(&["rows", "a", "b"], "`bib rows` takes one file");
     refused(&["unpack", "-", "-"], "`bib unpack` takes one file");
+    refused(&["write", "a", "b"], "`bib write` takes one file");
+    refused(&["resolve", "a", "b"], "`bib resolve` takes one file");
+    refused(&["show", "-x"], "`-x` is not known");
+    refused(
+        &["resolve", "--months"],
+        "`--months` wants a word behind it",
+    );
 }
 
 #[test]
@@ -46,6 +53,27 @@ fn misspelt_words() {
         "`alway` is not known, did you mean `always`?",
     );
     refused(&["check", "--deny"], "`--deny` wants a word behind it");
+    refused(&["shwo"], "`shwo` is not known, did you mean `show`?");
+    refused(
+        &["reslove"],
+        "`reslove` is not known, did you mean `resolve`?",
+    );
+    refused(
+        &["resolve", "--verbatim", "name"],
+        "`name` is not known, did you mean `names`?",
+    );
+    refused(
+        &["resolve", "--month=english"],
+        "`--month=english` is not known",
+    );
+    refused(
+        &["resolve", "--months=englsh"],
+        "`englsh` is not known, did you mean `english`?",
+    );
+    refused(
+        &["check", "--no-reslove"],
+        "`--no-reslove` is not known, did you mean `--no-resolve`?",
+    );
     refused(
         &["check", "--strict=1"],
         "`--strict=1` is not known, did you mean `--strict`?",
@@ -63,11 +91,29 @@ fn misspelt_words() {
 fn help() {
     let run = bib(&["--help"], b"");
     run.is(0, run.text());
-    for word in ["check", "rows", "salvage", "pack", "unpack", "--version"] {
+    for word in [
+        "check",
+        "show",
+        "write",
+        "resolve",
+        "rows",
+        "salvage",
+        "pack",
+        "unpack",
+        "--version",
+    ] {
         assert!(run.text().contains(&format!("bib {word}")), "{word}");
     }
     for word in [
-        "allow", "deny", "strict", "all", "list", "json", "quiet", "color",
+        "allow",
+        "deny",
+        "strict",
+        "all",
+        "no-resolve",
+        "list",
+        "json",
+        "quiet",
+        "color",
     ] {
         assert!(run.text().contains(&format!("\n  --{word}")), "{word}");
     }
@@ -110,7 +156,9 @@ fn version() {
 fn unreadable_files() {
     let missing = "bib: cannot read no/such.bib: no such file or directory\n";
     let folder = "bib: cannot read /: is a directory\n";
-    for work in ["rows", "salvage", "pack", "unpack"] {
+    for work in [
+        "show", "write", "resolve", "rows", "salvage", "pack", "unpack",
+    ] {
         bib(&[work, "no/such.bib"], b"").says(2, missing);
         bib(&[work, "/"], b"").says(2, folder);
     }
@@ -118,7 +166,7 @@ fn unreadable_files() {
     shell("$BIB rows < /").says(2, "bib: cannot read <stdin>: is a directory\n");
     let line = "$BIB rows 0> /dev/null";
     shell(line).says(2, "bib: cannot read <stdin>: bad file descriptor\n");
-    for work in ["check", "rows", "unpack"] {
+    for work in ["check", "show", "write", "resolve", "rows", "unpack"] {
         let line = format!("$BIB {work} <&-");
         shell(&line).says(2, "bib: cannot read <stdin>: it is closed\n");
     }

@@ -1,0 +1,270 @@
+//! Why a value cannot be resolved, in words for the author of a file. Number and place are the proved
+//! library's; the words and the mark are for people.
+
+use std::cmp::Ordering;
+
+use super::cursor::Cursor;
+use super::damage::in_subject;
+use super::finding::{Code, Finding};
+use super::items::{Item, What};
+use super::text::{is_typographic, quoted, TYPOGRAPHIC};
+use super::unresolved::Unresolved;
+use super::Lines;
+use crate::memory::push;
+use crate::{is_verbatim_field, Kind, Reason, Refusal, Row, Rows};
+
+/// Says why values of a file cannot be resolved.
+pub struct Explainer<'a> {
+    file: &'a [u8],
+    rows: &'a Rows,
+    /// The rows of the definitions' names, in the order of these in small letters.
+    names: Vec<u32>,
+    /// Where the first damaged piece begins that begins with `@string`.
+    damaged: Option<usize>,
+}
+
+impl<'a> Explainer<'a> {
+    pub fn of(file: &'a [u8], rows: &'a Rows) -> Result<Self, Refusal> {
+        let mut names = Vec::new();
+        for (index, row) in rows.iter().enumerate() {
+            if row.kind == Kind::DefinitionName {
+                push(&mut names, index as u32)?;
+            }
+        }
+        let text = |index: &u32| {
+            rows.get(*index as usize)
+                .map_or(&[][..], |row| &file[row.span()])
+        };
+        names.sort_unstable_by(|a, b| small(text(a), text(b)));
+        let mut pieces = rows.iter().filter(|row| row.kind == Kind::Damage);
+        let damaged = pieces.find(|row| is_string(file, *row));
+        Ok(Self {
+            file,
+            rows,
+            names,
+            damaged: damaged.map(|row| row.start),
+        })
+    }
+
+    /// Whether definitions may be lost in a damaged piece.
+    pub(crate) fn has_damaged_definitions(&self) -> bool {
+        self.damaged.is_some()
+    }
+
+    /// What is said of a value of this item, which cannot be resolved.
+    pub fn finding(&self, one: &Unresolved, item: &Item, lines: &Lines) -> Finding {
+        self.finding_of(one, item, lines, 0)
+    }
+
+    /// The same, where so many more names have no definition.
+    pub(crate) fn finding_of(
+        &self,
+        one: &Unresolved,
+        item: &Item,
+        lines: &Lines,
+        more: usize,
+    ) -> Finding {
+        let refusal = one.refusal();
+        let mark = self.open_formula(refusal).unwrap_or(refusal.start);
+        let (key, whose) = self.whose(one, item);
+        let name = match refusal.reason {
+            Reason::UnknownAbbreviation | Reason::Cyclic => format!(": `{}`", self.used(refusal)),
+            _ => String::new(),
+        };
+        let others = match more {
+            0 => String::new(),
+            1 => ", and one more use of such a name".to_string(),
+            _ => format!(", and {more} more uses of such names"),
+        };
+        let what = match refusal.reason {
+            // Its place is the end of a literal, or of a command's argument.
+            Reason::UnexpectedEof => refusal.reason.what_at(true),
+            _ => refusal.what(),
+        };
+        let whose = in_subject(&whose, lines, item.span.start, mark);
+        Finding {
+            code: Code::Refusal(refusal.reason),
+            start: refusal.start,
+            end: refusal.end,
+            mark,
+            message: format!("{what}{name}{whose}{others}"),
+            hint: Some(self.hint(one, lines)),
+            key,
+        }
+    }
+
+    /// The key of the entry that has a value, and what the value is called: where the refusal is in a
+    /// definition, the field that uses it.
+    fn whose(&self, one: &Unresolved, item: &Item) -> (Option<String>, String) {
+        let text = |row: Option<Row>| row.map(|row| quoted(&self.file[row.span()]));
+        let key = self.rows.get(item.rows.start + 2);
+        let key = text(key.filter(|row| row.kind == Kind::Key && row.start < row.end));
+        let owner = match (item.what, &key) {
+            (What::Definitions, _) => "@string".to_string(),
+            (_, Some(key)) => format!("entry {key}"),
+            _ => "the entry".to_string(),
+        };
+        let value = self.rows.get(one.value()).map_or(0..0, |row| row.span());
+        if (value.start..=value.end).contains(&one.refusal().start) {
+            return (key, owner);
+        }
+        let name = text(self.rows.get(one.value().wrapping_sub(1))).unwrap_or_default();
+        (key, format!("`{name}` of {owner}"))
+    }
+
+    /// The name that is used where a refusal is.
+    fn used(&self, refusal: Refusal) -> String {
+        quoted(&self.file[refusal.start..refusal.end])
+    }
+
+    /// What can be done.
+    fn hint(&self, one: &Unresolved, lines: &Lines) -> String {
+        let refusal = one.refusal();
+        let is_argument = self.file.get(refusal.start) == Some(&b'{');
+        if self.is_escaped(refusal) {
+            return "the value has escape sequences: the file may be ISO-2022-JP".into();
+        }
+        match refusal.reason {
+            Reason::UnknownAbbreviation => self.definition_hint(refusal, lines),
+            Reason::Cyclic => {
+                "a definition must not lead back to its own name: write its text in braces".into()
+            }
+            Reason::UnexpectedClosingBrace => self.brace_hint(one),
+            Reason::TooDeep if is_argument => {
+                "arguments of commands stand at most 64 deep in each other".into()
+            }
+            Reason::TooDeep => {
+                "at most 32 definitions may lead from one to the next: write the text itself".into()
+            }
+            Reason::TooManyNames => {
+                "those of its definitions count too: write the text itself for some".into()
+            }
+            Reason::TooLong => "join it of shorter ones by #: {..} # {..}".into(),
+            _ => self.end_hint(refusal, lines),
+        }
+    }
+
+    fn definition_hint(&self, refusal: Refusal, lines: &Lines) -> String {
+        let name = &self.file[refusal.start..refusal.end];
+        if is_typographic(name) {
+            return TYPOGRAPHIC.into();
+        }
+        if let Some(other) = self.in_other_letters(name) {
+            let (place, text) = (lines.place(other.start), quoted(&self.file[other.span()]));
+            return format!(
+                "BibTeX takes it for `{text}`, defined at {place}, but here small and large letters make \
+                 different names"
+            );
+        }
+        if let Some(damaged) = self.damaged {
+            let line = lines.number(damaged);
+            return format!(
+                "@string (line {line}) is damaged, and may have defined it: mend that first"
+            );
+        }
+        let name = quoted(name);
+        format!(
+            "put a text into braces: {{{name}}}; or define the name in this file: @string{{{name} = {{..}}}}"
+        )
+    }
+
+    /// The definition of a name that differs in small and large letters alone.
+    fn in_other_letters(&self, name: &[u8]) -> Option<Row> {
+        let row = |index: &u32| self.rows.get(*index as usize);
+        let order = |index: &u32| row(index).map(|row| small(&self.file[row.span()], name));
+        let first = self
+            .names
+            .partition_point(|index| order(index) == Some(Ordering::Less));
+        let found = self.names.get(first)?;
+        row(found).filter(|_| order(found) == Some(Ordering::Equal))
+    }
+
+    /// Whether a literal has escape sequences, in which dollars and braces mean something else.
+    fn is_escaped(&self, refusal: Refusal) -> bool {
+        let is_of_literal = matches!(
+            refusal.reason,
+            Reason::UnexpectedClosingBrace | Reason::UnexpectedEof
+        );
+        is_of_literal && self.literal_before(refusal.start).contains(&0x1b)
+    }
+
+    fn brace_hint(&self, one: &Unresolved) -> String {
+        let before = self.literal_before(one.refusal().start);
+        let field = self.rows.get(one.value().wrapping_sub(1));
+        // A verbatim field has no formulas.
+        let is_verbatim = field.is_some_and(|row| is_verbatim_field(&self.file[row.span()]));
+        if before.contains(&b'$') && !is_verbatim {
+            return "a brace that is opened between two `$` must be closed between them".into();
+        }
+        "take it out, or write \\} where a brace is meant".into()
+    }
+
+    fn end_hint(&self, refusal: Refusal, lines: &Lines) -> String {
+        match self.open_formula(refusal) {
+            Some(place) => format!(
+                "the `$` at {} begins a formula that does not end: write \\$ where a dollar is meant",
+                lines.place(place)
+            ),
+            None => {
+                "in the argument of a command a brace counts even behind a backslash".into()
+            }
+        }
+    }
+
+    /// The literal that has a place, up to there.
+    fn literal_before(&self, place: usize) -> &'a [u8] {
+        let mut after = self.rows.len();
+        let mut first = 0;
+        while first < after {
+            let middle = (first + after) / 2;
+            if self.rows.get(middle).is_some_and(|row| row.start <= place) {
+                first = middle + 1;
+            } else {
+                after = middle;
+            }
+        }
+        let before = (0..after).rev().map_while(|index| self.rows.get(index));
+        let literal = before.take(2).find(|row| row.kind == Kind::Literal);
+        literal.map_or(&[], |row| &self.file[row.start.min(place)..place])
+    }
+
+    /// Where a formula begins that does not end, if that is why a text ends too early.
+    fn open_formula(&self, refusal: Refusal) -> Option<usize> {
+        if refusal.reason != Reason::UnexpectedEof {
+            return None;
+        }
+        let text = self.literal_before(refusal.start);
+        let open = open_formula(text)?;
+        Some(refusal.start - text.len() + open)
+    }
+}
+
+/// The order of two names in small letters.
+fn small(a: &[u8], b: &[u8]) -> Ordering {
+    let small = u8::to_ascii_lowercase;
+    a.iter().map(small).cmp(b.iter().map(small))
+}
+
+/// Whether a piece begins with `@string`.
+fn is_string(file: &[u8], piece: Row) -> bool {
+    let mut cursor = Cursor::new(file, piece.span());
+    cursor.eat(b'@');
+    let kind = cursor.ident();
+    kind.is_some_and(|kind| file[kind].eq_ignore_ascii_case(b"string"))
+}
+
+/// The `$` of a text that begins a formula which does not end.
+fn open_formula(text: &[u8]) -> Option<usize> {
+    let mut place = 0;
+    while place < text.len() {
+        match text[place] {
+            b'\\' => place += 2,
+            b'$' => match text[place + 1..].iter().position(|byte| *byte == b'$') {
+                Some(length) => place += length + 2,
+                None => return Some(place),
+            },
+            _ => place += 1,
+        }
+    }
+    None
+}

@@ -1,0 +1,170 @@
+//! The entries of a file with their fields resolved, for the works that print them.
+
+use std::cell::OnceCell;
+
+use bib::check::{
+    check_reading, Code, Explainer, Finding, Item, Items, Lines, Reading, Stop, Unresolved, What,
+};
+use bib::{Kind, Refusal, ResolvedFile, ResolvedValue};
+
+/// A file that was read, and whose values are resolved.
+pub struct Opened<'a> {
+    file: &'a [u8],
+    pub reading: Reading,
+    values: ResolvedFile,
+}
+
+/// The lines of a file, which are made when something is to be said.
+pub struct Places<'a> {
+    file: &'a [u8],
+    lines: OnceCell<Lines<'a>>,
+}
+
+impl<'a> Places<'a> {
+    pub fn of(file: &'a [u8]) -> Self {
+        Self {
+            file,
+            lines: OnceCell::new(),
+        }
+    }
+
+    pub fn lines(&self) -> Result<&Lines<'a>, Refusal> {
+        if self.lines.get().is_none() {
+            let _ = self.lines.set(Lines::of(self.file)?);
+        }
+        Ok(self.lines.get().expect("they were made"))
+    }
+}
+
+/// Reads a file and resolves its values; says what is damaged, as `bib check` does. Nothing where the
+/// file is too long, which is said too.
+pub fn opened<E>(
+    file: &[u8],
+    mut say: impl FnMut(&Finding, &Lines) -> Result<(), E>,
+) -> Result<Option<Opened<'_>>, Stop<E>> {
+    let reading = Reading::of(file);
+    let is_damaged = |reading: &Reading| reading.rows.iter().any(|row| row.kind == Kind::Damage);
+    if reading.as_ref().map_or(true, is_damaged) {
+        check_reading(file, &reading, |finding, lines| match finding.code {
+            Code::Refusal(_) => say(finding, lines),
+            Code::Lint(_) => Ok(()),
+        })?;
+    }
+    let Ok(mut reading) = reading else {
+        return Ok(None);
+    };
+    let values = reading.resolve(file)?;
+    Ok(Some(Opened {
+        file,
+        reading,
+        values,
+    }))
+}
+
+impl Opened<'_> {
+    pub fn entries(&self) -> Entries<'_> {
+        Entries {
+            opened: self,
+            items: Items::of(self.file, &self.reading.rows),
+            values: 0,
+            unresolved: &self.reading.unresolved,
+        }
+    }
+
+    /// What says why values cannot be resolved; nothing where all are.
+    pub fn explainer(&self) -> Result<Option<Explainer<'_>>, Refusal> {
+        if self.reading.unresolved.is_empty() {
+            return Ok(None);
+        }
+        Explainer::of(self.file, &self.reading.rows).map(Some)
+    }
+}
+
+/// The entries of a file, one after the other.
+pub struct Entries<'a> {
+    opened: &'a Opened<'a>,
+    items: Items<'a>,
+    /// How many values stand before the next item.
+    values: usize,
+    /// The values from there on that cannot be resolved.
+    unresolved: &'a [Unresolved],
+}
+
+pub struct Entry<'a> {
+    opened: &'a Opened<'a>,
+    pub item: Item,
+    /// The number of its first value.
+    first: usize,
+    /// Its values that cannot be resolved.
+    pub unresolved: &'a [Unresolved],
+}
+
+/// The name of a field and its place, and what its value is resolved to, if that can be.
+pub struct Field<'a> {
+    pub name: &'a [u8],
+    pub place: usize,
+    pub value: Option<ResolvedValue<'a>>,
+}
+
+impl<'a> Iterator for Entries<'a> {
+    type Item = Entry<'a>;
+
+    fn next(&mut self) -> Option<Entry<'a>> {
+        loop {
+            let item = self.items.next()?;
+            let rows = &self.opened.reading.rows;
+            let kinds = item.rows.clone().filter_map(|row| rows.get(row));
+            let first = self.values;
+            self.values += kinds.filter(|row| row.kind == Kind::Value).count();
+            let own = self.unresolved.iter();
+            let own = own.take_while(|one| one.value() < item.rows.end).count();
+            let (unresolved, rest) = self.unresolved.split_at(own);
+            self.unresolved = rest;
+            if item.what == What::Entry {
+                return Some(Entry {
+                    opened: self.opened,
+                    item,
+                    first,
+                    unresolved,
+                });
+            }
+        }
+    }
+}
+
+impl<'a> Entry<'a> {
+    /// The text of the first row of this kind.
+    fn text(&self, kind: Kind) -> &'a [u8] {
+        let Opened { file, reading, .. } = self.opened;
+        // The entry itself, its type, its key.
+        let rows = self.item.rows.clone().take(3);
+        let mut rows = rows.filter_map(|row| reading.rows.get(row));
+        let row = rows.find(|row| row.kind == kind);
+        row.map_or(&[], |row| &file[row.span()])
+    }
+
+    pub fn kind(&self) -> &'a [u8] {
+        self.text(Kind::EntryType)
+    }
+
+    pub fn key(&self) -> &'a [u8] {
+        self.text(Kind::Key)
+    }
+
+    /// Its fields in file order. Each name has one value.
+    pub fn fields(&self) -> impl Iterator<Item = Field<'a>> + '_ {
+        let Opened {
+            file,
+            reading,
+            values,
+        } = self.opened;
+        let rows = self.item.rows.clone();
+        let rows = rows.filter_map(|row| reading.rows.get(row));
+        let names = rows.filter(|row| row.kind == Kind::FieldName);
+        names.zip(self.first..).map(|(name, value)| Field {
+            name: &file[name.span()],
+            place: name.start,
+            value: values.get(value).and_then(Result::ok),
+        })
+    }
+}

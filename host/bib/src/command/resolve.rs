@@ -1,0 +1,162 @@
+//! `bib resolve`: for scripts. Every value of a file, resolved, in lines of words, numbers and texts in
+//! hex.
+
+use std::io::{self, Write};
+
+use bib::{is_verbatim_field, Kind, Reason, Refusal, ResolvedValue, Row, Rows, ENGLISH_MONTHS};
+
+use crate::print;
+use crate::source::Source;
+use crate::words::{Verbatim, Ways};
+use crate::{Status, Trouble};
+
+/// The numbers of a chunk row.
+pub const CHUNK: usize = 5;
+
+pub fn resolve(ways: Ways, source: &Source, out: &mut impl Write) -> Result<Status, Trouble> {
+    let file = source.file()?;
+    match resolved(ways, &file, out) {
+        Ok(()) => Ok(Status::Sound),
+        Err(Stop::Output(error)) => Err(error.into()),
+        Err(Stop::Refused(refusal)) if refusal.reason == Reason::NoRoom => {
+            Err(Trouble::Input(source.beyond_memory("resolve")))
+        }
+        Err(Stop::Refused(refusal)) => {
+            writeln!(out, "{}", print::refused(&refusal))?;
+            Ok(Status::Findings)
+        }
+    }
+}
+
+/// Why not all values were printed.
+enum Stop {
+    Refused(Refusal),
+    Output(io::Error),
+}
+
+impl From<Refusal> for Stop {
+    fn from(refusal: Refusal) -> Self {
+        Self::Refused(refusal)
+    }
+}
+
+impl From<io::Error> for Stop {
+    fn from(error: io::Error) -> Self {
+        Self::Output(error)
+    }
+}
+
+fn resolved(ways: Ways, file: &[u8], out: &mut impl Write) -> Result<(), Stop> {
+    let rows = bib::read(file)?;
+    let flags = flags(ways.verbatim, file, &rows)?;
+    let months = if ways.english {
+        &ENGLISH_MONTHS[..]
+    } else {
+        &[]
+    };
+    let resolved = bib::resolve_file(file, rows.numbers(), &flags, months)?;
+    drop(flags);
+    let mut answers = resolved.iter();
+    let mut name = None;
+    for row in rows.iter() {
+        match row.kind {
+            Kind::FieldName | Kind::DefinitionName => name = Some(row),
+            Kind::Value => {
+                head(file, name, row, out)?;
+                match answers.next() {
+                    Some(Ok(value)) => chunks(value, out)?,
+                    Some(Err(refusal)) => writeln!(out, "{}", print::refused(&refusal))?,
+                    None => {}
+                }
+            }
+            _ => {}
+        }
+    }
+    Ok(())
+}
+
+fn flags(verbatim: Verbatim, file: &[u8], rows: &Rows) -> Result<Vec<bool>, Refusal> {
+    let mut flags = bib::verbatim_flags(file, rows, is_verbatim_field)?;
+    match verbatim {
+        Verbatim::None => flags.fill(false),
+        Verbatim::All => flags.fill(true),
+        Verbatim::Names => {}
+    }
+    Ok(flags)
+}
+
+/// Of what the value is, and where it stands.
+fn head(file: &[u8], name: Option<Row>, value: Row, out: &mut impl Write) -> io::Result<()> {
+    let Some(name) = name else {
+        return Ok(());
+    };
+    let word = match name.kind {
+        Kind::FieldName => "field",
+        _ => "def",
+    };
+    let text = &file[name.span()];
+    let place = [value.start as u32, value.end as u32];
+    line(word, &[], Some(text), &place, out)
+}
+
+/// What the value is resolved to: its chunks, and how they are written.
+fn chunks(value: ResolvedValue, out: &mut impl Write) -> Result<(), Stop> {
+    let ResolvedValue { text, rows, names } = value;
+    line("names", &[names as u32], None, &[], out)?;
+    let text = text.as_bytes();
+    for row in rows.chunks_exact(CHUNK) {
+        let part = &text[row[1] as usize..row[2] as usize];
+        line("chunk", &row[..1], Some(part), &row[3..], out)?;
+    }
+    let formatted = bib::format_verbatim(text, rows)?;
+    line("verbatim", &[], Some(formatted.as_bytes()), &[], out)?;
+    for (word, is_verbatim) in [("bib0", false), ("bib1", true)] {
+        let written = bib::to_biblatex_string(text, rows, is_verbatim)?;
+        line(word, &[], Some(written.as_bytes()), &[], out)?;
+    }
+    Ok(())
+}
+
+/// A line: a word, numbers, a text in hex behind an `x`, and numbers.
+fn line(
+    word: &str,
+    before: &[u32],
+    text: Option<&[u8]>,
+    behind: &[u32],
+    out: &mut impl Write,
+) -> io::Result<()> {
+    out.write_all(word.as_bytes())?;
+    numbers(before, out)?;
+    if let Some(text) = text {
+        out.write_all(b" x")?;
+        hex(text, out)?;
+    }
+    numbers(behind, out)?;
+    out.write_all(b"\n")
+}
+
+fn numbers(all: &[u32], out: &mut impl Write) -> io::Result<()> {
+    for number in all {
+        let mut digits = [0; 10];
+        out.write_all(b" ")?;
+        out.write_all(print::decimal(*number, &mut digits))?;
+    }
+    Ok(())
+}
+
+/// Two digits for each byte, in small letters. A text may be long, so that no copy is made of it.
+fn hex(text: &[u8], out: &mut impl Write) -> io::Result<()> {
+    const DIGITS: &[u8; 16] = b"0123456789abcdef";
+    const PART: usize = 256;
+    for part in text.chunks(PART) {
+        let mut digits = [0; 2 * PART];
+        for (two, byte) in digits.chunks_exact_mut(2).zip(part) {
+            two.copy_from_slice(&[
+                DIGITS[usize::from(byte >> 4)],
+                DIGITS[usize::from(byte & 15)],
+            ]);
+        }
+        out.write_all(&digits[..2 * part.len()])?;
+    }
+    Ok(())
+}

@@ -1,0 +1,199 @@
+//! `bib show`: for people. Entries with their fields resolved; what cannot be is said as `bib check` says
+//! it.
+
+use std::ffi::OsString;
+use std::io::{self, Write};
+
+use bib::check::{self, Explainer, Finding, Level, Lines, Stop};
+
+use crate::entries::{opened, Entry, Opened, Places};
+use crate::near::nearest;
+use crate::progress::room;
+use crate::report::Report;
+use crate::source::Source;
+use crate::style::{Color, Style};
+use crate::width::width;
+use crate::{say, shown, Status, Trouble};
+
+/// Names of fields that are wider do not move the texts of the others.
+const WIDEST: usize = 16;
+
+pub fn show(source: &Source, keys: &[OsString], out: &mut impl Write) -> Result<Status, Trouble> {
+    let file = source.file()?;
+    let mut showing = Showing {
+        source,
+        report: Report {
+            style: Style::of(Color::Auto),
+            room: room(&io::stdout()),
+            json: false,
+        },
+        wanted: Wanted::of(keys),
+        is_first: true,
+        status: Status::Sound,
+        out,
+    };
+    match showing.file(&file) {
+        Ok(()) => Ok(showing.status),
+        Err(Stop::Caller(error)) => Err(Trouble::Output(error)),
+        Err(Stop::Refused(_)) => Err(Trouble::Input(source.beyond_memory("show"))),
+    }
+}
+
+/// The keys that are asked for, in their order, and whether an entry has them.
+struct Wanted<'a> {
+    keys: Vec<(&'a [u8], bool)>,
+}
+
+impl<'a> Wanted<'a> {
+    fn of(keys: &'a [OsString]) -> Self {
+        let keys = keys.iter().map(|key| (key.as_encoded_bytes(), false));
+        let mut keys: Vec<_> = keys.collect();
+        keys.sort_unstable();
+        keys.dedup();
+        Self { keys }
+    }
+
+    /// Whether what has this key is to be shown. Where none is asked for, everything is.
+    fn takes(&mut self, key: &[u8]) -> bool {
+        let found = self.keys.binary_search_by(|(other, _)| (*other).cmp(key));
+        if let Ok(place) = found {
+            self.keys[place].1 = true;
+        }
+        self.keys.is_empty() || found.is_ok()
+    }
+
+    fn missing(&self) -> impl Iterator<Item = &'a [u8]> + '_ {
+        let missing = self.keys.iter().filter(|(_, is_there)| !is_there);
+        missing.map(|(key, _)| *key)
+    }
+}
+
+struct Showing<'a, W> {
+    source: &'a Source,
+    report: Report,
+    wanted: Wanted<'a>,
+    /// Nothing has been shown yet.
+    is_first: bool,
+    status: Status,
+    out: W,
+}
+
+impl<W: Write> Showing<'_, W> {
+    fn file(&mut self, file: &[u8]) -> Result<(), Stop<io::Error>> {
+        let opened = opened(file, |finding, lines| self.damage(finding, lines))?;
+        let Some(opened) = opened else {
+            return Ok(());
+        };
+        let (explainer, places) = (opened.explainer()?, Places::of(file));
+        for entry in opened.entries() {
+            if self.wanted.takes(entry.key()) {
+                self.entry(&entry, &places, explainer.as_ref())?;
+            }
+        }
+        self.missing(file, &opened).map_err(Stop::Caller)
+    }
+
+    /// A damaged piece, unless it is known to be another entry than those that are asked for.
+    fn damage(&mut self, finding: &Finding, lines: &Lines) -> io::Result<()> {
+        let key = finding.key.as_deref().unwrap_or_default();
+        if self.wanted.takes(key.as_bytes()) {
+            self.is_first = false;
+            self.finding(finding, lines)?;
+        }
+        Ok(())
+    }
+
+    fn finding(&mut self, finding: &Finding, lines: &Lines) -> io::Result<()> {
+        self.status = Status::Findings;
+        let text = self
+            .report
+            .finding(self.source, finding, Level::Error, lines);
+        self.out.write_all(text.as_bytes())
+    }
+
+    fn entry(
+        &mut self,
+        entry: &Entry,
+        places: &Places,
+        explainer: Option<&Explainer>,
+    ) -> Result<(), Stop<io::Error>> {
+        self.head(entry).map_err(Stop::Caller)?;
+        let names = entry.fields().map(|field| columns(field.name));
+        let widest = names.filter(|wide| *wide <= WIDEST).max().unwrap_or(0);
+        let mut unresolved = entry.unresolved.iter();
+        for field in entry.fields() {
+            self.name(field.name, widest).map_err(Stop::Caller)?;
+            if let Some(value) = field.value {
+                let text = bib::format_verbatim(value.text.as_bytes(), value.rows)?;
+                self.line(&text).map_err(Stop::Caller)?;
+                continue;
+            }
+            self.line("(not resolved)").map_err(Stop::Caller)?;
+            if let (Some(explainer), Some(one)) = (explainer, unresolved.next()) {
+                let lines = places.lines()?;
+                let finding = explainer.finding(one, &entry.item, lines);
+                self.finding(&finding, lines).map_err(Stop::Caller)?;
+            }
+        }
+        Ok(())
+    }
+
+    /// The type and the key, behind a blank line.
+    fn head(&mut self, entry: &Entry) -> io::Result<()> {
+        if !self.is_first {
+            self.out.write_all(b"\n")?;
+        }
+        self.is_first = false;
+        let Style { bold, plain, .. } = self.report.style;
+        let shown = |text: &[u8]| shown::characters(text).collect::<String>();
+        let (kind, mut key) = (shown(entry.kind()), shown(entry.key()));
+        if key.is_empty() {
+            // No key has a blank.
+            key = "(no key)".into();
+        }
+        writeln!(self.out, "{bold}{kind} {key}{plain}")
+    }
+
+    fn name(&mut self, name: &[u8], widest: usize) -> io::Result<()> {
+        let blanks = widest.saturating_sub(columns(name)) + 2;
+        let name: String = shown::characters(name).collect();
+        write!(self.out, "  {name}{:blanks$}", "")
+    }
+
+    /// A text to the end of its line. It may be long, so that no copy is made of it.
+    fn line(&mut self, text: &str) -> io::Result<()> {
+        let mut rest = text;
+        while let Some(place) = rest.find(|c| shown::character(c) != c) {
+            let (before, from) = rest.split_at(place);
+            let mut all = from.chars();
+            let c = all.next().map_or(' ', shown::character);
+            write!(self.out, "{before}{c}")?;
+            rest = all.as_str();
+        }
+        writeln!(self.out, "{rest}")
+    }
+
+    /// The keys that no entry has.
+    fn missing(&mut self, file: &[u8], opened: &Opened) -> io::Result<()> {
+        for key in self.wanted.missing() {
+            self.status = Status::Findings;
+            // What was shown comes before.
+            self.out.flush()?;
+            let known = check::keys(file, &opened.reading.rows);
+            let known = known.filter_map(|(key, _)| std::str::from_utf8(key).ok());
+            let near = nearest(&String::from_utf8_lossy(key), known);
+            let near =
+                near.map(|near| format!(", did you mean `{}`?", shown::name(near.as_bytes())));
+            let (source, key) = (self.source, shown::name(key));
+            say(&format!(
+                "no entry of {source} has the key `{key}`{}",
+                near.unwrap_or_default()
+            ));
+        }
+        Ok(())
+    }
+}
+
+fn columns(name: &[u8]) -> usize {
+    shown::characters(name).map(width).sum()
+}
