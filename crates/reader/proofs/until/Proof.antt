@@ -1,6 +1,8 @@
--- `reader::until` meets its contract: a walk of its MIR, by hand. A `Reader` that one call returns is held in a local and passed to the next, twice. All
+-- `reader::until` meets its contract: a walk of its MIR, by hand. A `Reader` that one call returns is held in a local and passed to the next, twice.
+-- All
 -- that the proof knows of `new`, `eat_until` and `place` is that each meets its contract.
--- In a local of a body MIR erases the lifetime of the struct's type, so the value is shown to have the type at `erased`: what the struct owns does not
+-- In a local of a body MIR erases the lifetime of the struct's type, so the value is shown to have the type at `erased`: what the struct owns does
+-- not
 -- say the lifetime's name. What the place and the test own are only facts: they are made anew where they are asked for.
 -- Assumes nothing.
 use mathlib.Core.Path.{_≡_, refl, sym, subst, _∙_}
@@ -19,7 +21,8 @@ use ghost.Atoms.{Atoms, sem}
 use contract.Lifetimes.{Lfts}
 use contract.Monad.{Fun, fact}
 use contract.Running.{givenOf, tables, tablesOf}
-use types.Kit.{Given, ‵, raw, _⊛_, ⋆, some, later, _$_, _∵_, !, qed, by, move, drop, use1, use2, split, join, pick, fsplit, fjoin, suffices, frame, await, done}
+use types.Kit.{Given, ‵, raw, _⊛_, ⋆, some, later, _$_, _∵_, !, qed, by, move, drop, use1, use2, split, join, pick, fsplit, fjoin, suffices, frame}
+use types.Kit.{await, done}
 use types.Run.{look, init, forget, stop, from, load, and-then, no-more, land, returns, enter, alloc1, alloc0, params1, pass1, pass0, free1, free0}
 use sound.WpLaws.{FmC, fmOf, WpFn-mono}
 use denote.RattleType.{RattleType, owns}
@@ -97,7 +100,8 @@ module _ {M : Type 1} (𝓤 : URA M) (H : Heap 𝓤) (A : Atoms 𝓤) (mem : Mem
   abbrev Place : Contract 𝓤
   Place = tripleOf 𝓤 H A place.signature (place.spec 𝓤 H A mem run)
 
-module _ {M : Type 1} (𝓤 : URA M) (H : Heap 𝓤) (A : Atoms 𝓤) (W : Given 𝓤 H A) (mem : Memory → SProp 𝓤) (run : Routine → Fun 𝓤) (κ : Lft) (q : Share) (s : RefT (List ℕ)) (n : ℕ) (ok : n < 2 ^ 64) (t : Test)
+module _ {M : Type 1} (𝓤 : URA M) (H : Heap 𝓤) (A : Atoms 𝓤) (W : Given 𝓤 H A) (mem : Memory → SProp 𝓤) (run : Routine
+    → Fun 𝓤) (κ : Lft) (q : Share) (s : RefT (List ℕ)) (n : ℕ) (ok : n < 2 ^ 64) (t : Test)
     (isK : Is K.the-row t (kv t ∷ [])) where
   -- the machine value that s has
   abbrev v : Val
@@ -123,21 +127,26 @@ module _ {M : Type 1} (𝓤 : URA M) (H : Heap 𝓤) (A : Atoms 𝓤) (W : Given
   goes-new : ent 𝓤 (onEntry 𝓤 H A until.signature (κ, tt) (q, tt) (s, (n, (t, tt))) in-vals) (sep 𝓤 (New 𝓤 H A mem run .pre to-new) (sem 𝓤 H A Own))
   goes-new =
       qed W ((‵ (flft κ q) ⊛ ‵ ftrue) ∷ ‵ (owns (ShrSlice (named 0) κ u8 ∷ usize ∷ K.the-row ∷ []) (s, (n, (t, tt))) in-vals) ∷ []) ∵
-      move ! (1 ∷ []) $ fsplit ! $ move ! (1 ∷ []) $ drop ! $ use1 W (‵ Own ⊛ ‵ Own) (shr-slice-copy 𝓤 H A W (named 0) κ u8 .twice s (v ∷ [])) $ split ! $
+      move ! (1 ∷ []) $ fsplit ! $ move ! (1 ∷ []) $ drop ! $ use1 W (‵ Own ⊛ ‵ Own) (shr-slice-copy 𝓤 H A W (named 0) κ u8 .twice s (v ∷ [])) $
+      split ! $
       nothing ! $ owned ! usize (Is usize) (uint-makes 𝓤 H A W w64) n _ (refl, ok) $ fjoin ! $ move ! (1 ∷ 0 ∷ []) $ fjoin ! $ move ! (2 ∷ 0 ∷ []) $
-      use2 W (raw (New 𝓤 H A mem run .pre to-new)) (qed W ((‵ (flft κ q) ⊛ ‵ ftrue) ∷ ‵ (owns (ShrSlice (named 0) κ u8 ∷ usize ∷ []) (s, (n, tt)) (v ∷ [], (vint w64 n ∷ [], tt))) ∷ []) ∵ join ! $ frame ! $ done !) $ frame ! $ done !
+      use2 W (raw (New 𝓤 H A mem run .pre to-new)) (qed W ((‵ (flft κ q) ⊛ ‵ ftrue) ∷ ‵ (owns (ShrSlice (named 0) κ u8 ∷ usize ∷ []) (s, (n, tt))
+      (v ∷ [], (vint w64 n ∷ [], tt))) ∷ []) ∵ join ! $ frame ! $ done !) $ frame ! $ done !
 
-  new-said : (r : Reader) → ent 𝓤 (ensured 𝓤 H A new.ended (new.clauses 𝓤 H A mem run) (κ, tt) (s, (n, tt)) tt r) (fact 𝓤 ((r .file ≡ s) × (r .at ≡ n)))
+  new-said : (r : Reader)
+      → ent 𝓤 (ensured 𝓤 H A new.ended (new.clauses 𝓤 H A mem run) (κ, tt) (s, (n, tt)) tt r) (fact 𝓤 ((r .file ≡ s) × (r .at ≡ n)))
   new-said r = exE 𝓤 _ (λ ws. snd∗ 𝓤 (sem 𝓤 H A (lasts new.ended (κ, tt) (s, (n, tt)) ws)) (fact 𝓤 ((r .file ≡ s) × (r .at ≡ n))))
 
   -- the call of `eat_until`, at the struct r with the machine value u
   abbrev to-eat : Reader → Val → Eat 𝓤 H A mem run .Ghost
   to-eat r u = (((κ, tt), (q, tt), tt, (r, (t, tt)), (u ∷ [], (kv t ∷ [], tt))), tt)
 
-  goes-eat : (r : Reader) (u : Val) → ent 𝓤 (⋆ 𝓤 H A (‵ (B (κ, tt) .own r (u ∷ [])) ∷ (‵ (flft κ q) ⊛ ‵ ftrue) ∷ [])) (Eat 𝓤 H A mem run .pre (to-eat r u))
+  goes-eat : (r : Reader) (u : Val)
+      → ent 𝓤 (⋆ 𝓤 H A (‵ (B (κ, tt) .own r (u ∷ [])) ∷ (‵ (flft κ q) ⊛ ‵ ftrue) ∷ [])) (Eat 𝓤 H A mem run .pre (to-eat r u))
   goes-eat r u =
       qed W (‵ (B (κ, tt) .own r (u ∷ [])) ∷ (‵ (flft κ q) ⊛ ‵ ftrue) ∷ []) ∵
-      nothing ! $ owned ! K.the-row (Is K.the-row) (EL.makes K.the-type K′.the-plain 𝓤 H A) t _ isK $ fjoin ! $ move ! (1 ∷ 0 ∷ []) $ fjoin ! $ move ! (1 ∷ 0 ∷ []) $ join ! $ frame ! $ done !
+      nothing ! $ owned ! K.the-row (Is K.the-row) (EL.makes K.the-type K′.the-plain 𝓤 H A) t _ isK $ fjoin ! $ move ! (1 ∷ 0 ∷ []) $ fjoin ! $
+      move ! (1 ∷ 0 ∷ []) $ join ! $ frame ! $ done !
 
   abbrev Ate : Reader → Reader → Type 0
   Ate r r′ = (r′ .file ≡ r .file) × (r′ .at ≡ skip (fails t) (now (r .file)) (r .at)) × Ahead (now (r .file)) (r .at) (r′ .at)
@@ -149,8 +158,10 @@ module _ {M : Type 1} (𝓤 : URA M) (H : Heap 𝓤) (A : Atoms 𝓤) (W : Given
   abbrev to-place : Reader → Val → Place 𝓤 H A mem run .Ghost
   to-place r u = (((κ, tt), (q, tt), tt, (r, tt), (u ∷ [], tt)), tt)
 
-  goes-place : (r : Reader) (u : Val) → ent 𝓤 (⋆ 𝓤 H A (‵ (B (κ, tt) .own r (u ∷ [])) ∷ (‵ (flft κ q) ⊛ ‵ ftrue) ∷ [])) (Place 𝓤 H A mem run .pre (to-place r u))
-  goes-place r u = qed W (‵ (B (κ, tt) .own r (u ∷ [])) ∷ (‵ (flft κ q) ⊛ ‵ ftrue) ∷ []) ∵ nothing ! $ move ! (1 ∷ 0 ∷ []) $ fjoin ! $ move ! (1 ∷ 0 ∷ []) $ join ! $ frame ! $ done !
+  goes-place : (r : Reader) (u : Val)
+      → ent 𝓤 (⋆ 𝓤 H A (‵ (B (κ, tt) .own r (u ∷ [])) ∷ (‵ (flft κ q) ⊛ ‵ ftrue) ∷ [])) (Place 𝓤 H A mem run .pre (to-place r u))
+  goes-place r u = qed W (‵ (B (κ, tt) .own r (u ∷ [])) ∷ (‵ (flft κ q) ⊛ ‵ ftrue) ∷ []) ∵ nothing ! $ move ! (1 ∷ 0 ∷ []) $ fjoin ! $
+      move ! (1 ∷ 0 ∷ []) $ join ! $ frame ! $ done !
 
   place-said : (r : Reader) (m : ℕ) → ent 𝓤 (ensured 𝓤 H A place.ended (place.clauses 𝓤 H A mem run) (κ, tt) (r, tt) tt m) (fact 𝓤 (m ≡ r .at))
   place-said r m = exE 𝓤 _ (λ ws. snd∗ 𝓤 (sem 𝓤 H A (lasts place.ended (κ, tt) (r, tt) ws)) (fact 𝓤 (m ≡ r .at)))
@@ -158,53 +169,83 @@ module _ {M : Type 1} (𝓤 : URA M) (H : Heap 𝓤) (A : Atoms 𝓤) (W : Given
   exits : (m : ℕ) (u : Val) → Found s n t m → ent 𝓤 (⋆ 𝓤 H A (‵ (usize .own m (u ∷ [])) ∷ (‵ (flft κ q) ⊛ ‵ ftrue) ∷ ‵ Own ∷ [])) (Post u)
   exits m u e =
       qed W (‵ (usize .own m (u ∷ [])) ∷ (‵ (flft κ q) ⊛ ‵ ftrue) ∷ ‵ Own ∷ []) ∵
-      suffices ! _ (ends-at 𝓤 H A until.ended stayed (until.clauses 𝓤 H A mem run) W (((κ, tt), (q, tt), tt, (s, (n, (t, tt))), in-vals), tt) u m (tt, (tt, (tt, tt))) (tt, (tt, (tt, tt)))) $ says ! e $
+      suffices ! _ (ends-at 𝓤 H A until.ended stayed (until.clauses 𝓤 H A mem run) W (((κ, tt), (q, tt), tt, (s, (n, (t, tt))), in-vals), tt) u m
+      (tt, (tt, (tt, tt))) (tt, (tt, (tt, tt)))) $ says ! e $
       move ! (1 ∷ []) $ frame ! $ nothing ! $ owned ! K.the-row (Is K.the-row) (EL.makes K.the-type K′.the-plain 𝓤 H A) t _ isK $ fjoin ! $
       owned ! usize (Is usize) (uint-makes 𝓤 H A W w64) n _ (refl, ok) $ fjoin ! $ move ! (2 ∷ 0 ∷ []) $ fjoin ! $ frame ! $ done !
 
-  module _ (C : Calls 𝓤 H) (Λ : Loops 𝓤 H) (fm : FmC 𝓤 H (W .laws) C) (known-new : Triple 𝓤 (C #reader·new) (New 𝓤 H A mem run)) (known-eat : Triple 𝓤 (C #reader·eat-until) (Eat 𝓤 H A mem run))
+  module _ (C : Calls 𝓤 H) (Λ : Loops 𝓤 H) (fm : FmC 𝓤 H (W .laws) C) (known-new : Triple 𝓤 (C #reader·new) (New 𝓤 H A mem run))
+      (known-eat : Triple 𝓤 (C #reader·eat-until) (Eat 𝓤 H A mem run))
       (known-place : Triple 𝓤 (C #reader·place) (Place 𝓤 H A mem run)) where
-    walk : Is (ShrSlice (named 0) κ u8) s (v ∷ []) → ent 𝓤 (onEntry 𝓤 H A until.signature (κ, tt) (q, tt) (s, (n, (t, tt))) in-vals) (WpFn 𝓤 H C Λ code.function (v ∷ vint w64 n ∷ kv t ∷ []) Post)
+    walk : Is (ShrSlice (named 0) κ u8) s (v ∷ [])
+        → ent 𝓤 (onEntry 𝓤 H A until.signature (κ, tt) (q, tt) (s, (n, (t, tt))) in-vals) (WpFn 𝓤 H C Λ code.function
+        (v ∷ vint w64 n ∷ kv t ∷ []) Post)
     walk p =
-        qed W (raw (onEntry 𝓤 H A until.signature (κ, tt) (q, tt) (s, (n, (t, tt))) in-vals) ∷ []) ∵ enter ! C Λ code.function (v ∷ vint w64 n ∷ kv t ∷ []) _ $
-        alloc1 ! (λ l₀. alloc1 ! (λ l₁. alloc1 ! (λ l₂. alloc1 ! (λ l₃. alloc1 ! (λ l₄. alloc1 ! (λ l₅. alloc0 ! $ params1 ! $ pass1 ! (init ! 8 refl (shr-slice-lawful 𝓤 H A W (named 0) κ u8 .typed s (v ∷ []) p .0)) $
-        pass1 ! (init ! 6 refl (tt, record { fits = ok })) $ pass1 ! (init ! 4 refl (EL.lawful K.the-type K′.the-laws 𝓤 H A W tt .typed t _ isK .0)) $ pass0 ! $
+        qed W (raw (onEntry 𝓤 H A until.signature (κ, tt) (q, tt) (s, (n, (t, tt))) in-vals) ∷ []) ∵ enter ! C Λ code.function
+        (v ∷ vint w64 n ∷ kv t ∷ []) _ $
+        alloc1 ! (λ l₀. alloc1 ! (λ l₁. alloc1 ! (λ l₂. alloc1 ! (λ l₃. alloc1 ! (λ l₄. alloc1 ! (λ l₅. alloc0 ! $ params1 ! $
+        pass1 ! (init ! 8 refl (shr-slice-lawful 𝓤 H A W (named 0) κ u8 .typed s (v ∷ []) p .0)) $
+        pass1 ! (init ! 6 refl (tt, record { fits = ok })) $
+        pass1 ! (init ! 4 refl (EL.lawful K.the-type K′.the-laws 𝓤 H A W tt .typed t _ isK .0)) $ pass0 ! $
         move ! (12 ∷ []) $ use1 W (raw (New 𝓤 H A mem run .pre to-new) ⊛ ‵ Own) goes-new $ split ! $
-        calls-at ! fm (New 𝓤 H A mem run) known-new to-new (and-then ! (load ! (from ! (stop !)) (look ! 10 refl)) (and-then ! (load ! (from ! (stop !)) (look ! 8 refl)) (no-more !))) (λ u.
-        use1 W (later (some (λ (r : Reader). ((‵ (flft κ q) ⊛ ‵ ftrue) ⊛ ‵ (B (κ, tt) .own r (u ∷ []))) ⊛ raw (ensured 𝓤 H A new.ended (new.clauses 𝓤 H A mem run) (κ, tt) (s, (n, tt)) tt r)))) (id⊢ 𝓤 _) $ await ! tt $ pick ! (λ r.
-        split ! $ move ! (1 ∷ []) $ use1 W (raw (fact 𝓤 ((r .file ≡ s) × (r .at ≡ n)))) (new-said r) $ heard ! ((r .file ≡ s) × (r .at ≡ n)) (λ made. split ! $ move ! (1 ∷ []) $
+        calls-at ! fm (New 𝓤 H A mem run) known-new to-new (and-then ! (load ! (from ! (stop !)) (look ! 10 refl)) (and-then ! (load ! (from !
+        (stop !)) (look ! 8 refl)) (no-more !))) (λ u.
+        use1 W (later (some (λ (r : Reader). ((‵ (flft κ q) ⊛ ‵ ftrue) ⊛ ‵ (B (κ, tt) .own r (u ∷ []))) ⊛ raw (ensured 𝓤 H A new.ended
+        (new.clauses 𝓤 H A mem run) (κ, tt) (s, (n, tt)) tt r)))) (id⊢ 𝓤 _) $ await ! tt $ pick ! (λ r.
+        split ! $ move ! (1 ∷ []) $ use1 W (raw (fact 𝓤 ((r .file ≡ s) × (r .at ≡ n)))) (new-said r) $
+        heard ! ((r .file ≡ s) × (r .at ≡ n)) (λ made. split ! $ move ! (1 ∷ []) $
         -- [what the struct owns; the token; what the file owns; room for _5; …; room for _4; …; _3; …; _2; …; _1; …; room for _0; …]
         peeks ! (B (κ, tt)) (Is (B (κ, tt))) (shows 𝓤 H A (B (κ, tt))) r (u ∷ []) (λ is.
         land ! (from ! (stop !)) (init ! 3 refl (LL.lawful (T.the-type αᵉ) (T′.the-laws αᵉ) 𝓤 H A W .typed r _ is .0)) $
         use2 W (raw (Eat 𝓤 H A mem run .pre (to-eat r u))) (goes-eat r u) $
-        calls-at ! fm (Eat 𝓤 H A mem run) known-eat (to-eat r u) (and-then ! (load ! (from ! (stop !)) (look ! 2 refl)) (and-then ! (load ! (from ! (stop !)) (look ! 6 refl)) (no-more !))) (λ u′.
-        use1 W (later (some (λ (r′ : Reader). ((‵ (flft κ q) ⊛ ‵ ftrue) ⊛ ‵ (B (κ, tt) .own r′ (u′ ∷ []))) ⊛ raw (ensured 𝓤 H A eat.ended (eat.clauses 𝓤 H A mem run) (κ, tt) (r, (t, tt)) tt r′)))) (id⊢ 𝓤 _) $ await ! tt $ pick ! (λ r′.
+        calls-at ! fm (Eat 𝓤 H A mem run) known-eat (to-eat r u) (and-then ! (load ! (from ! (stop !)) (look ! 2 refl)) (and-then ! (load ! (from !
+        (stop !)) (look ! 6 refl)) (no-more !))) (λ u′.
+        use1 W (later (some (λ (r′ : Reader). ((‵ (flft κ q) ⊛ ‵ ftrue) ⊛ ‵ (B (κ, tt) .own r′ (u′ ∷ []))) ⊛ raw (ensured 𝓤 H A eat.ended
+        (eat.clauses 𝓤 H A mem run) (κ, tt) (r, (t, tt)) tt r′)))) (id⊢ 𝓤 _) $ await ! tt $ pick ! (λ r′.
         split ! $ move ! (1 ∷ []) $ use1 W (raw (fact 𝓤 (Ate r r′))) (eat-said r r′) $ heard ! (Ate r r′) (λ ate. split ! $ move ! (1 ∷ []) $
         peeks ! (B (κ, tt)) (Is (B (κ, tt))) (shows 𝓤 H A (B (κ, tt))) r′ (u′ ∷ []) (λ is′.
         land ! (from ! (stop !)) (init ! 5 refl (LL.lawful (T.the-type αᵉ) (T′.the-laws αᵉ) 𝓤 H A W .typed r′ _ is′ .0)) $
         use2 W (raw (Place 𝓤 H A mem run .pre (to-place r′ u′))) (goes-place r′ u′) $
         calls-at ! fm (Place 𝓤 H A mem run) known-place (to-place r′ u′) (and-then ! (load ! (from ! (stop !)) (look ! 4 refl)) (no-more !)) (λ u″.
-        use1 W (later (some (λ (m : ℕ). ((‵ (flft κ q) ⊛ ‵ ftrue) ⊛ ‵ (usize .own m (u″ ∷ []))) ⊛ raw (ensured 𝓤 H A place.ended (place.clauses 𝓤 H A mem run) (κ, tt) (r′, tt) tt m)))) (id⊢ 𝓤 _) $ await ! tt $ pick ! (λ m.
+        use1 W (later (some (λ (m : ℕ). ((‵ (flft κ q) ⊛ ‵ ftrue) ⊛ ‵ (usize .own m (u″ ∷ []))) ⊛ raw (ensured 𝓤 H A place.ended
+        (place.clauses 𝓤 H A mem run) (κ, tt) (r′, tt) tt m)))) (id⊢ 𝓤 _) $ await ! tt $ pick ! (λ m.
         split ! $ move ! (1 ∷ []) $ use1 W (raw (fact 𝓤 (m ≡ r′ .at))) (place-said r′ m) $ heard ! (m ≡ r′ .at) (λ told. split ! $ move ! (1 ∷ []) $
         -- [the place; the token; what the file owns; _5; …; _4; …; _3; …; _2; …; _1; …; room for _0; …]
         peeks ! usize (Is usize) (shows 𝓤 H A usize) m (u″ ∷ []) (λ is″.
         land ! (from ! (stop !)) (init ! 13 refl (uint-lawful 𝓤 H A W w64 .typed m _ is″ .0)) $
         returns ! (look ! 13 refl) $ forget ! 3 refl $ forget ! 5 refl $ forget ! 7 refl $ forget ! 9 refl $ forget ! 11 refl $ forget ! 13 refl $
-        move ! (13 ∷ 14 ∷ []) $ free1 ! $ move ! (11 ∷ 12 ∷ []) $ free1 ! $ move ! (9 ∷ 10 ∷ []) $ free1 ! $ move ! (7 ∷ 8 ∷ []) $ free1 ! $ move ! (5 ∷ 6 ∷ []) $ free1 ! $ move ! (3 ∷ 4 ∷ []) $ free1 ! $ free0 ! $
+        move ! (13 ∷ 14 ∷ []) $ free1 ! $ move ! (11 ∷ 12 ∷ []) $ free1 ! $ move ! (9 ∷ 10 ∷ []) $ free1 ! $ move ! (7 ∷ 8 ∷ []) $ free1 ! $
+        move ! (5 ∷ 6 ∷ []) $ free1 ! $ move ! (3 ∷ 4 ∷ []) $ free1 ! $ free0 ! $
         by ! (exits m u″ (together s n t r r′ m made ate told))))))))))))))))))))
 
 module _ {M : Type 1} (𝓤 : URA M) (H : Heap 𝓤) (A : Atoms 𝓤) (W : Given 𝓤 H A) (mem : Memory → SProp 𝓤) (run : Routine → Fun 𝓤) where
-  until-walks : (C : Calls 𝓤 H) (Λ : Loops 𝓤 H) → FmC 𝓤 H (W .laws) C → Triple 𝓤 (C #reader·new) (New 𝓤 H A mem run) → Triple 𝓤 (C #reader·eat-until) (Eat 𝓤 H A mem run) → Triple 𝓤 (C #reader·place) (Place 𝓤 H A mem run)
+  until-walks : (C : Calls 𝓤 H) (Λ : Loops 𝓤 H) → FmC 𝓤 H (W .laws) C → Triple 𝓤 (C #reader·new) (New 𝓤 H A mem run)
+      → Triple 𝓤 (C #reader·eat-until) (Eat 𝓤 H A mem run) → Triple 𝓤 (C #reader·place) (Place 𝓤 H A mem run)
       → Walks 𝓤 H A until.ended stayed (WpFn 𝓤 H C Λ code.function) (until.clauses 𝓤 H A mem run)
   until-walks C Λ fm known-new known-eat known-place = walked 𝓤 H A until.ended stayed (until.clauses 𝓤 H A mem run) (WpFn 𝓤 H C Λ code.function)
-      (λ κs. (slice-vals, (uint-vals w64, (EL.vals K.the-type K′.the-laws, tt)))) (λ κs. (shr-slice-tells (named 0) (κs .0) u8, (uint-tells w64, (EL.tells K.the-type K′.the-laws, tt))))
-      (λ κs qs bounds a g are. via 𝓤 _ (fst∗ 𝓤 _ (emp 𝓤)) (walk 𝓤 H A W mem run (κs .0) (qs .0) (a .0) (a .1 .0) (are .1 .0 .1) (a .1 .1 .0) (are .1 .1 .0) C Λ fm known-new known-eat known-place (are .0)))
+      (λ κs. (slice-vals, (uint-vals w64, (EL.vals K.the-type K′.the-laws, tt)))) (λ κs. (
+        shr-slice-tells (named 0) (κs .0) u8,
+        (
+          uint-tells w64,
+          (EL.tells K.the-type K′.the-laws, tt),
+        ),
+      ))
+      (λ κs qs bounds a g are. via 𝓤 _ (fst∗ 𝓤 _ (emp 𝓤)) (walk 𝓤 H A W mem run (κs .0) (qs .0) (a .0) (a .1 .0) (are .1 .0 .1) (a .1 .1 .0)
+      (are .1 .1 .0) C Λ fm known-new known-eat known-place (are .0)))
 
 until-meets : {M : Type 1} (𝓤 : URA M) (H : Heap 𝓤) (A : Atoms 𝓤) (W : Given 𝓤 H A) (mem : Memory → SProp 𝓤) (run : Routine → Fun 𝓤) (𝓣 : Tables 𝓤 H)
-    → Triple 𝓤 (𝓣 .C #reader·new) (New 𝓤 H A mem run) → Triple 𝓤 (𝓣 .C #reader·eat-until) (Eat 𝓤 H A mem run) → Triple 𝓤 (𝓣 .C #reader·place) (Place 𝓤 H A mem run)
+    → Triple 𝓤 (𝓣 .C #reader·new) (New 𝓤 H A mem run) → Triple 𝓤 (𝓣 .C #reader·eat-until) (Eat 𝓤 H A mem run)
+    → Triple 𝓤 (𝓣 .C #reader·place) (Place 𝓤 H A mem run)
     → Meets 𝓤 H A until.signature (WpFn 𝓤 H (𝓣 .C) (𝓣 .Λ) code.function) (until.spec 𝓤 H A mem run)
 until-meets 𝓤 H A W mem run 𝓣 known-new known-eat known-place =
-    walk-meets 𝓤 H A until.ended stayed W (goes-none-slice 𝓤 H A W 1 (0 ∷ []) tt (plain (λ _. u8)) yes, (goes-none 𝓤 H A W 1 (λ _. usize) yes (λ κs x f. refl), (goes-none 𝓤 H A W 1 (λ _. K.the-row) yes (λ κs x f. refl), tt)))
+    walk-meets 𝓤 H A until.ended stayed W (
+      goes-none-slice 𝓤 H A W 1 (0 ∷ []) tt (plain (λ _. u8)) yes,
+      (
+        goes-none 𝓤 H A W 1 (λ _. usize) yes
+            (λ κs x f. refl),
+        (goes-none 𝓤 H A W 1 (λ _. K.the-row) yes (λ κs x f. refl), tt),
+      ),
+    )
     (until.clauses 𝓤 H A mem run) (WpFn 𝓤 H (𝓣 .C) (𝓣 .Λ) code.function) (WpFn-mono 𝓤 H (W .laws) 𝓣 code.function)
     (until-walks 𝓤 H A W mem run (𝓣 .C) (𝓣 .Λ) (fmOf 𝓤 H (W .laws) 𝓣) known-new known-eat known-place)
 
