@@ -246,9 +246,10 @@ impl Measured {
         let (bytes, rust, whole) = (self.bytes, &self.rust, &self.whole);
         println!("    Rust      {}", rust.speed(bytes));
         println!(
-            "    one call  {}, ratio {}",
+            "    one call  {}, ratio {}; {:.2} s",
             whole.speed(bytes),
-            rust.ratio(whole)
+            rust.ratio(whole),
+            whole.best()
         );
         let part = self.resolving.ratio(whole);
         println!(
