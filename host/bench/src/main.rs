@@ -5,7 +5,10 @@
 //!     cargo run --release -p bench                        the made shapes only
 //!     cargo run --release -p bench -- --processor FOLDER  the processor's time, where there is other work
 //!     cargo run --release -p bench -- --only literals FOLDER    of reading, utf8, packing, salvage,
-//!                                                         literals, names and wholes just this
+//!                                                         literals, names, wholes and buckets just this
+//!     cargo run --release -p bench -- --only buckets --most 16    files of up to 16 MB whose names have one
+//!                                                         hash, and not of 1 MB alone
+//!     cargo run --release -p bench -- --write FOLDER --most 16    writes these files, and times nothing
 //!
 //! The Rust is `std::str::from_utf8` and `RawBibliography::parse`. The proved reader is timed
 //! twice: `lent`, into rows that are there and were written before, and `fresh`, into rows that are
@@ -24,6 +27,7 @@
 //! pieces. And literals, and all fields of files, resolved and formatted, beside the Rust's functions;
 //! and a program against the names of the Rust's modules, over the original and over the proved library.
 
+mod buckets;
 mod literals;
 mod names;
 mod packing;
@@ -52,6 +56,10 @@ struct Wanted {
     rounds: usize,
     only: String,
     folders: Vec<PathBuf>,
+    /// The longest of the files whose names have one hash, in million bytes.
+    most: usize,
+    /// Where these files are to be written.
+    write: Option<PathBuf>,
 }
 
 impl Wanted {
@@ -68,6 +76,15 @@ fn main() -> ExitCode {
             return ExitCode::from(2);
         }
     };
+    if let Some(folder) = &wanted.write {
+        return match buckets::write(folder, wanted.most) {
+            Ok(()) => ExitCode::SUCCESS,
+            Err(error) => {
+                eprintln!("bench: cannot write to {}: {error}", folder.display());
+                ExitCode::from(2)
+            }
+        };
+    }
     let rounds = wanted.rounds;
     println!("{rounds} rounds; MB/s of the best run (of the median), 1 MB = 1,000,000 bytes");
     rows(&wanted);
@@ -80,6 +97,10 @@ fn main() -> ExitCode {
     }
     if wanted.has("wholes") {
         wholes::run(folders, rounds);
+    }
+    if wanted.has("buckets") {
+        // They may take long.
+        buckets::run(wanted.most, rounds.min(3));
     }
     ExitCode::SUCCESS
 }
@@ -115,20 +136,28 @@ fn wanted() -> Result<Wanted, String> {
         rounds: 11,
         only: String::new(),
         folders: Vec::new(),
+        most: 1,
+        write: None,
     };
     let mut words = std::env::args().skip(1);
     while let Some(word) = words.next() {
         match word.as_str() {
-            "--rounds" => {
-                let number = words.next().and_then(|n| n.parse().ok());
-                wanted.rounds = number.filter(|n| *n > 0).ok_or("--rounds takes a number")?;
-            }
+            "--rounds" => wanted.rounds = number(&word, words.next())?,
+            "--most" => wanted.most = number(&word, words.next())?,
+            "--write" => wanted.write = Some(words.next().ok_or("--write takes a folder")?.into()),
             "--processor" => timing::by_processor(),
             "--only" => wanted.only = words.next().ok_or("--only takes a word")?,
             _ => wanted.folders.push(word.into()),
         }
     }
     Ok(wanted)
+}
+
+fn number(option: &str, word: Option<String>) -> Result<usize, String> {
+    let number = word.and_then(|word| word.parse().ok());
+    number
+        .filter(|number| *number > 0)
+        .ok_or(format!("{option} takes a number"))
 }
 
 fn read(shape: &shapes::Shape, rounds: usize) {

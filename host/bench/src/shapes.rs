@@ -117,66 +117,6 @@ fn defined_and_used(count: usize) -> Vec<u8> {
     text
 }
 
-/// The numbers of buckets for which a file is made whose names all share one, as powers of two: the
-/// index has a bucket for every second row, so that this is a file of 0.4 MB to 15 MB.
-pub const BUCKETS: [u32; 6] = [16, 17, 18, 19, 20, 21];
-
-/// Letters of names.
-const LETTERS: &[u8; 52] = b"abcdefghijklmnopqrstuvwxyzABCDEFGHIJKLMNOPQRSTUVWXYZ";
-
-/// Letters before and behind the middle of a name of which all fall into one bucket.
-const HALVES: [u32; 2] = [4, 4];
-
-/// Definitions that all fall into the first of two to the `exponent` buckets, where the file's rows
-/// give just so many.
-///
-/// The low bits of FNV-1a come from the low bits alone. So, for each first half of a name, the state
-/// behind it is looked up among the states from which second halves lead to zero.
-pub fn one_bucket(exponent: u32) -> Vec<u8> {
-    let mask = (1u32 << exponent) - 1;
-    let half = |mut number: u32, letters: u32| {
-        let letter = |_| {
-            let letter = LETTERS[number as usize % LETTERS.len()];
-            number /= LETTERS.len() as u32;
-            letter
-        };
-        (0..letters).map(letter).collect::<Vec<u8>>()
-    };
-    let halves = |letters: u32| {
-        let count = (LETTERS.len() as u32).pow(letters);
-        (0..count).map(move |number| half(number, letters))
-    };
-    let mut ends: Vec<Option<Vec<u8>>> = vec![None; 1 << exponent];
-    for end in halves(HALVES[1]) {
-        let back = |state: u32, byte: &u8| state.wrapping_mul(INVERSE) ^ u32::from(*byte);
-        let state = end.iter().rev().fold(0, back) & mask;
-        ends[state as usize].get_or_insert(end);
-    }
-    // A row of each definition's name, value and literal; and what lacks of the rows, preambles of one.
-    let rows = (2usize << exponent) - 1;
-    let mut text = b"@preamble{\"\"}\n".repeat(rows % 3);
-    text.extend(b"@string{");
-    let forth = |state: u32, byte: &u8| (state ^ u32::from(*byte)).wrapping_mul(MULTIPLIER);
-    let mut left = rows / 3;
-    for start in halves(HALVES[0]) {
-        let state = start.iter().fold(BASIS, forth) & mask;
-        if let (Some(end), true) = (&ends[state as usize], left > 0) {
-            text.extend(start);
-            text.extend(end);
-            text.extend(b"=1,");
-            left -= 1;
-        }
-    }
-    assert_eq!(left, 0, "too few names for one bucket");
-    text.push(b'}');
-    text
-}
-
-/// FNV-1a of 32 bits, and its multiplier's inverse.
-const BASIS: u32 = 2_166_136_261;
-const MULTIPLIER: u32 = 16_777_619;
-const INVERSE: u32 = 899_433_627;
-
 /// Files of many refused pieces, and of one piece that no boundary cuts: a million and four, which
 /// is as many as a file has of the longest.
 pub fn pieces() -> [Shape; 4] {

@@ -246,9 +246,10 @@ impl Measured {
         let (bytes, rust, whole) = (self.bytes, &self.rust, &self.whole);
         println!("    Rust      {}", rust.speed(bytes));
         println!(
-            "    one call  {}, ratio {}",
+            "    one call  {}, ratio {}; {:.2} s",
             whole.speed(bytes),
-            rust.ratio(whole)
+            rust.ratio(whole),
+            whole.best()
         );
         let part = self.resolving.ratio(whole);
         println!(
@@ -281,18 +282,14 @@ pub fn run(folders: &[PathBuf], rounds: usize) {
         None => println!("no real file: name a folder that has .bib files"),
     }
     at_two_sizes(&shapes::definitions(), rounds);
-    growing(folders, rounds);
-    let mut expected = 0.0;
-    for exponent in shapes::BUCKETS {
-        expected = one_bucket(exponent, expected);
-    }
+    growing("real files", shapes::doubling(folders), rounds);
 }
 
-/// Files of fields from 1 MB to as long as a file may be, each of twice the bytes of the one before.
-fn growing(folders: &[PathBuf], rounds: usize) {
+/// All fields of files, each of twice the bytes of the one before.
+pub fn growing(name: &str, texts: impl IntoIterator<Item = Vec<u8>>, rounds: usize) {
     let mut before: Option<Measured> = None;
-    for text in shapes::doubling(folders) {
-        println!("all fields of real files");
+    for text in texts {
+        println!("all fields of {name}");
         let measured = measure(&text, rounds);
         if let Some(before) = &before {
             let times = [
@@ -303,30 +300,4 @@ fn growing(folders: &[PathBuf], rounds: usize) {
         }
         before = Some(measured);
     }
-}
-
-/// A file of one bucket that takes longer than this, in seconds, is only reckoned.
-const LONGEST: f64 = 30.0;
-
-/// A file of definitions that all fall into one bucket of the index, resolved once, unless it is expected
-/// to take too long. Gives what is to be expected of twice as many: four times as much, where every name
-/// is compared with every other.
-fn one_bucket(exponent: u32, expected: f64) -> f64 {
-    let text = shapes::one_bucket(exponent);
-    let read = Read::new(&text, rows(&text));
-    let (buckets, names) = (1 << exponent, read.flags.len());
-    println!(
-        "{names} definitions that share one of {buckets} buckets, {} bytes",
-        text.len()
-    );
-    if expected > LONGEST {
-        println!("    left out: some {expected:.0} seconds");
-        return 4.0 * expected;
-    }
-    let mut rooms = Rooms::for_rows(&read);
-    assert_eq!(rooms.heads.len(), buckets, "the index has other buckets");
-    let mut once = Times::new();
-    once.run(|| assert!(rooms.resolve(&read), "there is room"));
-    println!("    one call  {:.2} s", once.best());
-    4.0 * once.best()
 }

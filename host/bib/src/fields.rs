@@ -1,12 +1,9 @@
 //! What the Rust asks outside the three modules: which fields are verbatim, and what the months are
 //! called.
 
-use crate::{memory, Kind, Refusal, Rows};
+use proved::known::{MONTHS, VERBATIM};
 
-/// The fields whose text is taken as it stands, as the Rust lists them.
-const VERBATIM: [&str; 10] = [
-    "file", "doi", "uri", "eprint", "verba", "verbb", "verbc", "pdf", "url", "urlraw",
-];
+use crate::{memory, Kind, Refusal, Rows};
 
 /// Whether a field of this name is verbatim, in small or large letters of ASCII.
 pub fn is_verbatim_field(name: &[u8]) -> bool {
@@ -16,77 +13,38 @@ pub fn is_verbatim_field(name: &[u8]) -> bool {
 
 /// The English months: each word with its text. Words are compared byte by byte, so that each is
 /// there in small letters, with a large first letter and in large letters; the commonest come first.
-pub const ENGLISH_MONTHS: [(&str, &str); 69] = [
-    ("jan", "January"),
-    ("feb", "February"),
-    ("mar", "March"),
-    ("apr", "April"),
-    ("may", "May"),
-    ("jun", "June"),
-    ("jul", "July"),
-    ("aug", "August"),
-    ("sep", "September"),
-    ("oct", "October"),
-    ("nov", "November"),
-    ("dec", "December"),
-    ("Jan", "January"),
-    ("Feb", "February"),
-    ("Mar", "March"),
-    ("Apr", "April"),
-    ("May", "May"),
-    ("Jun", "June"),
-    ("Jul", "July"),
-    ("Aug", "August"),
-    ("Sep", "September"),
-    ("Oct", "October"),
-    ("Nov", "November"),
-    ("Dec", "December"),
-    ("JAN", "January"),
-    ("FEB", "February"),
-    ("MAR", "March"),
-    ("APR", "April"),
-    ("MAY", "May"),
-    ("JUN", "June"),
-    ("JUL", "July"),
-    ("AUG", "August"),
-    ("SEP", "September"),
-    ("OCT", "October"),
-    ("NOV", "November"),
-    ("DEC", "December"),
-    ("january", "January"),
-    ("february", "February"),
-    ("march", "March"),
-    ("april", "April"),
-    ("june", "June"),
-    ("july", "July"),
-    ("august", "August"),
-    ("september", "September"),
-    ("october", "October"),
-    ("november", "November"),
-    ("december", "December"),
-    ("January", "January"),
-    ("February", "February"),
-    ("March", "March"),
-    ("April", "April"),
-    ("June", "June"),
-    ("July", "July"),
-    ("August", "August"),
-    ("September", "September"),
-    ("October", "October"),
-    ("November", "November"),
-    ("December", "December"),
-    ("JANUARY", "January"),
-    ("FEBRUARY", "February"),
-    ("MARCH", "March"),
-    ("APRIL", "April"),
-    ("JUNE", "June"),
-    ("JULY", "July"),
-    ("AUGUST", "August"),
-    ("SEPTEMBER", "September"),
-    ("OCTOBER", "October"),
-    ("NOVEMBER", "November"),
-    ("DECEMBER", "December"),
+pub const ENGLISH_MONTHS: [(&str, &str); 69] = english();
+
+/// The other forms of the months' words. May has no longer one.
+#[rustfmt::skip]
+const FORMS: [[&str; 12]; 5] = [
+    ["Jan", "Feb", "Mar", "Apr", "May", "Jun", "Jul", "Aug", "Sep", "Oct", "Nov", "Dec"],
+    ["JAN", "FEB", "MAR", "APR", "MAY", "JUN", "JUL", "AUG", "SEP", "OCT", "NOV", "DEC"],
+    ["january", "february", "march", "april", "", "june", "july", "august", "september", "october", "november", "december"],
+    ["January", "February", "March", "April", "", "June", "July", "August", "September", "October", "November", "December"],
+    ["JANUARY", "FEBRUARY", "MARCH", "APRIL", "", "JUNE", "JULY", "AUGUST", "SEPTEMBER", "OCTOBER", "NOVEMBER", "DECEMBER"],
 ];
+
+/// The words of `MONTHS`, and then those of each form.
+const fn english() -> [(&'static str, &'static str); 69] {
+    let mut all = [("", ""); 69];
+    let (mut count, mut n) = (0, 0);
+    while n < 12 * (1 + FORMS.len()) {
+        let (word, text) = MONTHS[n % 12];
+        let word = if n < 12 {
+            word
+        } else {
+            FORMS[n / 12 - 1][n % 12]
+        };
+        if !word.is_empty() {
+            all[count] = (word, text);
+            count += 1;
+        }
+        n += 1;
+    }
+    assert!(count == all.len());
+    all
+}
 
 /// The flags that [`resolve_file`](crate::resolve_file) takes: for each value, in the order of the
 /// rows, what the test says of the name of its field. The value of a definition is not verbatim.
@@ -121,6 +79,7 @@ mod tests {
     /// No word is there twice, and each is its month's name or the first letters of it.
     #[test]
     fn months() {
+        assert_eq!(ENGLISH_MONTHS[..12], MONTHS);
         for (n, (word, text)) in ENGLISH_MONTHS.iter().enumerate() {
             let before = &ENGLISH_MONTHS[..n];
             assert!(before.iter().all(|other| other.0 != *word), "{word}");

@@ -126,21 +126,13 @@ impl Months {
     }
 }
 
-/// The months' words and texts.
-pub const ENGLISH: [(&str, &str); 12] = [
-    ("jan", "January"),
-    ("feb", "February"),
-    ("mar", "March"),
-    ("apr", "April"),
-    ("may", "May"),
-    ("jun", "June"),
-    ("jul", "July"),
-    ("aug", "August"),
-    ("sep", "September"),
-    ("oct", "October"),
-    ("nov", "November"),
-    ("dec", "December"),
-];
+/// Lists that are said once, with the wrappers. The file is taken and not their crate, since that needs
+/// libbib.a, and cases do not. It is no judge: the months are lent to both sides.
+#[allow(dead_code)]
+#[path = "../../proved/src/known.rs"]
+mod known;
+
+pub use known::MONTHS as ENGLISH;
 
 /// Names, few enough to meet again; some differ in case, by a letter or in form, and one is empty.
 pub const NAMES: [&str; 14] = [

@@ -10,7 +10,8 @@ use oracle::{
 };
 
 use crate::judge::Judge;
-use crate::values::{Asks, Tried};
+use crate::lent::Tried;
+use crate::values::Asks;
 use crate::wholes;
 
 /// Files that a reader takes, with what is to be looked at: the order of definitions and uses, which

@@ -170,8 +170,32 @@ impl Output {
     }
 }
 
+/// How many other rooms are tried beside just enough.
+#[derive(Clone, Copy, PartialEq)]
+pub enum Tried {
+    No,
+    One,
+    All,
+}
+
+/// The rooms that a case is tried with: just enough and others; of a refusal, which any room must give,
+/// one by turns.
+pub fn rooms(expected: &Expected, tried: Tried, turn: usize) -> Vec<Rooms> {
+    let Ok(resolved) = expected else {
+        return vec![[(0, 0), (5, 9), (40, 64)][turn % 3]];
+    };
+    let (numbers, bytes) = (resolved.rows.len(), resolved.text.len());
+    let mut rooms = vec![(numbers, bytes)];
+    match tried {
+        Tried::No => {}
+        Tried::One => rooms.push(one_more(numbers, bytes, turn)),
+        Tried::All => rooms.extend(all_rooms(numbers, bytes)),
+    }
+    rooms
+}
+
 /// A room beside just enough, by turns: too short by a number, by a row or by a byte, or too long.
-pub fn one_more(numbers: usize, bytes: usize, turn: usize) -> Vec<Rooms> {
+fn one_more(numbers: usize, bytes: usize, turn: usize) -> Rooms {
     let some = [
         (numbers - 1, bytes),
         (numbers, bytes.saturating_sub(1)),
@@ -180,10 +204,10 @@ pub fn one_more(numbers: usize, bytes: usize, turn: usize) -> Vec<Rooms> {
         (numbers + 9, bytes + 33),
         (0, 0),
     ];
-    vec![some[turn % some.len()]]
+    some[turn % some.len()]
 }
 
-pub fn all_rooms(numbers: usize, bytes: usize, _: usize) -> Vec<Rooms> {
+fn all_rooms(numbers: usize, bytes: usize) -> Vec<Rooms> {
     let less = [0, 1, 4, 5, numbers / 2].into_iter();
     let less = less.chain([numbers - 5, numbers - 1]);
     let rows = less.chain([0, 1, 4, 5, 97].map(|more| numbers + more));

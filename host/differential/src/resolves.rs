@@ -4,9 +4,7 @@
 use oracle::Refusal;
 
 use crate::judge::Judge;
-use crate::lent::{
-    all_rooms, one_more, unchanged, Expected, Held, Output, Rooms, BEHIND, FLAGS, SCRATCH,
-};
+use crate::lent::{rooms, unchanged, Expected, Held, Output, Rooms, Tried, BEHIND, FLAGS, SCRATCH};
 use crate::report;
 
 /// What a literal stands between in its file, by turns: what would go on the literal's last part, or
@@ -49,23 +47,23 @@ impl Resolves {
 
     /// A literal, of a verbatim field and of another, with just enough room and with another.
     pub fn check(&mut self, judge: &mut Judge, literal: &str) {
-        self.check_fields(judge, literal, None, one_more);
+        self.check_fields(judge, literal, None, Tried::One);
     }
 
     /// The same with just enough room alone.
     pub fn check_once(&mut self, judge: &mut Judge, literal: &str) {
-        self.check_fields(judge, literal, None, |_, _, _| Vec::new());
+        self.check_fields(judge, literal, None, Tried::No);
     }
 
     /// The same with every kind of room.
     pub fn check_rooms(&mut self, judge: &mut Judge, literal: &str) {
-        self.check_fields(judge, literal, None, all_rooms);
+        self.check_fields(judge, literal, None, Tried::All);
     }
 
     /// A literal that is refused by 01 with 14, at this byte of the literal, if its field is not
     /// verbatim. The Rust knows no such refusal.
     pub fn check_too_deep(&mut self, judge: &mut Judge, literal: &str, brace: usize) {
-        self.check_fields(judge, literal, Some(brace), one_more);
+        self.check_fields(judge, literal, Some(brace), Tried::One);
     }
 
     fn check_fields(
@@ -73,7 +71,7 @@ impl Resolves {
         judge: &mut Judge,
         literal: &str,
         too_deep: Option<usize>,
-        rooms: fn(usize, usize, usize) -> Vec<Rooms>,
+        tried: Tried,
     ) {
         self.turn += 1;
         let (before, after) = CONTEXTS[self.turn % CONTEXTS.len()];
@@ -94,7 +92,7 @@ impl Resolves {
                 }),
                 _ => self.ask_the_rust(asked),
             };
-            self.check_expected(judge, asked, &expected, rooms);
+            self.check_expected(judge, asked, &expected, tried);
         }
         unchanged(judge, self.file.is(file.as_bytes()));
     }
@@ -104,7 +102,7 @@ impl Resolves {
         self.turn += 1;
         self.file.take(file);
         let expected = self.ask_the_rust(asked);
-        self.check_expected(judge, asked, &expected, one_more);
+        self.check_expected(judge, asked, &expected, Tried::One);
         unchanged(judge, self.file.is(file));
     }
 
@@ -118,27 +116,19 @@ impl Resolves {
         judge: &mut Judge,
         asked: Asked,
         expected: &Expected,
-        rooms: fn(usize, usize, usize) -> Vec<Rooms>,
+        tried: Tried,
     ) {
-        let (numbers, bytes) = match expected {
-            Ok(resolved) => {
-                let (numbers, bytes) = (resolved.rows.len(), resolved.text.len());
-                let length = asked.span.1 - asked.span.0;
-                let enough = (oracle::CHUNK_NUMBERS * (length + 1), 2 * length);
-                assert!(
-                    numbers <= enough.0 && bytes <= enough.1,
-                    "include/bib.h says too little"
-                );
-                (numbers, bytes)
-            }
-            // Any room must give the refusal.
-            Err(_) => [(0, 0), (5, 9), (40, 64)][self.turn % 3],
-        };
-        self.compare(judge, asked, expected, (numbers, bytes));
-        if expected.is_ok() {
-            for rooms in rooms(numbers, bytes, self.turn) {
-                self.compare(judge, asked, expected, rooms);
-            }
+        if let Ok(resolved) = expected {
+            let (numbers, bytes) = (resolved.rows.len(), resolved.text.len());
+            let length = asked.span.1 - asked.span.0;
+            let enough = (oracle::CHUNK_NUMBERS * (length + 1), 2 * length);
+            assert!(
+                numbers <= enough.0 && bytes <= enough.1,
+                "include/bib.h says too little"
+            );
+        }
+        for rooms in rooms(expected, tried, self.turn) {
+            self.compare(judge, asked, expected, rooms);
         }
     }
 

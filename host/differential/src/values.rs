@@ -4,7 +4,7 @@
 use oracle::{Fields, Given};
 
 use crate::judge::Judge;
-use crate::lent::{all_rooms, one_more, Expected, Input, Output, Rooms, FLAGS, SCRATCH};
+use crate::lent::{rooms, Expected, Input, Output, Rooms, Tried, FLAGS, SCRATCH};
 use crate::report;
 
 /// Which row is chosen, and how.
@@ -14,14 +14,6 @@ pub struct Asked {
     pub verbatim: u32,
     /// The length of the scratch.
     pub scratch: usize,
-}
-
-/// How many other rooms are tried beside just enough.
-#[derive(Clone, Copy, PartialEq)]
-pub enum Tried {
-    No,
-    One,
-    All,
 }
 
 /// What asks both about files with names: about some fields of them one by one, or about all of them
@@ -110,21 +102,7 @@ impl Asks for Values {
 impl Values {
     fn ask_one(&mut self, judge: &mut Judge, fields: &Fields, asked: Asked, tried: Tried) {
         let expected = fields.resolve(asked.which, asked.verbatim != 0, asked.scratch);
-        let (numbers, bytes) = match &expected {
-            Ok(resolved) => (resolved.rows.len(), resolved.text.len()),
-            // Any room must give the refusal.
-            Err(_) => [(0, 0), (5, 9), (40, 64)][self.turn % 3],
-        };
-        self.compare(judge, asked, &expected, (numbers, bytes));
-        if expected.is_err() {
-            return;
-        }
-        let others = match tried {
-            Tried::No => Vec::new(),
-            Tried::One => one_more(numbers, bytes, self.turn),
-            Tried::All => all_rooms(numbers, bytes, self.turn),
-        };
-        for rooms in others {
+        for rooms in rooms(&expected, tried, self.turn) {
             self.compare(judge, asked, &expected, rooms);
         }
     }

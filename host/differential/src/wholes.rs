@@ -5,10 +5,10 @@ use oracle::{Fields, Given, Refusal, CHUNK_NUMBERS, LEAST_SCRATCH};
 use proved::{File, Filed, Lent, LentForFile, ANSWER_NUMBERS};
 
 use crate::judge::Judge;
-use crate::lent::{unchanged, Expected, Held, Input, NO_ROOM, SCRATCH};
+use crate::lent::{unchanged, Expected, Held, Input, Tried, NO_ROOM, SCRATCH};
 use crate::report;
 use crate::room::Room;
-use crate::values::{Asks, Tried};
+use crate::values::Asks;
 
 /// What would be more flags, if the call looked past them.
 const MORE_FLAGS: &[u8] = &[1, 0, 1, 1, 0, 0, 1];

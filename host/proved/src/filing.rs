@@ -1,6 +1,6 @@
 //! The function that resolves every value of a file in one call.
 
-use crate::resolving::{File, NOT_SET};
+use crate::resolving::{call, File, NOT_SET};
 
 extern "C" {
     fn bib_resolve_file(
@@ -100,39 +100,9 @@ impl Filed {
 /// number where its field is verbatim. Any numbers and any room will do; scratch and index hold zeros
 /// afterwards.
 pub fn resolve_file(file: File, flags: &[u8], lent: &mut LentForFile) -> Filed {
-    let mut answer = UNSET;
-    // SAFETY: the pointers are of slices and of numbers that live through the call, each slice with
-    // its own length, and the function asks for nothing else.
-    answer.number = unsafe {
-        bib_resolve_file(
-            file.bytes.as_ptr(),
-            file.bytes.len(),
-            file.rows.as_ptr(),
-            file.rows.len(),
-            flags.as_ptr(),
-            flags.len(),
-            file.months.as_ptr(),
-            file.months.len(),
-            file.words.as_ptr(),
-            file.words.len(),
-            lent.scratch.as_mut_ptr(),
-            lent.scratch.len(),
-            lent.heads.as_mut_ptr(),
-            lent.heads.len(),
-            lent.next.as_mut_ptr(),
-            lent.next.len(),
-            lent.answers.as_mut_ptr(),
-            lent.answers.len(),
-            lent.chunks.as_mut_ptr(),
-            lent.chunks.len(),
-            lent.text.as_mut_ptr(),
-            lent.text.len(),
-            &mut answer.count,
-            &mut answer.chunk_rows,
-            &mut answer.bytes,
-            &mut answer.start,
-            &mut answer.end,
-        )
-    };
-    answer
+    call!(
+        bib_resolve_file([file.bytes, file.rows, flags], [file.months, file.words]),
+        lent: scratch, heads, next, answers, chunks, text;
+        UNSET: count, chunk_rows, bytes, start, end
+    )
 }

@@ -1,6 +1,7 @@
 //! Safe wrappers over the proved library's C functions, as include/bib.h declares them.
 
 mod filing;
+pub mod known;
 mod resolving;
 mod writing;
 

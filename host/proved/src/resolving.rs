@@ -105,32 +105,30 @@ impl Resolved {
     }
 }
 
-/// Calls a function that resolves with what it is given, and behind that with what it is lent and the
-/// numbers that come back, which both functions have.
-macro_rules! resolve {
-    ($function:ident($($given:expr),*), $lent:expr) => {{
-        let mut answer = UNSET;
+/// Calls a function that resolves: with slices, numbers and slices that it is given, then with the parts of
+/// what it is lent, then with the numbers of the answer that come back beside its own.
+macro_rules! call {
+    (
+        $function:ident([$($before:expr),*], $($number:ident,)* [$($behind:expr),*]),
+        $lent:ident: $($part:ident),*;
+        $unset:ident: $($back:ident),*
+    ) => {{
+        let mut answer = $unset;
         // SAFETY: the pointers are of slices and of numbers that live through the call, each slice
         // with its own length, and the function asks for nothing else.
         answer.number = unsafe {
             $function(
-                $($given,)*
-                $lent.scratch.as_mut_ptr(),
-                $lent.scratch.len(),
-                $lent.chunks.as_mut_ptr(),
-                $lent.chunks.len(),
-                $lent.text.as_mut_ptr(),
-                $lent.text.len(),
-                &mut answer.count,
-                &mut answer.bytes,
-                &mut answer.names,
-                &mut answer.start,
-                &mut answer.end,
+                $($before.as_ptr(), $before.len(),)*
+                $($number,)*
+                $($behind.as_ptr(), $behind.len(),)*
+                $($lent.$part.as_mut_ptr(), $lent.$part.len(),)*
+                $(&mut answer.$back,)*
             )
         };
         answer
     }};
 }
+pub(crate) use call;
 
 /// Resolves the literal that stands in a file from a byte up to another, of a verbatim field unless
 /// `verbatim` is 0. Any ends and any room will do; the scratch holds zeros afterwards.
@@ -141,9 +139,10 @@ pub fn resolve_literal(
     verbatim: u32,
     lent: &mut Lent,
 ) -> Resolved {
-    resolve!(
-        bib_resolve_literal(file.as_ptr(), file.len(), from, to, verbatim),
-        lent
+    call!(
+        bib_resolve_literal([file], from, to, verbatim, []),
+        lent: scratch, chunks, text;
+        UNSET: count, bytes, names, start, end
     )
 }
 
@@ -160,19 +159,9 @@ pub struct File<'a> {
 /// Resolves the value whose row is number `which` of a file's rows, from 0, of a verbatim field
 /// unless `verbatim` is 0. Any numbers and any room will do; the scratch holds zeros afterwards.
 pub fn resolve_field(file: File, which: usize, verbatim: u32, lent: &mut Lent) -> Resolved {
-    resolve!(
-        bib_resolve_field(
-            file.bytes.as_ptr(),
-            file.bytes.len(),
-            file.rows.as_ptr(),
-            file.rows.len(),
-            which,
-            verbatim,
-            file.months.as_ptr(),
-            file.months.len(),
-            file.words.as_ptr(),
-            file.words.len()
-        ),
-        lent
+    call!(
+        bib_resolve_field([file.bytes, file.rows], which, verbatim, [file.months, file.words]),
+        lent: scratch, chunks, text;
+        UNSET: count, bytes, names, start, end
     )
 }

@@ -5,6 +5,7 @@
 
 use std::collections::{HashMap, HashSet};
 
+use proved::known::VERBATIM;
 use proved::File;
 
 use crate::chunk::{Chunk, Chunks};
@@ -12,26 +13,8 @@ use crate::lent::{self, Refusal, Wanted};
 use crate::raw::{Field, ParseError, RawChunk};
 use crate::{Span, Spanned};
 
-/// Fields in which commands and dollars mean nothing.
-const VERBATIM: [&str; 10] = [
-    "doi", "eprint", "file", "pdf", "uri", "url", "urlraw", "verba", "verbb", "verbc",
-];
-
 /// The words for months, and their texts.
-pub const MONTHS: [(&str, &str); 12] = [
-    ("jan", "January"),
-    ("feb", "February"),
-    ("mar", "March"),
-    ("apr", "April"),
-    ("may", "May"),
-    ("jun", "June"),
-    ("jul", "July"),
-    ("aug", "August"),
-    ("sep", "September"),
-    ("oct", "October"),
-    ("nov", "November"),
-    ("dec", "December"),
-];
+pub use proved::known::MONTHS;
 
 /// Resolves the field of this name, by these definitions and, for a name that has none, by the month
 /// words.

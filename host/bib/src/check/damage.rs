@@ -7,12 +7,12 @@ use super::items::Item;
 use super::text::quoted;
 use super::trace::{Part, Stage, Trace};
 use super::{Checker, Lines, Stop};
-use crate::{Reason, Row};
+use crate::Reason;
 
 impl<E, S: FnMut(&Finding, &Lines) -> Result<(), E>> Checker<'_, S> {
     pub(crate) fn damage(&mut self, item: &Item) -> Result<(), Stop<E>> {
-        let rows = item.rows.clone().map_while(|row| self.rows.get(row));
-        let Ok([piece, cause]) = <[Row; 2]>::try_from(rows.collect::<Vec<_>>()) else {
+        let mut rows = item.rows.clone().map_while(|row| self.rows.get(row));
+        let (Some(piece), Some(cause)) = (rows.next(), rows.next()) else {
             return Ok(());
         };
         if self.encoding.explains(cause) {
@@ -41,9 +41,11 @@ impl<E, S: FnMut(&Finding, &Lines) -> Result<(), E>> Checker<'_, S> {
             hint,
             key: key_of(&trace).filter(|_| is_known),
         };
-        let format = self.format.take().map(|format| format.hint());
-        let hint = format.or(finding.hint.clone());
-        self.say(finding.with_hint(hint))
+        let finding = match self.format.take() {
+            Some(format) => finding.with_hint(Some(format.hint())),
+            None => finding,
+        };
+        self.say(finding)
     }
 }
 
@@ -132,7 +134,7 @@ pub(crate) fn whose(trace: &Trace, lines: &Lines, mark: usize) -> String {
 pub(crate) fn in_subject(subject: &str, lines: &Lines, at: usize, mark: usize) -> String {
     let line = lines.number(at);
     if line == lines.number(mark) {
-        format!(", in {subject}")
+        [", in ", subject].concat()
     } else {
         format!(", in {subject} (line {line})")
     }

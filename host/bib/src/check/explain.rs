@@ -1,7 +1,9 @@
 //! Why a value cannot be resolved, in words for the author of a file. Number and place are the proved
 //! library's; the words and the mark are for people.
 
+use std::cell::RefCell;
 use std::cmp::Ordering;
+use std::collections::HashMap;
 
 use super::cursor::Cursor;
 use super::damage::in_subject;
@@ -21,7 +23,21 @@ pub struct Explainer<'a> {
     names: Vec<u32>,
     /// Where the first damaged piece begins that begins with `@string`.
     damaged: Option<usize>,
+    /// What was said of places in definitions, where it took long to find: any number of values may use
+    /// one, of verbatim fields and of others.
+    said: RefCell<HashMap<(u32, Reason, bool), Words>>,
 }
+
+/// What is said of a refusal in whatever value it shows.
+#[derive(Clone)]
+struct Words {
+    mark: usize,
+    what: String,
+    hint: String,
+}
+
+/// So many bytes are looked at over and over.
+const SHORT: usize = 64;
 
 impl<'a> Explainer<'a> {
     pub fn of(file: &'a [u8], rows: &'a Rows) -> Result<Self, Refusal> {
@@ -43,6 +59,7 @@ impl<'a> Explainer<'a> {
             rows,
             names,
             damaged: damaged.map(|row| row.start),
+            said: RefCell::default(),
         })
     }
 
@@ -65,32 +82,74 @@ impl<'a> Explainer<'a> {
         more: usize,
     ) -> Finding {
         let refusal = one.refusal();
-        let mark = self.open_formula(refusal).unwrap_or(refusal.start);
+        let Words { mark, what, hint } = self.words(one, lines);
         let (key, whose) = self.whose(one, item);
-        let name = match refusal.reason {
-            Reason::UnknownAbbreviation | Reason::Cyclic => format!(": `{}`", self.used(refusal)),
-            _ => String::new(),
-        };
-        let others = match more {
-            0 => String::new(),
-            1 => ", and one more use of such a name".to_string(),
-            _ => format!(", and {more} more uses of such names"),
-        };
-        let what = match refusal.reason {
-            // Its place is the end of a literal, or of a command's argument.
-            Reason::UnexpectedEof => refusal.reason.what_at(true),
-            _ => refusal.what(),
-        };
-        let whose = in_subject(&whose, lines, item.span.start, mark);
+        let mut message = what;
+        message += &in_subject(&whose, lines, item.span.start, mark);
+        match more {
+            0 => {}
+            1 => message += ", and one more use of such a name",
+            _ => message += &format!(", and {more} more uses of such names"),
+        }
         Finding {
             code: Code::Refusal(refusal.reason),
             start: refusal.start,
             end: refusal.end,
             mark,
-            message: format!("{what}{name}{whose}{others}"),
-            hint: Some(self.hint(one, lines)),
+            message,
+            hint: Some(hint),
             key,
         }
+    }
+
+    /// What is said of a refusal. A file may have millions of values that use one definition; what is said
+    /// of that is found once, where more than a few bytes are looked at for it.
+    fn words(&self, one: &Unresolved, lines: &Lines) -> Words {
+        let Refusal { reason, start, end } = one.refusal();
+        let is_short = || end - start <= SHORT && self.literal_before(start).len() <= SHORT;
+        if self.is_own(one) || is_short() {
+            return self.new_words(one, lines);
+        }
+        let place = (start as u32, reason, self.is_verbatim(one));
+        if let Some(words) = self.said.borrow().get(&place) {
+            return words.clone();
+        }
+        let words = self.new_words(one, lines);
+        let mut said = self.said.borrow_mut();
+        if said.try_reserve(1).is_ok() {
+            said.insert(place, words.clone());
+        }
+        words
+    }
+
+    fn new_words(&self, one: &Unresolved, lines: &Lines) -> Words {
+        let refusal = one.refusal();
+        let mut what = match refusal.reason {
+            // Its place is the end of a literal, or of a command's argument.
+            Reason::UnexpectedEof => refusal.reason.what_at(true),
+            _ => refusal.what(),
+        }
+        .to_string();
+        if let Reason::UnknownAbbreviation | Reason::Cyclic = refusal.reason {
+            what.extend([": `", &self.used(refusal), "`"]);
+        }
+        Words {
+            mark: self.open_formula(refusal).unwrap_or(refusal.start),
+            what,
+            hint: self.hint(one, lines),
+        }
+    }
+
+    /// Whether a refusal is in the value itself, its end included.
+    fn is_own(&self, one: &Unresolved) -> bool {
+        let value = self.rows.get(one.value()).map_or(0..0, |row| row.span());
+        (value.start..=value.end).contains(&one.refusal().start)
+    }
+
+    /// Whether the value is of a verbatim field.
+    fn is_verbatim(&self, one: &Unresolved) -> bool {
+        let field = self.rows.get(one.value().wrapping_sub(1));
+        field.is_some_and(|row| is_verbatim_field(&self.file[row.span()]))
     }
 
     /// The key of the entry that has a value, and what the value is called: where the refusal is in a
@@ -101,15 +160,14 @@ impl<'a> Explainer<'a> {
         let key = text(key.filter(|row| row.kind == Kind::Key && row.start < row.end));
         let owner = match (item.what, &key) {
             (What::Definitions, _) => "@string".to_string(),
-            (_, Some(key)) => format!("entry {key}"),
+            (_, Some(key)) => ["entry ", key].concat(),
             _ => "the entry".to_string(),
         };
-        let value = self.rows.get(one.value()).map_or(0..0, |row| row.span());
-        if (value.start..=value.end).contains(&one.refusal().start) {
+        if self.is_own(one) {
             return (key, owner);
         }
         let name = text(self.rows.get(one.value().wrapping_sub(1))).unwrap_or_default();
-        (key, format!("`{name}` of {owner}"))
+        (key, ["`", &name, "` of ", &owner].concat())
     }
 
     /// The name that is used where a refusal is.
@@ -163,9 +221,11 @@ impl<'a> Explainer<'a> {
             );
         }
         let name = quoted(name);
-        format!(
-            "put a text into braces: {{{name}}}; or define the name in this file: @string{{{name} = {{..}}}}"
-        )
+        let (braced, defined) = (
+            "put a text into braces: {",
+            "}; or define the name in this file: @string{",
+        );
+        [braced, &name, defined, &name, " = {..}}"].concat()
     }
 
     /// The definition of a name that differs in small and large letters alone.
@@ -190,10 +250,8 @@ impl<'a> Explainer<'a> {
 
     fn brace_hint(&self, one: &Unresolved) -> String {
         let before = self.literal_before(one.refusal().start);
-        let field = self.rows.get(one.value().wrapping_sub(1));
         // A verbatim field has no formulas.
-        let is_verbatim = field.is_some_and(|row| is_verbatim_field(&self.file[row.span()]));
-        if before.contains(&b'$') && !is_verbatim {
+        if before.contains(&b'$') && !self.is_verbatim(one) {
             return "a brace that is opened between two `$` must be closed between them".into();
         }
         "take it out, or write \\} where a brace is meant".into()

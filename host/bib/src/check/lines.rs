@@ -1,6 +1,6 @@
 //! The lines of a file, and the places of its bytes in them.
 
-use std::cell::{Cell, RefCell};
+use std::cell::Cell;
 use std::collections::TryReserveError;
 
 use crate::memory::push;
@@ -14,19 +14,12 @@ pub struct Lines<'a> {
     begins: Vec<u32>,
     /// The number of the line that was asked for last: the next is mostly near.
     near: Cell<usize>,
-    /// The long line that was asked for last.
-    long: RefCell<Marks>,
+    /// For each part of so many bytes, from where on it is counted and the number of characters before.
+    marks: Vec<(u32, u32)>,
 }
 
-/// So many bytes of a line are counted again and again; a longer one has marks.
+/// So many bytes are counted again and again; where a line has more, they are counted from a mark.
 const SHORT: usize = 256;
-
-/// Places in a line, some bytes apart, each with the number of characters before it.
-#[derive(Default)]
-struct Marks {
-    begin: usize,
-    all: Vec<(u32, u32)>,
-}
 
 /// A line, the first being number 1.
 #[derive(Debug, Clone, Copy, PartialEq, Eq)]
@@ -53,7 +46,7 @@ impl<'a> Lines<'a> {
             file,
             begins,
             near: Cell::new(1),
-            long: RefCell::default(),
+            marks: marks(file)?,
         })
     }
 
@@ -95,25 +88,22 @@ impl<'a> Lines<'a> {
     /// not UTF-8 counts as one.
     pub fn line_and_column(&self, place: usize) -> (usize, usize) {
         let line = self.at(place);
-        let before = place.saturating_sub(line.begin).min(line.text.len());
-        let (mark, count) = if before > SHORT {
-            self.mark_before(&line, before)
+        let place = place.clamp(line.begin, line.begin + line.text.len());
+        let count = if place - line.begin > SHORT {
+            self.count(place) - self.count(line.begin)
         } else {
-            (0, 0)
+            characters(&self.file[line.begin..place])
         };
-        let column = count + characters(&line.text[mark..before]) + 1;
-        (line.number, column)
+        (line.number, count + 1)
     }
 
-    /// The last mark of a long line that is not behind this place of it.
-    fn mark_before(&self, line: &Line, place: usize) -> (usize, usize) {
-        let mut long = self.long.borrow_mut();
-        if long.begin != line.begin || long.all.is_empty() {
-            *long = Marks::of(line);
-        }
-        let after = long.all.partition_point(|mark| mark.0 as usize <= place);
-        let (mark, count) = long.all[after - 1];
-        (mark as usize, count as usize)
+    /// The characters before a place that is not inside one, or is after an earlier one of its line.
+    fn count(&self, place: usize) -> usize {
+        let part = place / SHORT;
+        // The place may come before the mark of its part, which is not inside a character.
+        let is_before = self.marks[part].0 as usize > place;
+        let (mark, count) = self.marks[part - usize::from(is_before)];
+        count as usize + characters(&self.file[mark as usize..place])
     }
 
     /// The same as it is written: `LINE:COLUMN`.
@@ -123,27 +113,29 @@ impl<'a> Lines<'a> {
     }
 }
 
-impl Marks {
-    fn of(line: &Line) -> Self {
-        let mut all = vec![(0, 0)];
-        let (mut place, mut count) = (0, 0);
-        while place + SHORT <= line.text.len() {
-            // Not inside a character.
-            let is_inner = |byte: &&u8| **byte & 0xC0 == 0x80;
-            let inner = line.text[place + SHORT..].iter().take(3);
-            let length = SHORT + inner.take_while(is_inner).count();
-            count += characters(&line.text[place..place + length]);
-            place += length;
-            all.push((place as u32, count as u32));
-        }
-        Self {
-            begin: line.begin,
-            all,
-        }
+/// A mark for each part of a file, at its first byte that is not inside a character; the first mark is at
+/// the file's beginning.
+fn marks(file: &[u8]) -> Result<Vec<(u32, u32)>, TryReserveError> {
+    let mut marks = Vec::new();
+    marks.try_reserve_exact(file.len() / SHORT + 1)?;
+    let (mut place, mut count) = (0, 0);
+    for part in (0..=file.len()).step_by(SHORT) {
+        // A character has at most three such bytes.
+        let is_inner = |byte: &&u8| **byte & 0xC0 == 0x80;
+        let most = if part == 0 { 0 } else { 3 };
+        let inner = file[part..].iter().take(most).take_while(is_inner).count();
+        let next = part + inner;
+        count += characters(&file[place..next]);
+        place = next;
+        marks.push((place as u32, count as u32));
     }
+    Ok(marks)
 }
 
 fn characters(text: &[u8]) -> usize {
+    if text.is_ascii() {
+        return text.len();
+    }
     text.utf8_chunks()
         .map(|chunk| chunk.valid().chars().count() + chunk.invalid().len())
         .sum()
@@ -203,6 +195,27 @@ mod tests {
         let bytes = [0xffu8; 3000];
         let lines = Lines::of(&bytes).unwrap();
         assert_eq!(lines.line_and_column(2999), (1, 3000));
+        let inner = [0x80u8; 3000];
+        let lines = Lines::of(&inner).unwrap();
+        assert_eq!(lines.line_and_column(2999), (1, 3000));
+    }
+
+    /// Columns on two long lines by turns, and on the ends of lines.
+    #[test]
+    fn columns_of_several_long_lines() {
+        for shift in 0..SHORT {
+            let first = "é漢x".repeat(100);
+            let text = format!("{}\n{first}\r\n{first}\n", "y".repeat(shift));
+            let lines = Lines::of(text.as_bytes()).unwrap();
+            let begins = [shift + 1, shift + 1 + first.len() + 2];
+            for (column, (place, _)) in (1..).zip(first.char_indices()) {
+                assert_eq!(lines.line_and_column(begins[0] + place), (2, column));
+                assert_eq!(lines.line_and_column(begins[1] + place), (3, column));
+            }
+            let end = begins[0] + first.len();
+            assert_eq!(lines.line_and_column(end), (2, 301));
+            assert_eq!(lines.line_and_column(end + 1), (2, 301));
+        }
     }
 
     #[test]

@@ -4,16 +4,32 @@ use std::ops::Range;
 
 use super::cursor::Cursor;
 
+/// So many characters of a file are written in a message.
+const MOST: usize = 40;
+
 /// A part of a file as it is written in a message: in one line, and not long.
 pub(crate) fn quoted(text: &[u8]) -> String {
-    const MOST: usize = 40;
-    let text = String::from_utf8_lossy(text);
-    let line = text.split_whitespace().collect::<Vec<_>>().join(" ");
+    // Most are short and without blanks.
+    if text.len() <= MOST && text.iter().all(u8::is_ascii_graphic) {
+        return String::from_utf8_lossy(text).into_owned();
+    }
+    // A long one may be asked for over and over, and is mostly settled by its first bytes: what comes of
+    // the last of these, where they are cut inside a character, is not shown.
+    let first = in_one_line(&text[..text.len().min(8 * MOST)]);
+    let line = match first.chars().nth(MOST + 1) {
+        Some(_) => first,
+        None => in_one_line(text),
+    };
     if line.chars().count() <= MOST {
         return line;
     }
     let few: String = line.chars().take(MOST - 1).collect();
     few + "…"
+}
+
+fn in_one_line(text: &[u8]) -> String {
+    let text = String::from_utf8_lossy(text);
+    text.split_whitespace().collect::<Vec<_>>().join(" ")
 }
 
 /// How many identifier bytes of ASCII, and of other characters, end the text.
@@ -136,10 +152,9 @@ pub(crate) const TYPOGRAPHIC: &str =
 /// Whether a name begins with a typographic quotation mark.
 pub(crate) fn is_typographic(name: &[u8]) -> bool {
     const MARKS: [char; 11] = ['“', '”', '„', '‟', '‘', '’', '‚', '«', '»', '‹', '›'];
-    let first = name
-        .utf8_chunks()
-        .next()
-        .and_then(|chunk| chunk.valid().chars().next());
+    // A character has at most four bytes.
+    let mut chunks = name[..name.len().min(4)].utf8_chunks();
+    let first = chunks.next().and_then(|chunk| chunk.valid().chars().next());
     first.is_some_and(|c| MARKS.contains(&c))
 }
 
@@ -149,6 +164,33 @@ mod tests {
 
     fn found(find: fn(&[u8]) -> Option<Range<usize>>, text: &str) -> Option<&str> {
         find(text.as_bytes()).map(|span| &text[span])
+    }
+
+    #[test]
+    fn quotes() {
+        let of = |text: &str| quoted(text.as_bytes());
+        assert_eq!(of(""), "");
+        assert_eq!(of("key84"), "key84");
+        assert_eq!(of(" a\n\t b "), "a b");
+        assert_eq!(of(&"x".repeat(40)), "x".repeat(40));
+        let cut = "x".repeat(39) + "…";
+        for length in [41, 42, 43, 319, 320, 321, 322, 5000] {
+            assert_eq!(of(&"x".repeat(length)), cut);
+        }
+        for blanks in [1, 39, 300, 5000] {
+            let text = format!("a{}b", " ".repeat(blanks));
+            assert_eq!(of(&text), "a b");
+            assert_eq!(
+                of(&(text + &"x".repeat(50))),
+                format!("a b{}…", "x".repeat(36))
+            );
+        }
+        for length in 38..400 {
+            let text = "漢".repeat(length);
+            let want = if length > 40 { 39 } else { length };
+            assert_eq!(of(&text).matches('漢').count(), want);
+        }
+        assert_eq!(quoted(b"a\xffb\xe6\xbc"), "a\u{fffd}b\u{fffd}");
     }
 
     #[test]

@@ -15,7 +15,7 @@ use crate::source::Source;
 use crate::style::Style;
 use crate::turns::{Failed, Page, Sink, Turns};
 use crate::words::Asked;
-use crate::{say, Status, Trouble};
+use crate::{say, Status, Trouble, BUFFER};
 
 /// A file of more bytes waits for its turn, so that one such file is in work at a time: reading and
 /// resolving take up to 48 bytes of memory for each byte.
@@ -38,7 +38,7 @@ pub fn check(asked: &Asked, sources: Vec<Source>) -> Result<Status, Trouble> {
     }
     let results = Results {
         checking: &checking,
-        out: BufWriter::new(io::stdout()),
+        out: BufWriter::with_capacity(BUFFER, io::stdout()),
         progress: Progress::new(),
         tally: Tally {
             unread: troubles.len(),
@@ -112,6 +112,7 @@ impl Checking<'_> {
         outcome: &mut Outcome,
     ) -> Result<(), Stop<Failed>> {
         let source = &self.sources[page.index];
+        let mut text = Vec::new();
         let print = |finding: &Finding, lines: &Lines| {
             let Some(level) = self.asked.levels.of(finding) else {
                 return Ok(());
@@ -119,7 +120,10 @@ impl Checking<'_> {
             if !outcome.shows(finding, level, self.asked) {
                 return Ok(());
             }
-            page.write(&self.report.finding(source, finding, level, lines))
+            text.clear();
+            self.report
+                .finding(source, finding, level, lines, &mut text);
+            page.write(&text)
         };
         let reading = self.reading(file);
         let counts = check::check_reading(file, &reading, print)?;
@@ -259,8 +263,9 @@ impl Results<'_> {
             line: key.line,
             column: key.column,
         };
-        let text = report.bare(&spot, &finding, level);
-        self.out.write_all(text.as_bytes())
+        let mut text = Vec::new();
+        report.bare(&spot, &finding, level, &mut text);
+        self.out.write_all(&text)
     }
 }
 

@@ -1,6 +1,6 @@
 //! A source line as it is shown, with what goes before the mark.
 
-use crate::shown::characters;
+use crate::shown::{self, characters};
 use crate::width::width;
 
 /// What stands where a line was cut.
@@ -9,29 +9,62 @@ const CUT: char = '…';
 /// A tab goes to the next stop, eight columns at most.
 const TAB: usize = 8;
 
-pub struct Excerpt {
-    pub text: String,
-    /// As wide as the text before the place; its tabs are tabs.
-    pub indent: String,
+/// Puts a line, around the byte `at`, in at most so many columns: a terminal must not break it, or the
+/// mark is lost. There is at least one column. Then, on the next line, blanks as wide as the text before
+/// the place; its tabs are tabs.
+pub fn put(line: &[u8], at: usize, most: usize, out: &mut Vec<u8>) {
+    let (before, after) = line.split_at(at.min(line.len()));
+    let tail = &before[before.len().saturating_sub(most)..];
+    let head = &after[..after.len().min(most)];
+    if shown::is_plain(tail) && shown::is_plain(head) {
+        put_plain(before, after, most, out);
+    } else {
+        put_any(before, after, most, out);
+    }
 }
 
-impl Excerpt {
-    /// Of a line, around the byte `at`, in at most so many columns: a terminal must not break it,
-    /// or the mark is lost. There is at least one column.
-    pub fn of(line: &[u8], at: usize, most: usize) -> Self {
-        let (before, after) = line.split_at(at.min(line.len()));
-        let (mut left, more_left) = last(before, most);
-        let (mut right, more_right) = first(after, most);
-        if more_left || more_right || columns(&left) + columns(&right).max(1) > most {
-            cut_left(&mut left, more_left, most * 5 / 8);
-            let room = most.saturating_sub(columns(&left));
-            cut_right(&mut right, more_right, room);
+/// Where each byte that may be shown is a character of one column. A file may have millions of findings
+/// on such lines, so that nothing is allocated.
+fn put_plain(before: &[u8], after: &[u8], most: usize, out: &mut Vec<u8>) {
+    let is_long = before.len() + after.len().max(1) > most;
+    let mut blanks = before.len();
+    if is_long && before.len() > most * 5 / 8 {
+        blanks = most * 5 / 8;
+        if blanks > 0 {
+            put_cut(out);
+            out.extend_from_slice(&before[before.len() + 1 - blanks..]);
         }
-        Self {
-            indent: left.iter().flat_map(|c| blank(*c)).collect(),
-            text: left.into_iter().chain(right).collect(),
-        }
+    } else {
+        out.extend_from_slice(before);
     }
+    let room = most.saturating_sub(blanks);
+    if is_long && after.len() > room {
+        if room > 0 {
+            out.extend_from_slice(&after[..room - 1]);
+            put_cut(out);
+        }
+    } else {
+        out.extend_from_slice(after);
+    }
+    out.push(b'\n');
+    out.resize(out.len() + blanks, b' ');
+}
+
+fn put_cut(out: &mut Vec<u8>) {
+    out.extend_from_slice(CUT.encode_utf8(&mut [0; 4]).as_bytes());
+}
+
+fn put_any(before: &[u8], after: &[u8], most: usize, out: &mut Vec<u8>) {
+    let (mut left, more_left) = last(before, most);
+    let (mut right, more_right) = first(after, most);
+    if more_left || more_right || columns(&left) + columns(&right).max(1) > most {
+        cut_left(&mut left, more_left, most * 5 / 8);
+        let room = most.saturating_sub(columns(&left));
+        cut_right(&mut right, more_right, room);
+    }
+    shown::put(left.iter().chain(&right).copied(), out);
+    out.push(b'\n');
+    shown::put(left.iter().flat_map(|c| blank(*c)), out);
 }
 
 /// The first characters of a text, at most so many, and whether there are more behind.
@@ -115,6 +148,19 @@ fn length_of_first(text: &[char], most: usize) -> usize {
 mod tests {
     use super::*;
 
+    /// The line and what goes before the mark.
+    fn parted(out: Vec<u8>) -> (String, String) {
+        let text = String::from_utf8(out).unwrap();
+        let (line, indent) = text.split_once('\n').unwrap();
+        (line.into(), indent.into())
+    }
+
+    fn shown(line: &str, at: usize, most: usize) -> (String, String) {
+        let mut out = Vec::new();
+        put(line.as_bytes(), at, most, &mut out);
+        parted(out)
+    }
+
     /// Neither the line nor its mark passes any width, wherever the place is.
     #[test]
     fn any_width() {
@@ -127,12 +173,26 @@ mod tests {
         for line in lines.iter().map(|line| line.repeat(9)) {
             for most in 1..100 {
                 for at in (0..=line.len()).filter(|at| line.is_char_boundary(*at)) {
-                    let excerpt = Excerpt::of(line.as_bytes(), at, most);
-                    let shown: Vec<char> = excerpt.text.chars().collect();
-                    let indent: Vec<char> = excerpt.indent.chars().collect();
-                    assert!(columns(&shown) <= most, "{most} {at} {:?}", excerpt.text);
-                    assert!(columns(&indent) < most, "{most} {at} {:?}", excerpt.text);
+                    let (text, indent) = shown(&line, at, most);
+                    let wide = |text: &str| columns(&text.chars().collect::<Vec<_>>());
+                    assert!(wide(&text) <= most, "{most} {at} {text:?}");
+                    assert!(wide(&indent) < most, "{most} {at} {text:?}");
                 }
+            }
+        }
+    }
+
+    /// What is quick says what the other way does.
+    #[test]
+    fn plain_lines() {
+        let line: Vec<u8> = (b' '..=b'~').chain(b'0'..=b'9').collect();
+        for length in [0, 1, 2, 9, 50, 79, 80, line.len()] {
+            for (most, at) in (0..100).flat_map(|most| (0..=length).map(move |at| (most, at))) {
+                let (before, after) = line[..length].split_at(at);
+                let (mut plain, mut any) = (Vec::new(), Vec::new());
+                put_plain(before, after, most, &mut plain);
+                put_any(before, after, most, &mut any);
+                assert_eq!(parted(plain), parted(any), "{length} {at} {most}");
             }
         }
     }
@@ -140,9 +200,9 @@ mod tests {
     #[test]
     fn long_lines() {
         let line = "x".repeat(30) + "y" + &"z".repeat(30);
-        let excerpt = Excerpt::of(line.as_bytes(), 30, 16);
-        assert_eq!(excerpt.text, "…xxxxxxxxxyzzzz…");
-        assert_eq!(excerpt.indent, " ".repeat(10));
+        let (text, indent) = shown(&line, 30, 16);
+        assert_eq!(text, "…xxxxxxxxxyzzzz…");
+        assert_eq!(indent, " ".repeat(10));
         assert_eq!(cut("abc漢字", 6), "abc漢");
     }
 }

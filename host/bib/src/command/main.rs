@@ -57,6 +57,10 @@ impl From<io::Error> for Trouble {
 /// What a shell sees of a program that a closed pipe ends: 128 and the number of SIGPIPE.
 const CLOSED_PIPE: u8 = 141;
 
+/// So many bytes of output are kept before they are handed to the system: the findings of a file may
+/// come to more than a gigabyte.
+pub const BUFFER: usize = 1 << 16;
+
 fn main() -> ExitCode {
     let done = words::parse(env::args_os().skip(1)).and_then(run);
     match done {
@@ -88,7 +92,7 @@ pub fn say(sentence: &str) {
 }
 
 fn run(words: Words) -> Result<Status, Trouble> {
-    let mut out = BufWriter::new(io::stdout().lock());
+    let mut out = BufWriter::with_capacity(BUFFER, io::stdout().lock());
     let status = match words {
         Words::Help => print::help(&mut out)?,
         Words::Version => print::version(&mut out)?,

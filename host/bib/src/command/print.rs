@@ -82,7 +82,8 @@ pub fn list(out: &mut impl Write) -> io::Result<Status> {
 fn explained(name: &str, meaning: &str, example: &str, out: &mut impl Write) -> io::Result<()> {
     writeln!(out, "{name}\n  {meaning}")?;
     for line in example.lines() {
-        writeln!(out, "    {}", shown::sentence(line))?;
+        let line: String = shown::characters(line.as_bytes()).collect();
+        writeln!(out, "    {line}")?;
     }
     Ok(())
 }

@@ -3,8 +3,9 @@
 use bib::check::{Code, Finding, Level, Lines};
 use bib::Reason;
 
-use crate::excerpt::Excerpt;
+use crate::excerpt;
 use crate::json::Object;
+use crate::print::decimal;
 use crate::shown;
 use crate::source::Source;
 use crate::style::Style;
@@ -25,39 +26,42 @@ pub struct Spot<'a> {
 }
 
 impl Report {
-    /// A finding, with the lines of its file.
+    /// Puts a finding, with the lines of its file. A file may have millions: nothing is allocated where
+    /// it is put for people.
     pub fn finding(
         &self,
         source: &Source,
         finding: &Finding,
         level: Level,
         lines: &Lines,
-    ) -> String {
+        out: &mut Vec<u8>,
+    ) {
         let (line, column) = lines.line_and_column(finding.mark);
         let spot = Spot {
             source,
             line,
             column,
         };
+        self.bare(&spot, finding, level, out);
         if self.json {
-            return json(&spot, finding, level);
+            return;
         }
-        let mut text = self.headline(&spot, finding, level);
         if finding.code != Code::Refusal(Reason::TooLong) {
-            text += &self.excerpt(finding, level, lines);
+            self.excerpt(finding, level, lines, out);
         }
         if let Some(hint) = &finding.hint {
-            text += &format!("  hint: {}\n", shown::sentence(hint));
+            out.extend_from_slice(b"  hint: ");
+            shown::put_text(hint.as_bytes(), out);
+            out.push(b'\n');
         }
-        text
     }
 
-    /// A finding without its line.
-    pub fn bare(&self, spot: &Spot, finding: &Finding, level: Level) -> String {
+    /// Puts a finding without its line.
+    pub fn bare(&self, spot: &Spot, finding: &Finding, level: Level, out: &mut Vec<u8>) {
         if self.json {
-            json(spot, finding, level)
+            out.extend_from_slice(json(spot, finding, level).as_bytes());
         } else {
-            self.headline(spot, finding, level)
+            self.headline(spot, finding, level, out);
         }
     }
 
@@ -70,32 +74,45 @@ impl Report {
         )
     }
 
-    fn headline(&self, spot: &Spot, finding: &Finding, level: Level) -> String {
+    fn headline(&self, spot: &Spot, finding: &Finding, level: Level, out: &mut Vec<u8>) {
         let Style { bold, plain, .. } = self.style;
+        put(&[bold], out);
+        spot.source.put(out);
+        for number in [spot.line, spot.column] {
+            out.push(b':');
+            put_number(number, out);
+        }
         let colour = self.style.level(level);
-        let Spot {
-            source,
-            line,
-            column,
-        } = spot;
-        let code = match finding.code {
-            Code::Refusal(reason) => reason.number().to_string(),
-            Code::Lint(lint) => lint.name().into(),
-        };
-        let message = shown::sentence(&finding.message);
-        let level = level.name();
-        format!(
-            "{bold}{source}:{line}:{column}:{plain} {colour}{level}:{plain} {message} ({code})\n"
-        )
+        put(
+            &[":", plain, " ", colour, level.name(), ":", plain, " "],
+            out,
+        );
+        shown::put_text(finding.message.as_bytes(), out);
+        out.extend_from_slice(b" (");
+        match finding.code {
+            Code::Refusal(reason) => put_number(reason.number() as usize, out),
+            Code::Lint(lint) => put(&[lint.name()], out),
+        }
+        out.extend_from_slice(b")\n");
     }
 
-    fn excerpt(&self, finding: &Finding, level: Level, lines: &Lines) -> String {
+    fn excerpt(&self, finding: &Finding, level: Level, lines: &Lines, out: &mut Vec<u8>) {
         let line = lines.at(finding.mark);
         let place = finding.mark.saturating_sub(line.begin);
-        let Excerpt { text, indent } = Excerpt::of(line.text, place, self.room);
-        let (colour, plain) = (self.style.level(level), self.style.plain);
-        format!("{text}\n{indent}{colour}^{plain}\n")
+        excerpt::put(line.text, place, self.room, out);
+        put(&[self.style.level(level), "^", self.style.plain, "\n"], out);
     }
+}
+
+fn put(parts: &[&str], out: &mut Vec<u8>) {
+    for part in parts {
+        out.extend_from_slice(part.as_bytes());
+    }
+}
+
+/// A number that counts bytes, lines or characters of a file.
+fn put_number(number: usize, out: &mut Vec<u8>) {
+    out.extend_from_slice(decimal(number as u32, &mut [0; 10]));
 }
 
 fn json(spot: &Spot, finding: &Finding, level: Level) -> String {

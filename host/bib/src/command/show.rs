@@ -30,6 +30,7 @@ pub fn show(source: &Source, keys: &[OsString], out: &mut impl Write) -> Result<
         wanted: Wanted::of(keys),
         is_first: true,
         status: Status::Sound,
+        text: Vec::new(),
         out,
     };
     match showing.file(&file) {
@@ -75,6 +76,8 @@ struct Showing<'a, W> {
     /// Nothing has been shown yet.
     is_first: bool,
     status: Status,
+    /// A part of the output that is put together, over and over.
+    text: Vec<u8>,
     out: W,
 }
 
@@ -105,10 +108,10 @@ impl<W: Write> Showing<'_, W> {
 
     fn finding(&mut self, finding: &Finding, lines: &Lines) -> io::Result<()> {
         self.status = Status::Findings;
-        let text = self
-            .report
-            .finding(self.source, finding, Level::Error, lines);
-        self.out.write_all(text.as_bytes())
+        self.text.clear();
+        self.report
+            .finding(self.source, finding, Level::Error, lines, &mut self.text);
+        self.out.write_all(&self.text)
     }
 
     fn entry(
@@ -156,13 +159,20 @@ impl<W: Write> Showing<'_, W> {
 
     fn name(&mut self, name: &[u8], widest: usize) -> io::Result<()> {
         let blanks = widest.saturating_sub(columns(name)) + 2;
-        let name: String = shown::characters(name).collect();
-        write!(self.out, "  {name}{:blanks$}", "")
+        self.text.clear();
+        self.text.extend_from_slice(b"  ");
+        shown::put_text(name, &mut self.text);
+        self.text.resize(self.text.len() + blanks, b' ');
+        self.out.write_all(&self.text)
     }
 
     /// A text to the end of its line. It may be long, so that no copy is made of it.
     fn line(&mut self, text: &str) -> io::Result<()> {
         let mut rest = text;
+        if shown::is_plain(text.as_bytes()) {
+            self.out.write_all(text.as_bytes())?;
+            return self.out.write_all(b"\n");
+        }
         while let Some(place) = rest.find(|c| shown::character(c) != c) {
             let (before, from) = rest.split_at(place);
             let mut all = from.chars();
@@ -195,5 +205,8 @@ impl<W: Write> Showing<'_, W> {
 }
 
 fn columns(name: &[u8]) -> usize {
+    if shown::is_plain(name) {
+        return name.len();
+    }
     shown::characters(name).map(width).sum()
 }

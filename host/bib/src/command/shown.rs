@@ -28,9 +28,27 @@ pub fn characters(text: &[u8]) -> impl Iterator<Item = char> + '_ {
     })
 }
 
-/// A sentence that may hold text of a file.
-pub fn sentence(text: &str) -> String {
-    text.chars().map(character).collect()
+/// Whether each byte is a character of ASCII that is shown as it is, in one column. All bytes are looked
+/// at, many at a time.
+pub fn is_plain(text: &[u8]) -> bool {
+    text.iter()
+        .fold(true, |all, byte| all & matches!(byte, b' '..=b'~'))
+}
+
+/// Puts characters as they are.
+pub fn put(all: impl Iterator<Item = char>, out: &mut Vec<u8>) {
+    for c in all {
+        out.extend_from_slice(c.encode_utf8(&mut [0; 4]).as_bytes());
+    }
+}
+
+/// Puts the characters of a file's text, or of a sentence that may hold some.
+pub fn put_text(text: &[u8], out: &mut Vec<u8>) {
+    if is_plain(text) {
+        out.extend_from_slice(text);
+    } else {
+        put(characters(text), out);
+    }
 }
 
 /// A file's name. What steers, and what is not UTF-8, is written by its number.
@@ -69,6 +87,10 @@ mod tests {
     fn text() {
         let shown: String = characters("\x1b\t\u{61c}\u{200e}\u{85}é".as_bytes()).collect();
         assert_eq!(shown, "\u{241b}\t\u{fffd}\u{fffd}\u{fffd}é");
-        assert_eq!(sentence("key \u{200f}"), "key \u{fffd}");
+        let mut out = Vec::new();
+        put_text("key \u{200f} ".as_bytes(), &mut out);
+        put_text(b"and \x7f", &mut out);
+        put_text(b"and ~", &mut out);
+        assert_eq!(out, "key \u{fffd} and \u{2421}and ~".as_bytes());
     }
 }

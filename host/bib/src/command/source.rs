@@ -39,6 +39,16 @@ impl Source {
         }
     }
 
+    /// Puts its name as it is shown.
+    pub fn put(&self, out: &mut Vec<u8>) {
+        let name = self.name();
+        if shown::is_plain(name) {
+            out.extend_from_slice(name);
+        } else {
+            out.extend_from_slice(shown::name(name).as_bytes());
+        }
+    }
+
     /// What is said where memory is too short for the work on it.
     pub fn beyond_memory(&self, work: &str) -> String {
         format!("cannot {work} {self}: out of memory")

@@ -168,8 +168,8 @@ impl<S: Sink> Drop for Page<'_, S> {
 }
 
 impl<S: Sink> Page<'_, S> {
-    pub fn write(&mut self, text: &str) -> Result<(), Failed> {
-        self.bytes.extend_from_slice(text.as_bytes());
+    pub fn write(&mut self, text: &[u8]) -> Result<(), Failed> {
+        self.bytes.extend_from_slice(text);
         if self.bytes.len() > MOST_KEPT {
             let mut state = self.turns.turn(self.index)?;
             let written = state.keep(|sink| sink.part(self.index, &self.bytes));
@@ -215,7 +215,7 @@ mod tests {
             // The first takes the longest, and says the most.
             let length = if page.index == 0 { 3 * MOST_KEPT } else { 1 };
             for _ in 0..length {
-                page.write("x")?;
+                page.write(b"x")?;
             }
             Ok(b'0' + page.index as u8)
         };

@@ -12,7 +12,7 @@ use crate::report::Report;
 use crate::resolve::CHUNK;
 use crate::source::Source;
 use crate::style::{Color, Style};
-use crate::{shown, Status, Trouble};
+use crate::{shown, Status, Trouble, BUFFER};
 
 /// The kind of a chunk that is a formula.
 const FORMULA: u32 = 2;
@@ -133,6 +133,8 @@ struct Errors<'a> {
     report: Report,
     to: BufWriter<Stderr>,
     status: Status,
+    /// A finding as it is printed, over and over.
+    text: Vec<u8>,
 }
 
 impl<'a> Errors<'a> {
@@ -145,16 +147,17 @@ impl<'a> Errors<'a> {
         Self {
             source,
             report,
-            to: BufWriter::new(io::stderr()),
+            to: BufWriter::with_capacity(BUFFER, io::stderr()),
             status: Status::Sound,
+            text: Vec::new(),
         }
     }
 
     fn say(&mut self, finding: &Finding, lines: &Lines) {
-        let text = self
-            .report
-            .finding(self.source, finding, Level::Error, lines);
-        let _ = self.to.write_all(text.as_bytes());
+        self.text.clear();
+        self.report
+            .finding(self.source, finding, Level::Error, lines, &mut self.text);
+        let _ = self.to.write_all(&self.text);
         self.status = Status::Findings;
     }
 

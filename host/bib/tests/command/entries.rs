@@ -55,6 +55,29 @@ bib: no entry of <stdin> has the key `x\\u{1b}`
     assert_eq!(run, want);
 }
 
+/// What is wrong in a definition is said for each of its uses in the same words, however long it is.
+#[test]
+fn show_uses_of_a_definition() {
+    for filler in [0, 20, 60, 70, 9_000] {
+        let filler = "x".repeat(filler);
+        let file = format!(
+            "@string{{c={{$a {filler}}},b={{a ${{b$ {filler} }}}}}}\n@a{{k,t=b,u=b,v=c,w=c}}\n"
+        );
+        let run = bib(&["show"], file.as_bytes());
+        let lines = |part: &'static str| run.text().lines().filter(move |line| line.contains(part));
+        let brace = "  hint: a brace that is opened between two `$` must be closed between them";
+        let formula =
+            "  hint: the `$` at 1:12 begins a formula that does not end: write \\$ where a dollar is meant";
+        let hints: Vec<_> = lines("hint:").collect();
+        assert_eq!(hints, [brace, brace, formula, formula]);
+        for part in ["`t` of", "`u` of", "`v` of", "`w` of"] {
+            let line = lines(part).next().expect("it is said");
+            assert!(line.contains(", in ") && line.ends_with(")"), "{line}");
+            assert_eq!(lines(part).count(), 1);
+        }
+    }
+}
+
 /// What cannot be resolved is marked, and said with its place.
 #[test]
 fn show_unresolved() {
