@@ -36,12 +36,11 @@ use Rattle.literal.specs.WellFormed.{Passes}
 use Rattle.literal.proofs.WellFormed.{well-formed}
 use Rattle.resolve.specs.Resolves.{Value, resolved, refused, leastScratch, ofUtf8, checkedFile, after, asked}
 use Rattle.resolve.specs.OneLiteral.{isSpan, valueOf, literalOf}
-use Rattle.resolve.specs.Checks.{Lent}
-use Rattle.value.specs.Field.{isElement, elements, behind, onward, walk, flattened, parseField}
+use Rattle.resolve.specs.Checks.{Lent, everySpan, isValue, monthIn, isValid, isText, isMonth, everyMonth, areMonths, areLent, isRight, lentOf}
 use Rattle.resolve.specs.Runs.{Run, done, stop, ofLiteral}
+use Rattle.value.specs.Field.{isElement, elements, behind, onward, walk, flattened, parseField}
 use Rattle.value.specs.Field.{element, Meaning, definition, month, unknown, monthOf, orMonth, spelt, meaningOf, onPath, known, mostOpen}
 use Rattle.value.specs.Field.{mostNames, opened, name, ofRun, fieldOf}
-use Rattle.resolve.specs.Checks.{everySpan, isValue, monthIn, isValid, isText, isMonth, everyMonth, areMonths, areLent, isRight, lentOf}
 use Rattle.field.specs.OneField.{valueAt}
 use Rattle.field.specs.WellFormedFields.{WellFormedFields}
 

@@ -12,11 +12,11 @@ use Rattle.row.specs.Numbers.{rowsOf, areRows}
 use Rattle.raw.specs.Reader.{loop, many}
 use Rattle.text.specs.Strings.{utf8}
 use Rattle.lookup.specs.Names.{sameBytes, isNamed, later, lastNamed}
-use Rattle.literal.specs.Content.{steps, endTurn, braced, closing, contentTurn, contentBy, inside, flattenFrom}
+use Rattle.turn.specs.Content.{steps, endTurn, braced, closing, contentTurn, contentBy, inside, flattenFrom}
 use Rattle.literal.specs.Literal.{resolveLiteral}
 use Rattle.resolve.specs.Resolves.{checkedFile}
-use Rattle.value.specs.Field.{elements, walk, monthOf, onPath, name}
 use Rattle.resolve.specs.Checks.{everySpan, isValue, everyMonth, areMonths, areLent}
+use Rattle.value.specs.Field.{elements, walk, monthOf, onPath, name}
 use Rattle.field.specs.Worked.{table, Worked, chain, Deep}
 
 pub worked : Worked

@@ -12,8 +12,8 @@ use Rattle.chunk.specs.WellFormed.{Texts}
 use Rattle.literal.specs.WellFormed.{Passes}
 use Rattle.resolve.specs.Resolves.{resolved, checkedFile}
 use Rattle.resolve.specs.OneLiteral.{literalOf}
-use Rattle.value.specs.Field.{fieldOf}
 use Rattle.resolve.specs.Checks.{areLent, lentOf}
+use Rattle.value.specs.Field.{fieldOf}
 use Rattle.field.specs.OneField.{valueAt}
 
 pub record WellFormedFields : Type 0 where

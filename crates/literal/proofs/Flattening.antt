@@ -9,7 +9,7 @@ use lib.ListN.{length, drop}
 use Rattle.chunk.specs.declared.form.Kind.{Kind}
 use Rattle.chunk.specs.declared.form.Kind.the-variants.{Normal, Verbatim, Math}
 use Rattle.chunk.specs.Chunk.{Chunk, chunk, ChunkRow, flatChunks, putChunk}
-use Rattle.literal.specs.Content.{joins, join, flattenFrom, flatten}
+use Rattle.turn.specs.Content.{joins, join, flattenFrom, flatten}
 use Rattle.literal.specs.Rows.{rowsFrom, writes, textsOf}
 use Rattle.literal.specs.Literal.{chunkUp}
 use Rattle.literal.specs.Flattening.{Flattening}

@@ -5,7 +5,7 @@ use mathlib.Core.Path.{_≡_}
 use mathlib.Core.List.{List, _++_, map}
 use lib.ListN.{length, drop}
 use Rattle.chunk.specs.Chunk.{Chunk, flatChunks}
-use Rattle.literal.specs.Content.{flatten}
+use Rattle.turn.specs.Content.{flatten}
 use Rattle.literal.specs.Rows.{rowsFrom, writes, textsOf}
 use Rattle.literal.specs.Literal.{chunkUp}
 

@@ -12,12 +12,12 @@ use lib.ListN.{length}
 use lib.Seq.{sets}
 use Rattle.text.specs.Scan.{part}
 use Rattle.row.specs.declared.fault.Fault.{Fault}
-use Rattle.literal.specs.declared.rows.Rows.{Rows}
+use Rattle.turn.specs.Content.{flatten}
 use Rattle.chunk.specs.Chunk.{Chunk}
 use Rattle.compose.specs.Lookup.{numbers}
 use Rattle.compose.specs.Composites.{composites}
 use Rattle.command.specs.Names.{names as allNames}
-use Rattle.literal.specs.Content.{flatten}
+use Rattle.literal.specs.declared.rows.Rows.{Rows}
 use Rattle.literal.specs.Rows.{RowsHold, textsOf}
 use Rattle.resolve.specs.declared.answer.Answer.{Answer}
 use Rattle.resolve.specs.declared.answer.Answer.the-variants as answer

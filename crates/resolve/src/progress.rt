@@ -15,7 +15,7 @@ ghost use lib.Seq.{sets};
 ghost use Rattle.text.specs.Scan.{part};
 ghost use Rattle.chunk.specs.declared.form.Kind.the-variants.{Normal};
 ghost use Rattle.chunk.specs.Chunk.{Chunk, chunk};
-ghost use Rattle.literal.specs.Content.{flatten};
+ghost use Rattle.turn.specs.Content.{flatten};
 ghost use Rattle.literal.specs.Rows.{RowsHold};
 ghost use Rattle.literal.specs.Literal.{resolveLiteral};
 ghost use Rattle.resolve.specs.Resolves.{fits as fitsOf};

@@ -17,7 +17,7 @@ use Rattle.lookup.specs.declared.plain.Found.{Found}
 use Rattle.lookup.specs.declared.plain.Found.the-variants as found
 use Rattle.lookup.specs.Names.{sameBytes, lastNamed}
 use Rattle.chunk.specs.Chunk.{Chunk}
-use Rattle.literal.specs.Content.{flatten}
+use Rattle.turn.specs.Content.{flatten}
 use Rattle.literal.specs.Literal.{Resolved, chunks, resolveLiteral}
 use Rattle.literal.specs.Literal as literal
 use Rattle.literal.specs.Rows.{textsOf}
@@ -25,8 +25,8 @@ use Rattle.literal.proofs.Flattening.{flattening}
 use Rattle.literal.proofs.WellFormed.{well-formed}
 use Rattle.resolve.specs.Resolves.{Value, resolved, refused}
 use Rattle.resolve.specs.Checks.{Lent, Month}
-use Rattle.value.specs.Field.{isElement, elements, behind, onward, walk, flattened, parseField}
 use Rattle.resolve.specs.Runs.{Run, done, stop, ofLiteral}
+use Rattle.value.specs.Field.{isElement, elements, behind, onward, walk, flattened, parseField}
 use Rattle.value.specs.Field.{element, Meaning, definition, month, unknown, monthOf, orMonth, spelt, meaningOf, onPath, known, mostOpen}
 use Rattle.value.specs.Field.{mostNames, opened, name, ofRun, fieldOf}
 use Rattle.value.specs.EnoughText.{literalBytes, monthBytes, most, EnoughText}

@@ -18,13 +18,13 @@ use Rattle.lookup.specs.Names.{sameBytes, isNamed, later, lastNamed}
 use Rattle.raw.specs.Reader.{OutOf, ok, again, bad}
 use Rattle.chunk.specs.declared.form.Kind.the-variants.{Normal}
 use Rattle.chunk.specs.Chunk.{Chunk, chunk}
-use Rattle.literal.specs.Content.{Part, content, chunksOf, joins, join, flattenFrom}
+use Rattle.turn.specs.Content.{Part, content, chunksOf, joins, join, flattenFrom}
 use Rattle.literal.specs.Literal.{mostLiteral, mostArguments, chunkUp, resolvedOf, tooLong, resolveLiteral}
 use Rattle.literal.specs.Literal as literal
 use Rattle.resolve.specs.Resolves.{Value, resolved, refused}
 use Rattle.resolve.specs.Checks.{Month, Lent}
-use Rattle.value.specs.Field.{elements, behind, onward, walk, flattened, parseField, element, Meaning}
 use Rattle.resolve.specs.Runs.{Run, done, stop, ofLiteral}
+use Rattle.value.specs.Field.{elements, behind, onward, walk, flattened, parseField, element, Meaning}
 use Rattle.value.specs.Field.{definition, month, unknown, monthOf, orMonth, spelt, meaningOf, onPath, atUse, known, mostOpen, mostNames}
 use Rattle.value.specs.Field.{opened, name, ofRun, fieldOf}
 use Rattle.value.specs.OwnRows.{asTheyAre, leftOut, Element, elementIn, elementsIn, valueIn, Definition, definitionIn, definitionsFrom}

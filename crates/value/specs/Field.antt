@@ -20,7 +20,7 @@ use Rattle.lookup.specs.declared.plain.Found.the-variants as found
 use Rattle.lookup.specs.Names.{sameBytes, lastNamed}
 use Rattle.chunk.specs.declared.form.Kind.the-variants.{Normal}
 use Rattle.chunk.specs.Chunk.{Chunk, chunk}
-use Rattle.literal.specs.Content.{flatten}
+use Rattle.turn.specs.Content.{flatten}
 use Rattle.literal.specs.Literal.{resolveLiteral}
 use Rattle.resolve.specs.Resolves.{Value, resolved, refused}
 use Rattle.resolve.specs.Runs.{Run, done, stop, ofLiteral}

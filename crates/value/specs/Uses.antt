@@ -15,6 +15,9 @@ use Rattle.row.specs.Row.{Row}
 use Rattle.row.specs.declared.form.Kind.the-variants.{Literal, Name}
 use Rattle.row.specs.Rules.{isKind}
 use Rattle.lookup.specs.RowIndex.{Indexed}
+use Rattle.resolve.specs.Checks.{Lent, monthsOf, areLent}
+use Rattle.resolve.specs.Runs.{Run}
+use Rattle.resolve.specs.Progress.{Ready}
 use Rattle.value.specs.declared.months.Month as code
 use Rattle.value.specs.declared.months.Month.the-variants as found
 use Rattle.value.specs.declared.elements.Meaning as code-meaning
@@ -23,12 +26,8 @@ use Rattle.value.specs.declared.elements.Element.{Element}
 use Rattle.value.specs.declared.elements.Element.the-variants as element
 use Rattle.value.specs.declared.elements.Allowed.{Allowed}
 use Rattle.value.specs.declared.elements.Allowed.the-variants as allowed
-use Rattle.resolve.specs.Checks.{Lent}
-use Rattle.resolve.specs.Runs.{Run}
 use Rattle.value.specs.Field.{Meaning, definition, month, unknown, monthOf, onPath, mostNames, walk, elements, name}
 use Rattle.value.specs.Field as field
-use Rattle.resolve.specs.Checks.{monthsOf, areLent}
-use Rattle.resolve.specs.Progress.{Ready}
 
 -- the text from a to e is the one that the list has for the name
 abbrev pub MonthFound : List ℕ → List ℕ → List ℕ → code.Month → Type 0

@@ -26,7 +26,7 @@ use Rattle.row.specs.Row.{Row}
 use Rattle.row.specs.Numbers.{rowsOf}
 use Rattle.row.proofs.Laid.{laid}
 use Rattle.chunk.specs.Chunk.{Chunk, flatChunks}
-use Rattle.literal.specs.Content.{flatten}
+use Rattle.turn.specs.Content.{flatten}
 use Rattle.literal.specs.Rows.{rowsFrom, textsOf}
 use Rattle.literal.proofs.Flattening.{flattening}
 use Rattle.resolve.specs.declared.answer.Answer.{Answer}
@@ -35,14 +35,13 @@ use Rattle.resolve.specs.declared.progress.Progress.{Progress}
 use Rattle.resolve.specs.declared.progress.Went.{Went}
 use Rattle.resolve.specs.declared.progress.Went.the-variants as went
 use Rattle.resolve.specs.Resolves.{Value, resolved, small, fits, told, rowsLeft, textLeft, Writes}
-use Rattle.resolve.specs.Checks.{Lent}
+use Rattle.resolve.specs.Checks.{Lent, isValue, areLent, isRight}
 use Rattle.resolve.specs.Runs.{Run, done, stop}
-use Rattle.value.specs.Field.{flattened, ofRun, fieldOf}
-use Rattle.resolve.specs.Checks.{isValue, areLent, isRight}
 use Rattle.resolve.specs.Progress.{Has, answerOf, Bounded, SaysRun, BoundedAnswer, Counted}
+use Rattle.resolve.proofs.Asking.{asking}
+use Rattle.value.specs.Field.{flattened, ofRun, fieldOf}
 use Rattle.value.specs.Uses.{valueFrom, Sound}
 use Rattle.field.specs.OneField.{Resolving}
-use Rattle.resolve.proofs.Asking.{asking}
 
 -- ---- chunks that were counted
 

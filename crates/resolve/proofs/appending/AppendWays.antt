@@ -21,10 +21,10 @@ use Rattle.text.proofs.general.Parts.{length-part}
 use Rattle.row.specs.declared.fault.Fault.{Fault}
 use Rattle.chunk.specs.declared.form.Kind.the-variants.{Normal}
 use Rattle.chunk.specs.Chunk.{Chunk, chunk}
+use Rattle.turn.specs.Content.{flatten}
 use Rattle.literal.specs.declared.rows.Rows.{Rows}
 use Rattle.literal.specs.declared.parse.Parsed.{Parsed}
 use Rattle.literal.specs.declared.parse.Parsed.the-variants as parsed
-use Rattle.literal.specs.Content.{flatten}
 use Rattle.literal.specs.Literal.{Resolved, chunks}
 use Rattle.literal.specs.Literal as literal
 use Rattle.literal.specs.Inner.{SaysParsed, GrowsParsed}

@@ -19,10 +19,10 @@ use Rattle.row.specs.declared.fault.Reason.the-variants.{NoRoom}
 use Rattle.row.specs.Fault.{nowhere}
 use Rattle.chunk.specs.Chunk.{Chunk, flatChunks}
 use Rattle.chunk.specs.Put.{Puts}
+use Rattle.turn.specs.Content.{flatten}
 use Rattle.literal.specs.declared.rows.Rows.{Rows}
 use Rattle.literal.specs.declared.parse.Parsed.{Parsed}
 use Rattle.literal.specs.declared.parse.Parsed.the-variants as parsed
-use Rattle.literal.specs.Content.{flatten}
 use Rattle.literal.specs.Literal.{Resolved, chunks}
 use Rattle.literal.specs.Literal as literal
 use Rattle.literal.specs.Rows.{RowsHold, rowsFrom, writes, textsOf, lastKind, lastText, lastStart}

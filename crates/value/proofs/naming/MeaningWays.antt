@@ -16,11 +16,11 @@ use Rattle.lookup.specs.declared.plain.Found.{Found}
 use Rattle.lookup.specs.declared.plain.Found.the-variants as found
 use Rattle.lookup.specs.Names.{lastNamed}
 use Rattle.lookup.proofs.Lookup.{lookup}
+use Rattle.resolve.specs.Checks.{lentOf}
 use Rattle.value.specs.declared.months.Month.{Month}
 use Rattle.value.specs.declared.months.Month.the-variants as month
 use Rattle.value.specs.declared.elements.Meaning.the-variants as meaning
 use Rattle.value.specs.Field.{meaningOf}
-use Rattle.resolve.specs.Checks.{lentOf}
 use Rattle.value.specs.Uses.{MonthFound, Means}
 
 module _ (file rows months words : List ℕ) (start end : ℕ) where

@@ -19,9 +19,9 @@ use Rattle.row.specs.Numbers.{rowsOf}
 use Rattle.row.specs.Laid.{rowAt}
 use Rattle.row.proofs.Laid.{laid}
 use Rattle.lookup.specs.Names.{sameBytes}
+use Rattle.resolve.specs.Checks.{monthIn, monthsOf, isValid, isText, isMonth, everyMonth, areMonths}
 use Rattle.value.specs.declared.months.Month.the-variants as found
 use Rattle.value.specs.Field.{monthOf}
-use Rattle.resolve.specs.Checks.{monthIn, monthsOf, isValid, isText, isMonth, everyMonth, areMonths}
 use Rattle.value.specs.Uses.{MonthFound}
 
 pub record Seeking (months words name : List ℕ) (i : ℕ) : Type 0 where

@@ -24,21 +24,20 @@ use Rattle.row.specs.Numbers.{rowsOf, areRows}
 use Rattle.row.specs.Laid.{rowAt}
 use Rattle.row.proofs.Laid.{laid}
 use Rattle.literal.specs.Literal.{resolveLiteral}
-use Rattle.value.specs.declared.elements.Element.{Element}
-use Rattle.value.specs.declared.elements.Element.the-variants as element
 use Rattle.resolve.specs.declared.progress.Progress.{Progress}
 use Rattle.resolve.specs.declared.progress.Went.{Went}
 use Rattle.resolve.specs.declared.progress.Went.the-variants as went
 use Rattle.resolve.specs.OneLiteral.{isSpan}
-use Rattle.resolve.specs.Checks.{Lent}
+use Rattle.resolve.specs.Checks.{Lent, everySpan, areMonths, areLent}
 use Rattle.resolve.specs.Runs.{Run, done, ofLiteral}
+use Rattle.resolve.specs.Progress.{SaysRun}
+use Rattle.resolve.proofs.Asking.{asking}
+use Rattle.value.specs.declared.elements.Element.{Element}
+use Rattle.value.specs.declared.elements.Element.the-variants as element
 use Rattle.value.specs.Field.{onward, walk, elements, Meaning, definition}
 use Rattle.value.specs.Field.{month, unknown, meaningOf, known, opened, atUse, elementsOf, parseField, mostNames, name}
 use Rattle.value.specs.Field as field
-use Rattle.resolve.specs.Checks.{everySpan, areMonths, areLent}
-use Rattle.resolve.specs.Progress.{SaysRun}
 use Rattle.value.specs.Uses.{firstElement, valueFrom, Sound}
-use Rattle.resolve.proofs.Asking.{asking}
 use Rattle.value.proofs.ways.RunWays.{says-end, says-on, says-stopped}
 
 -- ---- `element_at`

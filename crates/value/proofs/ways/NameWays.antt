@@ -23,18 +23,18 @@ use Rattle.row.specs.Numbers.{rowsOf}
 use Rattle.row.proofs.Laid.{laid}
 use Rattle.chunk.specs.declared.form.Kind.the-variants.{Normal}
 use Rattle.chunk.specs.Chunk.{Chunk, chunk}
-use Rattle.value.specs.declared.elements.Meaning as code
-use Rattle.value.specs.declared.elements.Meaning.the-variants as meaning
-use Rattle.value.specs.declared.elements.Allowed.{Allowed}
-use Rattle.value.specs.declared.elements.Allowed.the-variants as allowed
 use Rattle.resolve.specs.declared.progress.Progress.{Progress}
 use Rattle.resolve.specs.declared.progress.Went.{Went}
 use Rattle.resolve.specs.declared.progress.Went.the-variants as went
 use Rattle.resolve.specs.Checks.{Lent}
 use Rattle.resolve.specs.Runs.{Run, done}
+use Rattle.resolve.specs.Progress.{Has, Adds, SaysRun}
+use Rattle.value.specs.declared.elements.Meaning as code
+use Rattle.value.specs.declared.elements.Meaning.the-variants as meaning
+use Rattle.value.specs.declared.elements.Allowed.{Allowed}
+use Rattle.value.specs.declared.elements.Allowed.the-variants as allowed
 use Rattle.value.specs.Field.{Meaning, definition, month, unknown, meaningOf, onPath}
 use Rattle.value.specs.Field.{known, opened, atUse, element, elements, parseField, flattened, mostNames, name}
-use Rattle.resolve.specs.Progress.{Has, Adds, SaysRun}
 use Rattle.value.specs.Uses.{Means, limits, allowedOf, valueFrom, Sound}
 use Rattle.value.proofs.ways.RunWays.{says-flat, says-from}
 use Rattle.value.proofs.ways.ElementWays.{inside}

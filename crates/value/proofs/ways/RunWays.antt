@@ -11,7 +11,7 @@ use lib.ListN.{length}
 use lib.Seq.{sets}
 use Rattle.row.specs.declared.fault.Fault.{Fault}
 use Rattle.chunk.specs.Chunk.{Chunk}
-use Rattle.literal.specs.Content.{flatten}
+use Rattle.turn.specs.Content.{flatten}
 use Rattle.literal.specs.Rows.{RowsHold, textsOf}
 use Rattle.literal.proofs.Flattening.{flattening}
 use Rattle.resolve.specs.declared.progress.Progress.{Progress}
@@ -19,8 +19,8 @@ use Rattle.resolve.specs.declared.progress.Went.{Went}
 use Rattle.resolve.specs.declared.progress.Went.the-variants as went
 use Rattle.resolve.specs.Resolves.{small}
 use Rattle.resolve.specs.Runs.{Run, done, stop}
-use Rattle.value.specs.Field.{behind, onward, flattened}
 use Rattle.resolve.specs.Progress.{Has, Adds, SaysRun}
+use Rattle.value.specs.Field.{behind, onward, flattened}
 
 -- ---- one behind the other
 

@@ -23,17 +23,17 @@ use Rattle.row.specs.Numbers.{rowsOf}
 use Rattle.row.specs.Laid.{rowAt}
 use Rattle.row.proofs.Laid.{laid}
 use Rattle.chunk.specs.Chunk.{Chunk}
-use Rattle.literal.specs.Content.{joins, join, flattenFrom, flatten}
+use Rattle.turn.specs.Content.{joins, join, flattenFrom, flatten}
 use Rattle.literal.specs.Literal.{Resolved, chunks, resolveLiteral}
 use Rattle.literal.specs.Literal as literal
 use Rattle.literal.specs.Rows.{textsOf}
 use Rattle.literal.proofs.Flattening.{flattening}
 use Rattle.literal.proofs.WellFormed.{well-formed}
-use Rattle.value.specs.declared.elements.Element.{Element}
-use Rattle.value.specs.declared.elements.Element.the-variants as element
 use Rattle.resolve.specs.Resolves.{mostWritten}
 use Rattle.resolve.specs.Checks.{Lent}
 use Rattle.resolve.specs.Runs.{Run, done, stop, ofLiteral}
+use Rattle.value.specs.declared.elements.Element.{Element}
+use Rattle.value.specs.declared.elements.Element.the-variants as element
 use Rattle.value.specs.Field.{behind, onward, walk, elements, ofRun, flattened, name, mostOpen, fieldOf}
 use Rattle.value.specs.Field as field
 use Rattle.value.specs.Uses.{firstElement}

@@ -6,9 +6,9 @@ use mathlib.Core.List.{[]}
 use lib.ListN.{length}
 use borrow.Author.Needs.{needs}
 use Rattle.lookup.proofs.Lookup.{lookup}
-use Rattle.value.specs.Field.{fieldOf}
 use Rattle.resolve.specs.Checks.{isRight, lentOf}
 use Rattle.resolve.proofs.Asking.{asking}
+use Rattle.value.specs.Field.{fieldOf}
 use Rattle.field.proofs.ways.FieldWays.{right-as, lent-right, which-inside}
 use Rattle.field.proofs.field.field.Statement.{statement}
 use Rattle.field.proofs.field.field.Tie as tie

@@ -13,11 +13,14 @@ use Rattle.row.specs.declared.form.Kind.the-variants.{Name}
 use Rattle.row.specs.Row.{row}
 use Rattle.row.specs.Numbers.{rowsOf}
 use Rattle.resolve.specs.declared.progress.Went.{Went}
-use Rattle.value.specs.Field.{meaningOf}
 use Rattle.resolve.specs.Checks.{everySpan, lentOf}
 use Rattle.resolve.specs.Progress.{Bounded, BoundedWent, SaysRun}
-use Rattle.value.specs.Uses.{Inside, valueFrom}
 use Rattle.resolve.proofs.Asking.{asking}
+use Rattle.resolve.proofs.progress.counted.Reads as counted-reads
+use Rattle.resolve.proofs.progress.literal.Reads as literal-reads
+use Rattle.resolve.proofs.progress.month.Reads as month-reads
+use Rattle.value.specs.Field.{meaningOf}
+use Rattle.value.specs.Uses.{Inside, valueFrom}
 use Rattle.value.proofs.ways.ElementWays as ways
 use Rattle.value.proofs.ways.NameWays as names
 use Rattle.value.proofs.elements.name.Reads as name
@@ -29,9 +32,6 @@ use Rattle.value.proofs.elements.+name+value.Lts-value as value-lts
 use Rattle.value.proofs.elements.element_at.Reads as element-at-reads
 use Rattle.value.proofs.elements.may_open.Reads as may-open-reads
 use Rattle.value.proofs.elements.meaning_of.Reads as meaning-of-reads
-use Rattle.resolve.proofs.progress.counted.Reads as counted-reads
-use Rattle.resolve.proofs.progress.literal.Reads as literal-reads
-use Rattle.resolve.proofs.progress.month.Reads as month-reads
 use Rattle.value.proofs.elements.+name+value.{statement}
 use Rattle.value.proofs.elements.+name+value.Tie.{close}
 
