@@ -22,9 +22,8 @@ use Rattle.compose.specs.Composites.{composites}
 use Rattle.compose.specs.Lookup.{lookup}
 use Rattle.command.specs.Commands.{isSingleCharFunc, commands, same, meaningIn}
 use Rattle.command.specs.Execute.{dotted, bare, executeCommand}
-use Rattle.literal.specs.Content.{steps, endTurn, argumentEnd, withName, command, backslash, maths, hyphens}
-use Rattle.literal.specs.Content.{contentTurn, contentBy, inside, flattenFrom}
-use Rattle.literal.specs.Content as content
+use Rattle.turn.specs.Content.{steps, endTurn, argumentEnd, withName, command, backslash, maths, hyphens, contentTurn, contentBy, inside, flattenFrom}
+use Rattle.turn.specs.Content as content
 use Rattle.literal.specs.Literal.{resolveLiteral}
 use Rattle.salvage.specs.Salvage.{head, cut, pieces, salvageOf}
 use Rattle.pack.specs.Digits.{digits}

@@ -17,7 +17,7 @@ use Rattle.raw.specs.Read.{strict}
 use Rattle.chunk.specs.declared.form.Kind.{Kind}
 use Rattle.chunk.specs.declared.form.Kind.the-variants.{Normal, Verbatim}
 use Rattle.chunk.specs.Chunk.{Chunk, chunk}
-use Rattle.literal.specs.Content.{flatten}
+use Rattle.turn.specs.Content.{flatten}
 use Rattle.literal.specs.Literal.{Resolved, resolveLiteral}
 use Rattle.literal.specs.Literal as literal
 use Rattle.salvage.specs.Salvage.{salvageOf}

@@ -6,12 +6,12 @@
 // Scratch holds zeros after the call, whatever it held. include/bib.h says all this to C.
 use chunk::biblatex;
 use chunk::format;
+use field::field as fields;
 use pack::packing;
 use pack::unpacking;
 use raw::answer::Reading;
 use raw::file;
 use resolve::answer::Answer;
-use resolve::field;
 use resolve::one_literal;
 use row::fault;
 use row::fault::Outcome;
@@ -245,7 +245,7 @@ pub extern "C" fn bib_resolve_field(
         (now (count .exit)) (now (bytes .exit)) (now (names .exit)) (now (start .exit)) (now (end .exit))
         (now (scratch .exit)) (now (chunks .exit)) (now (text .exit)) ⌝ }
 {
-    let resolved = field::resolve_field(
+    let resolved = fields::resolve_field(
         file,
         rows,
         which,

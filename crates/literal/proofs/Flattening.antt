@@ -9,7 +9,7 @@ use lib.ListN.{length, drop}
 use Rattle.chunk.specs.declared.form.Kind.{Kind}
 use Rattle.chunk.specs.declared.form.Kind.the-variants.{Normal, Verbatim, Math}
 use Rattle.chunk.specs.Chunk.{Chunk, chunk, ChunkRow, flatChunks, putChunk}
-use Rattle.literal.specs.Content.{joins, join, flattenFrom, flatten}
+use Rattle.turn.specs.Content.{joins, join, flattenFrom, flatten}
 use Rattle.literal.specs.Rows.{rowsFrom, writes, textsOf}
 use Rattle.literal.specs.Literal.{chunkUp}
 use Rattle.literal.specs.Flattening.{Flattening}
@@ -162,6 +162,11 @@ written (r ∷ rs) b h = by b h (written rs)
         ∙ ap (λ (m : List ℕ). r .kind ∷ r .from ∷ r .to ∷ r .start ∷ r .end ∷ m)
         (g l (omega arith) ∙ ap (λ (n : ℕ). flatChunks rs ++ drop n (a₁ ∷ a₂ ∷ a₃ ∷ a₄ ∷ a₅ ∷ l)) (five (length rs)))
 
+five-each : (t : ℕ) (cs : List Chunk) → length (flatChunks (rowsFrom t cs)) ≡ length cs * 5
+unfolding rowsFrom flatChunks
+five-each t [] = refl
+five-each t (c ∷ cs) = let h = five-each (t + length (c .text)) cs in omega (arith, h)
+
 put-rows : (b : List ℕ) (cs : List Chunk) → length cs * 5 ≤ length b
     → writes b 0 (rowsFrom 0 cs) ≡ flatChunks (rowsFrom 0 cs) ++ drop (length cs * 5) b
 put-rows b cs h =
@@ -175,5 +180,6 @@ flattening = record {
   texts-both = both-texts;
   texts-up = up-texts;
   texts-flat = flat-texts;
+  numbers-length = five-each;
   rows-written = put-rows;
 }

@@ -4,7 +4,7 @@ use mathlib.Core.Path.{_≡_, refl, sym, ap, _∙_}
 use mathlib.Core.Bool.{Bool, true, false, cond}
 use mathlib.Core.List.{List, [], _∷_, _++_}
 use Rattle.chunk.specs.Chunk.{Chunk}
-use Rattle.literal.specs.Content.{joins, join, flattenFrom}
+use Rattle.turn.specs.Content.{joins, join, flattenFrom}
 use Rattle.literal.specs.Rows.{onto, Joining}
 
 onto-behind : (cs : List Chunk) (c e d : Chunk) → onto (c ∷ flattenFrom e cs) d ≡ c ∷ onto (flattenFrom e cs) d

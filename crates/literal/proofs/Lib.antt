@@ -1,7 +1,5 @@
 -- The laws and proofs of `literal`, lowest first. The proof of a function is MODULE/FUNCTION/Proof.antt.
 
--- what content comes to
-pub mod contents
 -- the ways through each function
 pub mod ways
 -- content keeps to characters, and emits at most two octets for each one read

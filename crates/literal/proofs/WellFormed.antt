@@ -12,7 +12,7 @@ use Rattle.raw.specs.Reader.{OutOf, ok, again, bad}
 use Rattle.chunk.specs.Chunk.{Chunk, everyChunk}
 use Rattle.chunk.specs.WellFormed.{Texts}
 use Rattle.chunk.specs.WellFormed as texts
-use Rattle.literal.specs.Content.{Part, chunksOf, content, flatten}
+use Rattle.turn.specs.Content.{Part, chunksOf, content, flatten}
 use Rattle.literal.specs.Literal.{Resolved, chunks, refused, mostLiteral, mostArguments, chunkUp, resolvedOf, tooLong, resolveLiteral}
 use Rattle.literal.specs.Rows.{rowsFrom, textsOf}
 use Rattle.literal.specs.WellFormed.{Passes, WellFormed}

@@ -13,8 +13,8 @@ use Rattle.compose.specs.Composites.{composites}
 use Rattle.compose.specs.Lookup.{lookup}
 use Rattle.command.specs.Commands.{isSingleCharFunc, commands, same, meaningIn}
 use Rattle.command.specs.Execute.{dotted, bare, executeCommand}
-use Rattle.literal.specs.Content.{steps, endTurn, argumentEnd, braced, withName, command, backslash, maths, closing, hyphens}
-use Rattle.literal.specs.Content.{contentTurn, contentBy, inside, flattenFrom}
+use Rattle.turn.specs.Content.{steps, endTurn, argumentEnd, braced, withName, command, backslash, maths, closing, hyphens}
+use Rattle.turn.specs.Content.{contentTurn, contentBy, inside, flattenFrom}
 use Rattle.literal.specs.Literal.{resolveLiteral}
 use Rattle.literal.specs.Worked.{table, Worked, opened, closers, Deep}
 

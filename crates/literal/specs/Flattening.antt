@@ -5,7 +5,7 @@ use mathlib.Core.Path.{_≡_}
 use mathlib.Core.List.{List, _++_, map}
 use lib.ListN.{length, drop}
 use Rattle.chunk.specs.Chunk.{Chunk, flatChunks}
-use Rattle.literal.specs.Content.{flatten}
+use Rattle.turn.specs.Content.{flatten}
 use Rattle.literal.specs.Rows.{rowsFrom, writes, textsOf}
 use Rattle.literal.specs.Literal.{chunkUp}
 
@@ -18,6 +18,8 @@ pub record Flattening : Type 0 where
   pub texts-both : (cs ds : List Chunk) → textsOf (cs ++ ds) ≡ textsOf cs ++ textsOf ds
   pub texts-up : (base : ℕ) (cs : List Chunk) → textsOf (map (chunkUp base) cs) ≡ textsOf cs
   pub texts-flat : (cs : List Chunk) → textsOf (flatten cs) ≡ textsOf cs
+  -- a row is five numbers
+  pub numbers-length : (t : ℕ) (cs : List Chunk) → length (flatChunks (rowsFrom t cs)) ≡ length cs * 5
   -- rows that fit stand in front of what was behind them
   pub rows-written : (b : List ℕ) (cs : List Chunk) → length cs * 5 ≤ length b
       → writes b 0 (rowsFrom 0 cs) ≡ flatChunks (rowsFrom 0 cs) ++ drop (length cs * 5) b

@@ -1,4 +1,3 @@
-pub mod Content
 pub mod Literal
 pub mod Rows
 pub mod Flattening

@@ -11,7 +11,7 @@ use Rattle.row.specs.declared.fault.Reason.the-variants.{TooLong}
 use Rattle.raw.specs.Reader.{OutOf, ok, again, bad}
 use Rattle.raw.specs.Strict.{faultUp}
 use Rattle.chunk.specs.Chunk.{Chunk, chunk}
-use Rattle.literal.specs.Content.{Part, chunksOf, content}
+use Rattle.turn.specs.Content.{Part, chunksOf, content}
 
 pub data Resolved : Type 0 where
   chunks : List Chunk → Resolved

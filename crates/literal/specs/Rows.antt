@@ -11,7 +11,7 @@ use lib.ListN.{length}
 use Rattle.chunk.specs.declared.form.Kind.{Kind}
 use Rattle.chunk.specs.Chunk.{Chunk, chunk, kindOf, ChunkRow, chunkRow, putChunk}
 use Rattle.literal.specs.declared.rows.Rows.{Rows}
-use Rattle.literal.specs.Content.{joins, join, flatten}
+use Rattle.turn.specs.Content.{joins, join, flatten}
 
 -- the rows of chunks, where the text of the first begins at t
 unfoldable pub rowsFrom : ℕ → List Chunk → List ChunkRow

@@ -12,7 +12,7 @@ use Rattle.chunk.specs.declared.answer.Checked.the-variants as checked
 use Rattle.chunk.specs.Chunk.{Chunk, flatChunks, everyChunk}
 use Rattle.chunk.specs.Write.{checkedOf}
 use Rattle.chunk.specs.WellFormed.{Texts}
-use Rattle.literal.specs.Content.{flatten}
+use Rattle.turn.specs.Content.{flatten}
 use Rattle.literal.specs.Literal.{chunks, resolveLiteral}
 use Rattle.literal.specs.Rows.{rowsFrom, textsOf}
 

@@ -12,7 +12,7 @@ use Rattle.chunk.specs.declared.form.Kind.{Kind}
 use Rattle.chunk.specs.declared.form.Kind.the-variants.{Normal, Verbatim, Math}
 use Rattle.chunk.specs.Chunk.{Chunk, chunk}
 use Rattle.text.specs.Strings.{utf8}
-use Rattle.literal.specs.Content.{flatten}
+use Rattle.turn.specs.Content.{flatten}
 use Rattle.literal.specs.Literal.{Resolved, resolveLiteral}
 use Rattle.literal.specs.Literal.{chunks as Chunks, refused as Refused}
 

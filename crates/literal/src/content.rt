@@ -19,7 +19,8 @@ ghost use Rattle.compose.specs.Lookup.{numbers};
 ghost use Rattle.compose.specs.Composites.{composites};
 ghost use Rattle.command.specs.Commands.{meaningOf};
 ghost use Rattle.command.specs.Execute.{leading};
-ghost use Rattle.literal.specs.Inner.{isSign, Further, Within, SaysSign, AheadMade, Begun, Finished, Closes};
+ghost use Rattle.turn.specs.Turns.{isSign};
+ghost use Rattle.literal.specs.Inner.{Further, Within, SaysSign, AheadMade, Begun, Finished, Closes};
 
 // What content came to.
 pub enum Made {

@@ -5,11 +5,11 @@ use crate::making;
 use crate::making::Making;
 use crate::making::Place;
 use crate::rows::Rows;
-use crate::turn;
-use crate::turn::Text;
 use command::meaning::Meaning;
 use row::fault::Fault;
 use row::fault::Reason;
+use turn::turn as turns;
+use turn::turn::Text;
 ghost use mathlib.Core.Path.{_≡_};
 ghost use mathlib.Core.Bool.{false};
 ghost use Prim.Native.Nat.{_+_, _*_, _≤_, _<_};
@@ -17,9 +17,10 @@ ghost use lib.ListN.{length, take};
 ghost use Rattle.text.specs.Scan.{part};
 ghost use Rattle.raw.specs.Strict.{faultUp};
 ghost use Rattle.command.specs.Commands.{meaningOf};
-ghost use Rattle.literal.specs.Content.{inside};
+ghost use Rattle.turn.specs.Content.{inside};
 ghost use Rattle.literal.specs.Literal.{resolveLiteral};
-ghost use Rattle.literal.specs.Inner.{from, Ready, Spans, inArgument, Fits, Closed, Says, SaysArgument, AheadMade, ReadyLiteral, SaysParsed, GrowsParsed};
+ghost use Rattle.literal.specs.Inner.{from, Ready, inArgument, Fits, Closed, Says, SaysArgument, AheadMade, ReadyLiteral, SaysParsed, GrowsParsed};
+ghost use Rattle.turn.specs.Turns.{Spans};
 
 // The longest literal that is resolved, and how many arguments may be open at once [01:From file to field].
 const MOST_LITERAL: usize = 16_384;
@@ -52,7 +53,7 @@ fn content(
     let mut st = first;
     loop {
         let at = st.at;
-        if turn::sign_at(s, verb, at) {
+        if turns::sign_at(s, verb, at) {
             match content::sign(s, verb, st, place, out, numbers) {
                 Made::Done(t) => {
                     st = t;
@@ -62,7 +63,7 @@ fn content(
                 }
             }
         } else {
-            match turn::text_at(s, verb, at, out, st.len, names, marks) {
+            match turns::text_at(s, verb, at, out, st.len, names, marks) {
                 Text::End => {
                     return Made::Done(st);
                 }

@@ -1,15 +1,13 @@
 -- What the public contracts settle: any two outcomes that one allows are the same. Stated of each contract as the check reads it off the
 -- source, so that a contract which said less would fail here.
 --     the same answer                                         `check_file`, `is_span`, `are_lent`, `is_value`
---     the same answer, scratch, chunk rows and text           `resolve_literal`, `resolve_field`
+--     the same answer, scratch, chunk rows and text           `resolve_literal`
 -- Assumes nothing.
 use mathlib.Core.Path.{_≡_, sym, _∙_}
 use denote.Ref.{now}
 use Rattle.text.proofs.general.Outcomes.{Both, One}
 use Rattle.resolve.proofs.answer.check_file.Kinds as check-file-kinds
 use Rattle.resolve.proofs.answer.check_file.Reads as check-file
-use Rattle.resolve.proofs.field.resolve_field.Kinds as resolve-field-kinds
-use Rattle.resolve.proofs.field.resolve_field.Reads as resolve-field
 use Rattle.resolve.proofs.lent.are_lent.Kinds as are-lent-kinds
 use Rattle.resolve.proofs.lent.are_lent.Reads as are-lent
 use Rattle.resolve.proofs.lent.is_value.Kinds as is-value-kinds
@@ -36,18 +34,6 @@ pub one-resolve-literal : Both 4 resolve-literal-kinds.ps resolve-literal-kinds.
     (x ≡ y) × (now (s .1 .1 .1 .1 .0) ≡ now (t .1 .1 .1 .1 .0)) × (now (s .1 .1 .1 .1 .1 .0) ≡ now (t .1 .1 .1 .1 .1 .0))
     × (now (s .1 .1 .1 .1 .1 .1 .0) ≡ now (t .1 .1 .1 .1 .1 .1 .0)))
 one-resolve-literal κs a x y s t p q = (
-  p .writes .answer ∙ sym (q .writes .answer),
-  p .scratch ∙ sym (q .scratch),
-  p .writes .rows ∙ sym (q .writes .rows),
-  p .writes .text ∙ sym (q .writes .text),
-)
-
-pub one-resolve-field : Both 7 resolve-field-kinds.ps resolve-field-kinds.r resolve-field.Post
-    (λ κs x s y t.
-    (x ≡ y) × (now (s .1 .1 .1 .1 .1 .1 .0) ≡ now (t .1 .1 .1 .1 .1 .1 .0))
-    × (now (s .1 .1 .1 .1 .1 .1 .1 .0) ≡ now (t .1 .1 .1 .1 .1 .1 .1 .0))
-    × (now (s .1 .1 .1 .1 .1 .1 .1 .1 .0) ≡ now (t .1 .1 .1 .1 .1 .1 .1 .1 .0)))
-one-resolve-field κs a x y s t p q = (
   p .writes .answer ∙ sym (q .writes .answer),
   p .scratch ∙ sym (q .scratch),
   p .writes .rows ∙ sym (q .writes .rows),

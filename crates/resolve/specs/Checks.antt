@@ -1,4 +1,5 @@
 -- What is lent with a file, and what resolving refuses with 17 [01:Rows and their packing].
+--     Month, Lent             what is lent: the file, its rows, and the month words with their texts
 --     monthsOf                month words with their texts in lent numbers and bytes, four numbers to a word
 --     isRight                 rows, chosen row and months are as resolving asks
 -- Assumes nothing.
@@ -16,7 +17,16 @@ use Rattle.row.specs.Row.{Row}
 use Rattle.row.specs.Rules.{isKind}
 use Rattle.row.specs.Numbers.{rowsOf, areRows}
 use Rattle.resolve.specs.OneLiteral.{isSpan}
-use Rattle.resolve.specs.Field.{Month, Lent}
+
+-- [01:From file to field] "a list of month words with their texts, compared byte by byte"
+pub record Month : Type 0 where
+  pub word : List ℕ
+  pub text : List ℕ
+
+pub record Lent : Type 0 where
+  pub file : List ℕ
+  pub rows : List Row
+  pub months : List Month
 
 -- ---- rows
 

@@ -1,12 +1,7 @@
 pub mod Resolves
 pub mod OneLiteral
-pub mod Field
+pub mod Runs
 pub mod Checks
-pub mod OneField
-pub mod WellFormedFields
 pub mod StrictRows
-pub mod OwnRows
-pub mod EnoughText
 pub mod Progress
-pub mod Uses
-pub mod Worked
+pub mod Asking

@@ -6,7 +6,7 @@ use mathlib.Core.List.{List}
 use lib.Dec.{leb}
 use Rattle.text.specs.Utf8.{isBoundary}
 use Rattle.text.specs.Scan.{part}
-use Rattle.literal.specs.Content.{flatten}
+use Rattle.turn.specs.Content.{flatten}
 use Rattle.literal.specs.Literal.{Resolved, chunks, resolveLiteral}
 use Rattle.literal.specs.Literal as literal
 use Rattle.resolve.specs.Resolves.{Value, resolved, refused, asked}

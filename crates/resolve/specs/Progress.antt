@@ -1,6 +1,6 @@
--- What the lent numbers and bytes hold while the elements of a value are resolved one after the other. For src/progress.rt and src/field.rt.
+-- What the lent numbers and bytes hold while the elements of a value are resolved one after the other. For src/progress.rt and the crates above.
 --     Has           the chunks so far, as the code has them
---     SaysRun       what a function answers that takes the definition of Field.antt further
+--     SaysRun       what a function answers that takes a run further
 --     Counted       what a value came to that was counted and not written
 --     Ready         what the functions ask
 -- Assumes nothing.
@@ -12,12 +12,12 @@ use lib.ListN.{length}
 use lib.Seq.{sets}
 use Rattle.text.specs.Scan.{part}
 use Rattle.row.specs.declared.fault.Fault.{Fault}
-use Rattle.literal.specs.declared.rows.Rows.{Rows}
+use Rattle.turn.specs.Content.{flatten}
 use Rattle.chunk.specs.Chunk.{Chunk}
 use Rattle.compose.specs.Lookup.{numbers}
 use Rattle.compose.specs.Composites.{composites}
 use Rattle.command.specs.Names.{names as allNames}
-use Rattle.literal.specs.Content.{flatten}
+use Rattle.literal.specs.declared.rows.Rows.{Rows}
 use Rattle.literal.specs.Rows.{RowsHold, textsOf}
 use Rattle.resolve.specs.declared.answer.Answer.{Answer}
 use Rattle.resolve.specs.declared.answer.Answer.the-variants as answer
@@ -25,7 +25,7 @@ use Rattle.resolve.specs.declared.progress.Progress.{Progress}
 use Rattle.resolve.specs.declared.progress.Went.{Went}
 use Rattle.resolve.specs.declared.progress.Went.the-variants as went
 use Rattle.resolve.specs.Resolves.{Value, resolved, refused, mostWritten, small}
-use Rattle.resolve.specs.Field.{Run, done, stop}
+use Rattle.resolve.specs.Runs.{Run, done, stop}
 
 -- the chunks ps: more than can be written, or exactly these. The lent numbers were b₀ and the lent bytes t₀ before any chunk
 pub record Has (ps : List Chunk) (b₀ t₀ : List ℕ) (st : Progress) (b t : List ℕ) : Type 0 where

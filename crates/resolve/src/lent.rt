@@ -1,23 +1,13 @@
 // What is lent with a file: its rows, and month words with their texts. What resolving refuses with 17.
 use crate::one_literal;
-use lookup::plain;
 use row::check;
 use row::check::Checked;
 use text::utf8;
 use text::utf8::Validity;
 ghost use mathlib.Core.Path.{_≡_};
-ghost use mathlib.Core.Bool.{true};
-ghost use Prim.Native.Nat.{_+_, _<_};
 ghost use lib.ListN.{drop};
 ghost use Rattle.row.specs.Numbers.{rowsOf};
 ghost use Rattle.resolve.specs.Checks.{everySpan, isValue, isText, areMonths, areLent};
-ghost use Rattle.resolve.specs.Uses.{MonthFound};
-
-// A month word's text in the lent bytes, or that there is no such word.
-pub enum Month {
-    Text { from: usize, to: usize },
-    Nothing,
-}
 
 pub fn place(n: u32) -> usize
     ensures { λ r. ⌜ r ≡ n ⌝ }
@@ -91,24 +81,4 @@ pub fn is_value(rows: &[u32], which: usize) -> bool
         return false;
     }
     rows[which * 4] == 5
-}
-
-// The text of a month word: of equal words the first counts.
-pub fn find_month(months: &[u32], words: &[u8], name: &[u8]) -> Month
-    requires { ⌜ areMonths (now months) (now words) ≡ true ⌝ }
-    ensures { λ r. ⌜ MonthFound (now (months .entry)) (now (words .entry)) (now (name .entry)) r ⌝ }
-{
-    let mut i = 0;
-    while i < months.len() {
-        let from = place(months[i]);
-        let to = place(months[i + 1]);
-        if plain::equal(&words[from..to], name) {
-            return Month::Text {
-                from: place(months[i + 2]),
-                to: place(months[i + 3]),
-            };
-        }
-        i += 4;
-    }
-    Month::Nothing
 }

@@ -15,11 +15,11 @@ ghost use lib.Seq.{sets};
 ghost use Rattle.text.specs.Scan.{part};
 ghost use Rattle.chunk.specs.declared.form.Kind.the-variants.{Normal};
 ghost use Rattle.chunk.specs.Chunk.{Chunk, chunk};
-ghost use Rattle.literal.specs.Content.{flatten};
+ghost use Rattle.turn.specs.Content.{flatten};
 ghost use Rattle.literal.specs.Rows.{RowsHold};
 ghost use Rattle.literal.specs.Literal.{resolveLiteral};
 ghost use Rattle.resolve.specs.Resolves.{fits as fitsOf};
-ghost use Rattle.resolve.specs.Field.{ofLiteral};
+ghost use Rattle.resolve.specs.Runs.{ofLiteral};
 ghost use Rattle.resolve.specs.Progress.{Has, answerOf, Bounded, Adds, Appends, SaysRun, BoundedWent, Ready};
 
 // The most rows and the most bytes of text that are written: the numbers of a row have 32 bits.

@@ -15,6 +15,7 @@ laid = record {
   rows-length = flat.rows-length;
   rows-next = flat.rows-next;
   rows-end = flat.rows-end;
+  rows-by = flat.rows-by;
   overlay-fits = overlay.overlay-fits;
   overlay-append = overlay.overlay-append;
   put-overlay = overlay.put-overlay;

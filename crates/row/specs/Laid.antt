@@ -24,6 +24,8 @@ pub record Laid : Type 0 where
   -- the rows from a number on: the row there and those behind it, or none where no whole row is left
   pub rows-next : (l : List ℕ) (i : ℕ) → i + 4 ≤ length l → rowsOf (drop i l) ≡ rowAt l i ∷ rowsOf (drop (i + 4) l)
   pub rows-end : (l : List ℕ) (i : ℕ) → length l < i + 4 → rowsOf (drop i l) ≡ []
+  -- the rows from a row on
+  pub rows-by : (k : ℕ) (l : List ℕ) → drop k (rowsOf l) ≡ rowsOf (drop (k * 4) l)
   -- rows that all fit stand in front of what the numbers held
   pub overlay-fits : (rs : List Row) (b : List ℕ) → length rs ≤ length b / 4 → overlay b 0 rs ≡ flat rs ++ drop (length rs * 4) b
   -- two lists of rows are laid one after the other; a row may be put before or after the rows behind it

@@ -12,9 +12,9 @@ use Rattle.chunk.specs.WellFormed as texts
 use Rattle.literal.specs.WellFormed.{Passes}
 use Rattle.literal.proofs.WellFormed.{well-formed}
 use Rattle.resolve.specs.Resolves.{Value, resolved, refused}
-use Rattle.resolve.specs.Field.{Lent, fieldOf}
-use Rattle.resolve.specs.Checks.{lentOf}
-use Rattle.resolve.proofs.WellFormedFields.{well-formed-fields}
+use Rattle.resolve.specs.Checks.{Lent, lentOf}
+use Rattle.value.specs.Field.{fieldOf}
+use Rattle.field.proofs.WellFormedFields.{well-formed-fields}
 use Rattle.whole.specs.WholeFile.{isValueRow, flag, resultsFrom, chunksIn, all, allOf}
 use Rattle.whole.specs.WellFormedFile.{AllPass, WellFormedFile}
 use Rattle.whole.proofs.ways.FileWays.{asked-of}

@@ -18,8 +18,7 @@ use Rattle.resolve.specs.declared.answer.Answer.the-variants as answer
 use Rattle.resolve.specs.declared.progress.Went.{Went}
 use Rattle.resolve.specs.declared.progress.Went.the-variants as went
 use Rattle.resolve.specs.Resolves.{Value, mostWritten, small}
-use Rattle.resolve.specs.Field.{Lent}
-use Rattle.resolve.specs.Checks.{areLent}
+use Rattle.resolve.specs.Checks.{Lent, areLent}
 use Rattle.resolve.specs.Progress.{Ready}
 use Rattle.whole.specs.declared.file.Totals.{Totals}
 use Rattle.whole.specs.WholeFile.{resultsFrom, results, values, chunksIn, texts, chunkNumbers, countRows, answerNumbers, smallAll}

@@ -23,8 +23,8 @@ use Rattle.literal.specs.Rows.{rowsFrom, textsOf}
 use Rattle.whole.specs.declared.file.Filed.{Filed}
 use Rattle.whole.specs.declared.file.Filed.the-variants as filed
 use Rattle.resolve.specs.Resolves.{Value, resolved, refused, mostWritten, leastScratch, checkedFile}
-use Rattle.resolve.specs.Field.{Lent, fieldOf}
-use Rattle.resolve.specs.Checks.{areLent, lentOf}
+use Rattle.resolve.specs.Checks.{Lent, areLent, lentOf}
+use Rattle.value.specs.Field.{fieldOf}
 
 -- ---- what the values resolve to
 

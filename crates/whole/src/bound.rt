@@ -1,6 +1,6 @@
 // How much a value can come to at most, told from the places of its literals. That is little work beside resolving it.
-use resolve::field;
-use resolve::field::Element;
+use value::elements;
+use value::elements::Element;
 ghost use Prim.Native.Nat.{_+_, _/_, _<_};
 ghost use lib.ListN.{length, drop};
 ghost use Rattle.row.specs.Numbers.{rowsOf};
@@ -24,7 +24,7 @@ pub fn most_of(rows: &[u32], i: usize) -> Most
     let mut m = 0;
     let mut at = i * 4 + 4;
     loop {
-        let e = field::element_at(rows, at);
+        let e = elements::element_at(rows, at);
         at += 4;
         match e {
             Element::Nothing => {

@@ -24,10 +24,11 @@ use Rattle.raw.specs.Reader.{OutOf, ok, again, bad, more, andThen, after, loop,
 use Rattle.raw.specs.Grammar.{is, any}
 use Rattle.command.specs.Commands.{isSingleCharFunc}
 use Rattle.command.specs.Execute.{absent, executeCommand}
-use Rattle.literal.specs.Content.{Part, put, cut, math, Reader, nameEnd, takesOne, opensAt, withName, command, braced, argumentEnd, endTurn, endsAt}
-use Rattle.literal.specs.Content.{ran, backslash, backslashAt, isEscape, begins, maths, closing, hyphens, copy, contentTurn, contentBy, inside}
-use Rattle.literal.specs.Content.{content}
-use Rattle.literal.proofs.contents.TurnsAdvance.{next-inside, skip-inside, Ends, end-inside, opens-inside}
+use Rattle.turn.specs.Content.{Part, put, cut, math, Reader, nameEnd, takesOne, opensAt, withName, command, braced, argumentEnd, endTurn, endsAt}
+use Rattle.turn.specs.Content.{ran, backslash, backslashAt, isEscape, begins, maths, closing, hyphens, copy, contentTurn, contentBy, inside}
+use Rattle.turn.specs.Content.{content}
+use Rattle.turn.proofs.Turning.{turning}
+use Rattle.turn.specs.Turns.{Ends}
 use Rattle.literal.proofs.characters.Moves.{owed, move-none, Leads, Reads, eaten-by, cond-by, turned, many-reads}
 use Rattle.literal.proofs.characters.TurnMoves.{To, skip-place, seen-place, ascii-place, past, copy-move, blank-move, one, free, cut-move}
 use Rattle.literal.proofs.characters.TurnMoves.{math-move, slash-move, dash-one, dash-two, dash-three, escape-move, odd-move, alone-move}
@@ -111,14 +112,14 @@ module _ (argument : Reader) (A : Reads argument) (s : List ℕ) (p n e : ℕ) (
   w = skip isWhitespace s e
 
   w-in : (e ≤ w) × (w ≤ length s)
-  w-in = skip-inside isWhitespace s e k
+  w-in = turning .skip-inside isWhitespace s e k
 
   to-w : To s p w
   to-w = skip-place isWhitespace s p e to-e
 
   braced-leads : opensAt (see s w) ≡ true → Leads s p (braced argument (part s n e) s (w + 1))
   unfolding braced
-  braced-leads h = by (argumentEnd s (w + 1)) (end-inside s (w + 1) (opens-inside s w h)) (ends-place s (w + 1))
+  braced-leads h = by (argumentEnd s (w + 1)) (turning .end-inside s (w + 1) (turning .opens-inside s w h)) (ends-place s (w + 1))
     where
       to-a : To s p (w + 1)
       to-a o b = opens-place s w h o (to-w o b)
@@ -148,7 +149,7 @@ module _ (argument : Reader) (A : Reads argument) (s : List ℕ) (p n e : ℕ) (
   named : (c m : ℕ) → Leads s p (withName argument c n m e w s n)
   unfolding withName
   named c m =
-      let r = next-inside s w (w-in .1) in
+      let r = turning .next-inside s w (w-in .1) in
       cond-by (Leads s p) (takesOne c m e w s) _ _
       (one-move s p n e at free l k to-n to-e (nextOf w (see s w)) (r .0) (r .1) (λ o b. next-place s w o (to-w o b)))
       (two (opensAt (see s w)) refl (eqb e w))
@@ -167,7 +168,7 @@ module _ (argument : Reader) (A : Reads argument) (s : List ℕ) (p c n : ℕ) (
       inside-name : (x : Bool) → m ≤ length s → (m ≤ cond x m (skip isIdContinue s m)) × (cond x m (skip isIdContinue s m) ≤ length s)
           × To s m (cond x m (skip isIdContinue s m))
       inside-name true h = (omega arith, h, λ o b. b)
-      inside-name false h = let k = skip-inside isIdContinue s m h in (k .0, k .1, skip-place isIdContinue s m m (λ o b. b))
+      inside-name false h = let k = turning .skip-inside isIdContinue s m h in (k .0, k .1, skip-place isIdContinue s m m (λ o b. b))
 
   backslash-leads : (verb : Bool) → Leads s p (backslash argument verb s n)
   unfolding backslash

@@ -16,7 +16,7 @@ use Rattle.text.specs.declared.scanner.Seen.{Seen}
 use Rattle.text.specs.declared.scanner.Seen.the-variants.{End, Char}
 use Rattle.text.proofs.Seeing.{seeing}
 use Rattle.raw.specs.Reader.{OutOf, ok, again, bad, more, andThen, after, eaten, loop, many, turn}
-use Rattle.literal.specs.Content.{Part, put, Reader, begins}
+use Rattle.turn.specs.Content.{Part, put, Reader, begins}
 use Rattle.literal.proofs.characters.PartsToChunks.{PartTexts, append-texts, weights, weights-append, ends, ends-append}
 
 -- ---- what is owed

@@ -21,7 +21,7 @@ use Rattle.chunk.specs.Format.{before, isLineEnd, white, lines, formatOne, form
 use Rattle.chunk.specs.WellFormed.{Texts}
 use Rattle.chunk.specs.WellFormed as texts
 use Rattle.command.specs.Stack.{defaultChunk}
-use Rattle.literal.specs.Content.{Part, put, cut, math, State, step, steps, pushed, closed, beginning, chunksOf}
+use Rattle.turn.specs.Content.{Part, put, cut, math, State, step, steps, pushed, closed, beginning, chunksOf}
 use Rattle.literal.specs.Rows.{textsOf}
 
 -- ---- parts

@@ -25,8 +25,7 @@ use Rattle.chunk.specs.Write.{checkedOf}
 use Rattle.chunk.specs.WellFormed.{Texts}
 use Rattle.chunk.specs.WellFormed as texts
 use Rattle.chunk.proofs.WellFormed.{well-formed}
-use Rattle.literal.proofs.contents.TurnsSeen.{byte-of, at-byte}
-use Rattle.literal.proofs.contents.TurnsAdvance.{char-parts}
+use Rattle.turn.proofs.Turning.{turning}
 
 pub ascii-text : (b : ℕ) → b ≤ 0x7F → Octets (b ∷ [])
 ascii-text b h = shapes .octets-char (b ∷ []) (shapes .shape-char (one h))
@@ -68,4 +67,4 @@ placeOf End = 0
 placeOf (Char c n) = n
 
 pub ascii-next : (s : List ℕ) (p c n : ℕ) → see s p ≡ Char c n → c < 0x80 → n ≡ p + 1
-ascii-next s p c n e h = ap placeOf (sym e ∙ at-byte s p c (char-parts s p c n e .0) (byte-of s p c n e h) h)
+ascii-next s p c n e h = ap placeOf (sym e ∙ turning .at-byte s p c (turning .char-parts s p c n e .0) (turning .byte-of s p c n e h) h)

@@ -23,7 +23,7 @@ use Rattle.chunk.specs.Chunk.{Chunk, kindOf, ChunkRow, flatChunks, chunkRows, e
 use Rattle.chunk.specs.Write.{checkedOf}
 use Rattle.chunk.specs.WellFormed.{Texts}
 use Rattle.chunk.specs.WellFormed as texts
-use Rattle.literal.specs.Content.{joins, join, flattenFrom, flatten}
+use Rattle.turn.specs.Content.{joins, join, flattenFrom, flatten}
 use Rattle.literal.specs.Rows.{rowsFrom, textsOf}
 
 pub texts-octets : {cs : List Chunk} → Texts cs → Octets (textsOf cs)

@@ -23,7 +23,7 @@ use Rattle.command.specs.Execute.{given, leading, executed, executeCommand}
 use Rattle.command.proofs.stacks.LaysLaws.{lays-below}
 use Rattle.literal.specs.declared.rows.Rows.{Rows}
 use Rattle.literal.specs.declared.making.Making.{Making}
-use Rattle.literal.specs.Content.{Part, State, beginning, steps, pushed, closed, chunksOf}
+use Rattle.turn.specs.Content.{Part, State, beginning, steps, pushed, closed, chunksOf}
 use Rattle.literal.specs.Inner.{Holds, Begun, Finished, Further, Closes, inArgument, wholeText}
 use Rattle.literal.proofs.ways.MakingWays.{held-text, held-below}
 

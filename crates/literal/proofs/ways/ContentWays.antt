@@ -18,12 +18,13 @@ use Rattle.command.specs.Commands.{meaningOf}
 use Rattle.command.proofs.stacks.LaysLaws.{lays-as}
 use Rattle.literal.specs.declared.making.Making.{Making}
 use Rattle.literal.specs.declared.making.Place.{Place}
-use Rattle.literal.specs.declared.turn.Text.{Text}
-use Rattle.literal.specs.declared.turn.Text.the-variants as text
+use Rattle.turn.specs.declared.turn.Text.{Text}
+use Rattle.turn.specs.declared.turn.Text.the-variants as text
 use Rattle.literal.specs.declared.content.Made.{Made}
 use Rattle.literal.specs.declared.content.Made.the-variants as made
-use Rattle.literal.specs.Content.{Part, put, Reader, State, step, steps, ran}
-use Rattle.literal.specs.Inner.{Holds, Goes, Says, SaysSign, SaysText, Onto, SaysArgument, Further, Puts, Ahead, Ready, Within, concat, from, inArgument, turns, wholeText}
+use Rattle.turn.specs.Content.{Part, put, Reader, State, step, steps, ran}
+use Rattle.literal.specs.Inner.{Holds, Goes, Says, SaysSign, Onto, SaysArgument, Further, Puts, Ahead, Ready, Within, from, inArgument, wholeText}
+use Rattle.turn.specs.Turns.{SaysText, concat, turns}
 use Rattle.literal.proofs.ways.StepWays.{goes-puts}
 
 -- ---- parts before other parts

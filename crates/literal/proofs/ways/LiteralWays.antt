@@ -22,7 +22,7 @@ use Rattle.literal.specs.declared.making.Place.{Place}
 use Rattle.literal.specs.declared.content.Made.{Made}
 use Rattle.literal.specs.declared.content.Made.the-variants as made
 use Rattle.literal.specs.declared.parse.Parsed.the-variants as parsed
-use Rattle.literal.specs.Content.{Part, State, beginning, steps, pushed, closed, chunksOf, cut, contentBy, content, inside, flatten}
+use Rattle.turn.specs.Content.{Part, State, beginning, steps, pushed, closed, chunksOf, cut, contentBy, content, inside, flatten}
 use Rattle.literal.specs.Literal.{Resolved, refused, mostArguments, chunkUp, resolvedOf, tooLong, resolveLiteral}
 use Rattle.literal.specs.Rows.{RowsHold, textsOf}
 use Rattle.literal.specs.Inner.{Holds, RowsHeld, Goes, Turned, Closed, standing, some, from, Says, Added, SaysParsed, Fits}

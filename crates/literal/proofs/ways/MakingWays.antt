@@ -23,7 +23,7 @@ use Rattle.command.proofs.stacks.LaysLaws.{lays-on}
 use Rattle.literal.specs.declared.rows.Rows.{Rows}
 use Rattle.literal.specs.declared.making.Making.{Making}
 use Rattle.literal.specs.declared.making.Place.{Place}
-use Rattle.literal.specs.Content.{Part, cut, math, State, steps, flatten}
+use Rattle.turn.specs.Content.{Part, cut, math, State, steps, flatten}
 use Rattle.literal.specs.Literal.{chunkUp}
 use Rattle.literal.specs.Rows.{RowsHold, textsOf, onto, Pushes}
 use Rattle.literal.specs.Inner.{Holds, Goes, RowsHeld, standing, some}

@@ -24,8 +24,9 @@ use Rattle.literal.specs.declared.making.Making.{Making}
 use Rattle.literal.specs.declared.making.Place.{Place}
 use Rattle.literal.specs.declared.content.Made.{Made}
 use Rattle.literal.specs.declared.content.Made.the-variants as made
-use Rattle.literal.specs.Content.{Part, State, beginning, steps, refusedByte, contentBy, inside}
-use Rattle.literal.specs.Inner.{Holds, Says, SaysArgument, Puts, Begun, Finished, Closes, Spans, Ahead, AheadMade, Placed, Ready, from, turns, inArgument, wholeText}
+use Rattle.turn.specs.Content.{Part, State, beginning, steps, refusedByte, contentBy, inside}
+use Rattle.literal.specs.Inner.{Holds, Says, SaysArgument, Puts, Begun, Finished, Closes, Ahead, AheadMade, Ready, from, inArgument, wholeText}
+use Rattle.turn.specs.Turns.{Spans, Placed, turns}
 
 -- ---- how deep it goes
 

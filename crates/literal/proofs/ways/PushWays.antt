@@ -15,7 +15,7 @@ use Rattle.chunk.specs.declared.form.Kind.{Kind}
 use Rattle.chunk.specs.declared.form.Kind.the-variants.{Normal, Verbatim, Math}
 use Rattle.chunk.specs.Chunk.{Chunk, chunk, kindOf, ChunkRow, chunkRow, putChunk}
 use Rattle.literal.specs.declared.rows.Rows.{Rows}
-use Rattle.literal.specs.Content.{joins, join}
+use Rattle.turn.specs.Content.{joins, join}
 use Rattle.literal.specs.Rows.{rowsFrom, writes, textsOf, lastKind, lastText, lastStart, RowsHold, onto, Pushes}
 
 -- ---- a list and its last chunk

@@ -20,13 +20,14 @@ use Rattle.command.specs.Stack.{Lays, defaultChunk}
 use Rattle.literal.specs.declared.rows.Rows.{Rows}
 use Rattle.literal.specs.declared.making.Making.{Making}
 use Rattle.literal.specs.declared.making.Place.{Place}
-use Rattle.literal.specs.declared.turn.Text.{Text}
-use Rattle.literal.specs.declared.turn.Text.the-variants as text
+use Rattle.turn.specs.declared.turn.Text.{Text}
+use Rattle.turn.specs.declared.turn.Text.the-variants as text
 use Rattle.literal.specs.declared.content.Made.{Made}
 use Rattle.literal.specs.declared.content.Made.the-variants as made
-use Rattle.literal.specs.Content.{Part, put, cut, math, Reader, State, refusedByte, step, steps, maths, closing, contentTurn}
-use Rattle.literal.specs.Inner.{Holds, Goes, RowsHeld, standing, from, turns, concat, SaysText, SaysSign, Onto, Turned, Calculated, Further, Ahead, Grows}
-use Rattle.literal.proofs.contents.TurnsSeen.{leads, stopped, turn-open, turn-close, turn-math}
+use Rattle.turn.specs.Content.{Part, put, cut, math, Reader, State, refusedByte, step, steps, maths, closing, contentTurn}
+use Rattle.literal.specs.Inner.{Holds, Goes, RowsHeld, standing, from, SaysSign, Onto, Turned, Calculated, Further, Ahead}
+use Rattle.turn.specs.Turns.{turns, concat, SaysText, Grows}
+use Rattle.turn.proofs.Turning.{turning}
 
 -- ---- math
 
@@ -35,14 +36,14 @@ module _ (place : Place) (s : List ℕ) (m : Making) (o b : List ℕ) (l : m .at
   pub math-refused : length s ≤ to → SaysSign place false s m o b (made.Refused (faultAt UnexpectedEof to)) o b
   unfolding maths
   math-refused n argument =
-      stopped argument false (m .braces) s (m .at) (faultAt UnexpectedEof to)
-      (turn-math argument false (m .braces) s (m .at) l d refl ∙ rw (sym h, le-ltb to (length s) n) refl)
+      turning .stopped argument false (m .braces) s (m .at) (faultAt UnexpectedEof to)
+      (turning .turn-math argument false (m .braces) s (m .at) l d refl ∙ rw (sym h, le-ltb to (length s) n) refl)
 
   math-turn : (argument : Reader) → to < length s
       → contentTurn argument false (m .braces) s (m .at) ≡ again (to + 1) (cut (m .braces) (m .at) (to + 1) ∷ math (part s (m .at + 1) to) (m .at + 1)
       to ∷ []) (m .braces)
   unfolding maths
-  math-turn argument n = turn-math argument false (m .braces) s (m .at) l d refl ∙ rw (sym h, lt-ltb to (length s) n) refl
+  math-turn argument n = turning .turn-math argument false (m .braces) s (m .at) l d refl ∙ rw (sym h, lt-ltb to (length s) n) refl
 
   pub math-again : to < length s → (m₁ : Making) (o₁ b₁ : List ℕ) (m₂ : Making) (o₂ b₂ : List ℕ)
       → Turned place m (m .at) (m .braces) (to + 1) o b m₁ o₁ b₁
@@ -51,7 +52,7 @@ module _ (place : Place) (s : List ℕ) (m : Making) (o b : List ℕ) (l : m .at
   math-again n m₁ o₁ b₁ m₂ o₂ b₂ x y = record {
     parts = cut (m .braces) (m .at) (to + 1) ∷ math (part s (m .at + 1) to) (m .at + 1) to ∷ [];
     leads = λ argument.
-        leads argument false (m .braces) s (m .at) (to + 1) (cut (m .braces) (m .at) (to + 1) ∷ math (part s (m .at + 1) to) (m .at + 1) to ∷ [])
+        turning .leads argument false (m .braces) s (m .at) (to + 1) (cut (m .braces) (m .at) (to + 1) ∷ math (part s (m .at + 1) to) (m .at + 1) to ∷ [])
         (m .braces)
         (math-turn argument n)
         ∙ ap (more (cut (m .braces) (m .at) (to + 1) ∷ math (part s (m .at + 1) to) (m .at + 1) to ∷ []))
@@ -68,7 +69,7 @@ module _ (place : Place) (verb : Bool) (s : List ℕ) (m : Making) (o b : List �
   cut-again d t m₁ o₁ b₁ x = record {
     parts = cut d (m .at) (m .at + 1) ∷ [];
     leads = λ argument.
-        leads argument verb (m .braces) s (m .at) (m .at + 1) (cut d (m .at) (m .at + 1) ∷ []) d (t argument)
+        turning .leads argument verb (m .braces) s (m .at) (m .at + 1) (cut d (m .at) (m .at + 1) ∷ []) d (t argument)
         ∙ ap (more (cut d (m .at) (m .at + 1) ∷ []))
         (ap (λ (q : ℕ). turns argument verb d s q) (sym (x .at)) ∙ ap (λ (q : ℕ). turns argument verb q s (m₁ .at)) (sym (x .braces)));
     goes = x .goes;
@@ -78,21 +79,21 @@ module _ (place : Place) (verb : Bool) (s : List ℕ) (m : Making) (o b : List �
       → SaysSign place verb s m o b (made.Done m₁) o₁ b₁
   open-again e =
       cut-again (m .braces + 1)
-      (λ argument. turn-open argument verb (m .braces) s (m .at) l e ∙ ap (λ (d : ℕ). again (m .at + 1) (cut d (m .at) (m .at + 1) ∷ []) d)
+      (λ argument. turning .turn-open argument verb (m .braces) s (m .at) l e ∙ ap (λ (d : ℕ). again (m .at + 1) (cut d (m .at) (m .at + 1) ∷ []) d)
       (sym (add-one (m .braces))))
 
   pub close-refused : getD s (m .at) 0 ≡ 0x7D → m .braces ≡ 0 → SaysSign place verb s m o b
       (made.Refused (refusedByte UnexpectedClosingBrace (m .at))) o b
   unfolding closing
   close-refused e z argument =
-      stopped argument verb (m .braces) s (m .at) (refusedByte UnexpectedClosingBrace (m .at))
-      (turn-close argument verb (m .braces) s (m .at) l e ∙ ap (λ (d : ℕ). closing d s (m .at)) z)
+      turning .stopped argument verb (m .braces) s (m .at) (refusedByte UnexpectedClosingBrace (m .at))
+      (turning .turn-close argument verb (m .braces) s (m .at) l e ∙ ap (λ (d : ℕ). closing d s (m .at)) z)
 
   pub close-again : getD s (m .at) 0 ≡ 0x7D → (m .braces ≡ 0 → ⊥) → (m₁ : Making) (o₁ b₁ : List ℕ)
       → Turned place m (m .at) (m .braces - 1) (m .at + 1) o b m₁ o₁ b₁
       → SaysSign place verb s m o b (made.Done m₁) o₁ b₁
   unfolding closing
-  close-again e z = cut-again (m .braces - 1) (λ argument. turn-close argument verb (m .braces) s (m .at) l e ∙ some (m .braces) z)
+  close-again e z = cut-again (m .braces - 1) (λ argument. turning .turn-close argument verb (m .braces) s (m .at) l e ∙ some (m .braces) z)
     where
       some : (d : ℕ) → (d ≡ 0 → ⊥) → closing d s (m .at) ≡ again (m .at + 1) (cut (d - 1) (m .at) (m .at + 1) ∷ []) (d - 1)
       some zero z = absurd (z refl)

@@ -13,7 +13,7 @@ use lib.Seq.{sets}
 use lib.Dec.{leb}
 use borrow.Author.Tests.{leb-true, leb-false, le-leb, lt-leb}
 use Rattle.chunk.specs.Chunk.{Chunk}
-use Rattle.literal.specs.Content.{flatten}
+use Rattle.turn.specs.Content.{flatten}
 use Rattle.literal.specs.Rows.{textsOf}
 use Rattle.literal.proofs.Flattening.{flattening}
 use Rattle.resolve.specs.Resolves.{mostWritten, small}

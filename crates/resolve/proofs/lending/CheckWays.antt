@@ -22,7 +22,6 @@ use Rattle.row.specs.Laid.{rowAt}
 use Rattle.row.proofs.Laid.{laid}
 use Rattle.resolve.specs.OneLiteral.{isSpan}
 use Rattle.resolve.specs.Checks.{everySpan, isValue, isValid, isText, isMonth, everyMonth, areMonths, areLent}
-use Rattle.resolve.proofs.lending.RowsByNumber.{rows-by}
 
 -- ---- rows
 
@@ -104,7 +103,7 @@ module _ (rows : List ℕ) (which : ℕ) where
 
   pub value-there : which < length rows / 4 → eqb (getD rows (which * 4) 0) 5 ≡ isValue (drop which (rowsOf rows))
   unfolding isValue
-  value-there h = rw (rows-by which rows, laid .rows-next rows (which * 4) (omega arith))
+  value-there h = rw (laid .rows-by which rows, laid .rows-next rows (which * 4) (omega arith))
 
 -- ---- all of it
 

@@ -1,4 +1,4 @@
--- What every call asks first: for `check_file` of src/answer.rt, `literal` of src/one_literal.rt and `field` of src/field.rt.
+-- What every call asks first: for `check_file` of src/answer.rt, `literal` of src/one_literal.rt, and the calls of the crates above.
 --     file-long, file-utf8, file-small           the ways through `check_file`, and how long a file is that passes
 --     span-ends, cut-part, cut-room              a span of a file, and its bytes
 --     span-good, span-room, span-writes          what a good span of a file that passes has

@@ -4,11 +4,11 @@
 --     write-room                                 the room for it, where there is
 --     write-refused, write-full, write-held, write-done      the ways through it: refused, or without room; copied, or resolved again
 -- Assumes nothing.
-use Prim.Native.Nat.{ℕ, _+_, _-_, _*_, _/_, _≤_, _<_, min}
+use Prim.Native.Nat.{ℕ, _+_, _-_, _*_, _/_, _≤_, min}
 use native.Mathlib.Omega.{arith}
 use mathlib.Core.Path.{_≡_, refl, sym, ap, ap₂, subst, _∙_}
 use mathlib.Core.Bool.{Bool, true, false, cond, not, _&&_, _||_}
-use mathlib.Core.List.{List, [], _∷_, _++_}
+use mathlib.Core.List.{List, [], _++_}
 use lib.ListN.{length, take, drop}
 use lib.Seq.{sets, sets-eq, take-at}
 use lib.Dec.{leb, ltb}
@@ -19,18 +19,17 @@ use Rattle.row.specs.declared.fault.Reason.the-variants.{NoRoom}
 use Rattle.row.specs.Fault.{nowhere}
 use Rattle.chunk.specs.Chunk.{Chunk, flatChunks}
 use Rattle.chunk.specs.Put.{Puts}
+use Rattle.turn.specs.Content.{flatten}
 use Rattle.literal.specs.declared.rows.Rows.{Rows}
 use Rattle.literal.specs.declared.parse.Parsed.{Parsed}
 use Rattle.literal.specs.declared.parse.Parsed.the-variants as parsed
-use Rattle.literal.specs.Content.{flatten}
 use Rattle.literal.specs.Literal.{Resolved, chunks}
 use Rattle.literal.specs.Literal as literal
 use Rattle.literal.specs.Rows.{RowsHold, rowsFrom, writes, textsOf, lastKind, lastText, lastStart}
 use Rattle.literal.specs.Inner.{Added, SaysParsed, GrowsParsed}
 use Rattle.literal.proofs.Flattening.{flattening}
-use Rattle.resolve.specs.declared.answer.Answer.{Answer}
 use Rattle.resolve.specs.declared.answer.Answer.the-variants as answer
-use Rattle.resolve.specs.Resolves.{Value, resolved, mostWritten, small, fits, told, rowsLeft, textLeft, Writes}
+use Rattle.resolve.specs.Resolves.{resolved, mostWritten, small, fits, Writes}
 use Rattle.resolve.specs.OneLiteral.{valueOf}
 
 -- ---- no rows
@@ -47,12 +46,6 @@ first-added : {cs : List Chunk} {k : Rows} {len : ℕ} {o′ b′ : List ℕ} (b
     → SaysParsed (chunks cs) 0 none b (parsed.Chunks k len) o′ b′ → Added [] cs b k len o′ b′
 unfolding textsOf
 first-added b h = h [] b refl (nothing-held b)
-
--- five numbers for each row
-pub flat-length : (t : ℕ) (cs : List Chunk) → length (flatChunks (rowsFrom t cs)) ≡ length cs * 5
-unfolding rowsFrom flatChunks
-flat-length t [] = refl
-flat-length t (c ∷ cs) = let h = flat-length (t + length (c .text)) cs in omega (arith, h)
 
 -- ---- the room
 
@@ -160,7 +153,7 @@ module _ (R : Resolved) (nb : List ℕ) (r : Parsed) (o₁ nb′ : List ℕ) (h 
         held : k .n * 5 ≤ length nb → take (k .n * 5) nb′ ≡ flatChunks (rowsFrom 0 flat)
         held l =
             ap (take (k .n * 5)) (c .rows .numbers ∙ flattening .rows-written nb flat (omega (arith, many, l)))
-            ∙ take-at (flatChunks (rowsFrom 0 flat)) (drop (length flat * 5) nb) (k .n * 5) (omega (arith, flat-length 0 flat, many))
+            ∙ take-at (flatChunks (rowsFrom 0 flat)) (drop (length flat * 5) nb) (k .n * 5) (omega (arith, flattening .numbers-length 0 flat, many))
 
         held-rows : k .n * 5 ≤ length nb → (b′ : List ℕ) → b′ ≡ take (k .n * 5) nb′ ++ drop (k .n * 5) b
             → b′ ≡ flatChunks (rowsFrom 0 flat) ++ drop (length flat * 5) b

@@ -3,8 +3,9 @@
 --     rows-flat, flat-rows          from rows to numbers and back, and from numbers to rows and back
 --     rows-length                   how many rows a list of numbers has
 --     rows-next, rows-end           the rows from the number i on: the first of them and the others, or none
+--     rows-by                       the rows from row k on are the rows of the numbers from k * 4 on
 -- Assumes nothing.
-use Prim.Native.Nat.{ℕ, _+_, _*_, _/_, _%_, _≤_, _<_}
+use Prim.Native.Nat.{ℕ, zero, suc, _+_, _*_, _/_, _%_, _≤_, _<_}
 use native.Mathlib.Omega.{arith}
 use mathlib.Core.Path.{_≡_, refl, ap}
 use mathlib.Core.List.{List, [], _∷_, _++_}
@@ -67,3 +68,15 @@ rows-short (a ∷ b ∷ c ∷ d ∷ l) h = absurd (omega arith)
 
 pub rows-end : (l : List ℕ) (i : ℕ) → length l < i + 4 → rowsOf (drop i l) ≡ []
 rows-end l i h = rows-short (drop i l) (omega (arith, length-drop i l))
+
+times-four : (k : ℕ) → suc k * 4 ≡ suc (suc (suc (suc (k * 4))))
+times-four k = omega arith
+
+pub rows-by : (k : ℕ) (l : List ℕ) → drop k (rowsOf l) ≡ rowsOf (drop (k * 4) l)
+unfolding rowsOf
+rows-by zero l = refl
+rows-by (suc k) [] = rw (times-four k)
+rows-by (suc k) (a ∷ []) = rw (times-four k)
+rows-by (suc k) (a ∷ b ∷ []) = rw (times-four k)
+rows-by (suc k) (a ∷ b ∷ c ∷ []) = rw (times-four k)
+rows-by (suc k) (a ∷ b ∷ c ∷ d ∷ l) = rw (times-four k) (rows-by k l)

@@ -6,7 +6,7 @@
 --     summed-none, summed-on, summed-end        `most_of`: the beginning, one literal more, and the end
 --     field-under                   a value comes to no more than its elements
 -- Assumes nothing.
-use Prim.Native.Nat.{ℕ, zero, suc, _+_, _-_, _*_, _/_, _≤_, _<_, min}
+use Prim.Native.Nat.{ℕ, suc, _+_, _-_, _*_, _/_, _≤_, _<_, min}
 use native.Mathlib.Omega.{arith}
 use native.Mathlib.Numerals.{add-one}
 use mathlib.Core.Path.{_≡_, refl, sym, ap, subst, _∙_}
@@ -23,18 +23,20 @@ use Rattle.row.specs.Numbers.{rowsOf}
 use Rattle.row.specs.Laid.{rowAt}
 use Rattle.row.proofs.Laid.{laid}
 use Rattle.chunk.specs.Chunk.{Chunk}
-use Rattle.literal.specs.Content.{joins, join, flattenFrom, flatten}
+use Rattle.turn.specs.Content.{joins, join, flattenFrom, flatten}
 use Rattle.literal.specs.Literal.{Resolved, chunks, resolveLiteral}
 use Rattle.literal.specs.Literal as literal
 use Rattle.literal.specs.Rows.{textsOf}
 use Rattle.literal.proofs.Flattening.{flattening}
 use Rattle.literal.proofs.WellFormed.{well-formed}
-use Rattle.resolve.specs.declared.field.Element.{Element}
-use Rattle.resolve.specs.declared.field.Element.the-variants as element
 use Rattle.resolve.specs.Resolves.{mostWritten}
-use Rattle.resolve.specs.Field.{Lent, Run, done, stop, behind, onward, walk, elements, ofLiteral, ofRun, flattened, name, mostOpen, fieldOf}
-use Rattle.resolve.specs.Field as field
-use Rattle.resolve.specs.Uses.{firstElement}
+use Rattle.resolve.specs.Checks.{Lent}
+use Rattle.resolve.specs.Runs.{Run, done, stop, ofLiteral}
+use Rattle.value.specs.declared.elements.Element.{Element}
+use Rattle.value.specs.declared.elements.Element.the-variants as element
+use Rattle.value.specs.Field.{behind, onward, walk, elements, ofRun, flattened, name, mostOpen, fieldOf}
+use Rattle.value.specs.Field as field
+use Rattle.value.specs.Uses.{firstElement}
 use Rattle.whole.specs.WholeFile.{chunksIn}
 use Rattle.whole.specs.Bounds.{Within, AtMost, Under}
 use Rattle.whole.proofs.counting.CountWays.{either-false}
@@ -122,9 +124,6 @@ literal-most r ss a e n m h f l verb name k =
 
 -- ---- the loop
 
-four : (k : ℕ) → suc k * 4 ≡ suc (suc (suc (suc (k * 4))))
-four k = omega arith
-
 pub row-there : (rows : List ℕ) (i a e : ℕ) → firstElement (rowsOf (drop i rows)) ≡ element.Literal a e → i + 4 ≤ length rows
 row-there rows i a e h = by (leb (i + 4) (length rows)) refl
   where
@@ -133,16 +132,6 @@ row-there rows i a e h = by (leb (i + 4) (length rows)) refl
     by false p =
         let q = sym (ap firstElement (laid .rows-end rows i (leb-false (i + 4) (length rows) p))) ∙ h in
         let z : _≡_ {A = ℕ} 0 1 = cc in absurd (omega arith)
-
--- the rows from row k on are the rows of the numbers from k * 4 on
-rows-by : (k : ℕ) (l : List ℕ) → drop k (rowsOf l) ≡ rowsOf (drop (k * 4) l)
-unfolding rowsOf
-rows-by zero l = refl
-rows-by (suc k) [] = rw (four k)
-rows-by (suc k) (a ∷ []) = rw (four k)
-rows-by (suc k) (a ∷ b ∷ []) = rw (four k)
-rows-by (suc k) (a ∷ b ∷ c ∷ []) = rw (four k)
-rows-by (suc k) (a ∷ b ∷ c ∷ d ∷ l) = rw (four k) (rows-by k l)
 
 -- the tests of the code
 pub spans : (a e : ℕ) → (ltb e a || ltb mostWritten e) ≡ false → (a ≤ e) × (e ≤ mostWritten)
@@ -174,7 +163,7 @@ summed-on rows i n m j s v w a e x p q h =
 pub summed-end : (rows : List ℕ) (i n m j : ℕ) → Summed rows (i * 4 + 4) n m j → (v : Element) → v ≡ firstElement (rowsOf (drop j rows))
     → v ≡ element.Nothing → AtMost (drop (i + 1) (rowsOf rows)) n m
 summed-end rows i n m j s v w x =
-    let at : drop (i + 1) (rowsOf rows) ≡ rowsOf (drop (i * 4 + 4) rows) = rows-by (i + 1) rows ∙ ap (λ (n : ℕ). rowsOf (drop n rows)) (next i) in
+    let at : drop (i + 1) (rowsOf rows) ≡ rowsOf (drop (i * 4 + 4) rows) = laid .rows-by (i + 1) rows ∙ ap (λ (n : ℕ). rowsOf (drop n rows)) (next i) in
     subst (λ (rs : List Row). AtMost rs n m) (sym at)
     (most-as (rowsOf (drop (i * 4 + 4) rows)) (omega arith) (omega arith) (s 0 0 (none-most (rowsOf (drop j rows)) (sym w ∙ x))))
   where

@@ -19,9 +19,10 @@ use Rattle.lookup.specs.Names.{rowNo}
 use Rattle.resolve.specs.declared.progress.Went.{Went}
 use Rattle.resolve.specs.declared.progress.Went.the-variants as went
 use Rattle.resolve.specs.Resolves.{Value, resolved, refused, mostWritten, small}
-use Rattle.resolve.specs.Field.{Lent, fieldOf}
+use Rattle.resolve.specs.Checks.{Lent}
 use Rattle.resolve.specs.Progress.{Counted}
-use Rattle.resolve.specs.Uses.{Resolving}
+use Rattle.value.specs.Field.{fieldOf}
+use Rattle.field.specs.OneField.{Resolving}
 use Rattle.whole.specs.declared.file.Totals.{Totals}
 use Rattle.whole.specs.WholeFile.{isValueRow, flag, values, results, chunksIn, texts, countRows, smallAll}
 use Rattle.whole.specs.Filing.{Filing, CountsAll, Begun, Sized, AddsTo, AddsCounted}

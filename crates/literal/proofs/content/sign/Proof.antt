@@ -4,7 +4,7 @@ use native.Mathlib.Omega.{arith}
 use mathlib.Core.Path.{_≡_, sym, _∙_}
 use lib.ListN.{length, getD}
 use borrow.Author.Needs.{needs}
-use Rattle.literal.proofs.ways.CommandAnswers.{sign-dollar, sign-closing}
+use Rattle.turn.proofs.Turning.{turning}
 use Rattle.literal.proofs.ways.StepWays.{open-again, close-refused, close-again, sign-as, ahead-cut}
 use Rattle.literal.proofs.content.sign.Statement.{statement}
 use Rattle.literal.proofs.content.sign.Tie as tie
@@ -37,7 +37,7 @@ returns-2 c =
     let a = begin .args in
     let math = called .math in (
       sign-as (a .place) (a .verb) (a .s .now) (a .st) (a .out .now) (a .numbers .now) (math .result) _ _
-          (sign-dollar (a .verb) (getD (a .s .now) (a .st .at) 0) (begin .pre .1) (dollar .if2 .taken)) (math .ensures .0),
+          (turning .sign-dollar (a .verb) (getD (a .s .now) (a .st .at) 0) (begin .pre .1) (dollar .if2 .taken)) (math .ensures .0),
       math .ensures .1,
     )
 
@@ -46,7 +46,7 @@ returns-3 c =
     let begin = c .before .before .before .before .before .before .before in
     let a = begin .args in
     let p = begin .pre in
-    let closes = sign-closing (a .verb) (getD (a .s .now) (a .st .at) 0) (p .1) (c .before .before .if1 .left) (c .before .if2 .left) in (
+    let closes = turning .sign-closing (a .verb) (getD (a .s .now) (a .st .at) 0) (p .1) (c .before .before .if1 .left) (c .before .if2 .left) in (
       close-refused (a .place) (a .verb) (a .s .now) (a .st) (a .out .now) (a .numbers .now) (p .2) closes (c .if3 .taken),
       (omega (arith, p .2), omega (arith, p .2)),
     )
@@ -58,7 +58,7 @@ returns-4 c =
     let begin = some .before .before .before .before .before .before .before in
     let a = begin .args in
     let p = begin .pre in
-    let closes = sign-closing (a .verb) (getD (a .s .now) (a .st .at) 0) (p .1) (some .before .before .if1 .left) (some .before .if2 .left) in
+    let closes = turning .sign-closing (a .verb) (getD (a .s .now) (a .st .at) 0) (p .1) (some .before .before .if1 .left) (some .before .if2 .left) in
     let turn = turned .turnaround2 in (
       close-again (a .place) (a .verb) (a .s .now) (a .st) (a .out .now) (a .numbers .now) (p .2) closes (some .if3 .left) (turn .result) _ _
           (turn .ensures),

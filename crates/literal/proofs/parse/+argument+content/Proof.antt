@@ -10,11 +10,11 @@ use borrow.Fn.Kinds.{In}
 use borrow.Fn.PlainCycle.{Measures, is, falls, and}
 use Rattle.text.specs.Scan.{part}
 use Rattle.literal.specs.declared.content.Made.{Made}
-use Rattle.literal.specs.Content.{inside}
-use Rattle.literal.specs.Inner.{Says, Ahead, AheadMade, GrowsText, Ready, from}
+use Rattle.turn.specs.Content.{inside}
+use Rattle.literal.specs.Inner.{Says, Ahead, AheadMade, Ready, from}
+use Rattle.turn.specs.Turns.{GrowsText}
 use Rattle.literal.proofs.ways.MakingWays.{no-text}
-use Rattle.literal.proofs.ways.TextTurns.{put-grows}
-use Rattle.literal.proofs.ways.CommandAnswers.{ordinary, sign-inside}
+use Rattle.turn.proofs.Turning.{turning}
 use Rattle.literal.proofs.ways.StepWays.{text-put, ahead-further}
 use Rattle.literal.proofs.ways.ContentWays as ways
 use Rattle.literal.proofs.ways.NestedWays as nested
@@ -28,8 +28,8 @@ use Rattle.literal.proofs.content.begin.Reads as begin-reads
 use Rattle.literal.proofs.content.finish.Reads as finish-reads
 use Rattle.literal.proofs.content.further.Reads as further-reads
 use Rattle.literal.proofs.content.sign.Reads as sign-reads
-use Rattle.literal.proofs.turn.sign_at.Reads as sign-at-reads
-use Rattle.literal.proofs.turn.text_at.Reads as text-at-reads
+use Rattle.turn.proofs.turn.sign_at.Reads as sign-at-reads
+use Rattle.turn.proofs.turn.text_at.Reads as text-at-reads
 use Rattle.literal.proofs.parse.+argument+content.{statement}
 use Rattle.literal.proofs.parse.+argument+content.Tie.{close}
 
@@ -212,7 +212,7 @@ module _ (t : ℕ) where
       let is = sym (tested .before .sign-at .ensures) ∙ tested .if1 .taken in (
         ways.ready-within (a .s .now) (a .place) (l .st) (l .out) (a .names .now) (a .marks .now) (l .inv .3),
         is,
-        sign-inside (a .verb) (a .s .now) (l .st .at) is,
+        turning .sign-inside (a .verb) (a .s .now) (l .st .at) is,
       )
 
   content-loop-less : content-lts.Need-loop-less (content-calls t) (content-at t) content.Post content-Inv-loop content-μ-loop
@@ -259,7 +259,7 @@ module _ (t : ℕ) where
       let turn = c .before .before .before in
       let a = turn .before .before .before .before .before .before .args in
       let l = turn .loop in
-      (ordinary (a .verb) (getD (a .s .now) (l .st .at) 0) (sym (c .before .before .sign-at .ensures) ∙ c .before .if1 .left), l .inv .3 .text)
+      (turning .ordinary (a .verb) (getD (a .s .now) (l .st .at) 0) (sym (c .before .before .sign-at .ensures) ∙ c .before .if1 .left), l .inv .3 .text)
 
   content-returns-2 : content-lts.Need-returns-2 (content-calls t) (content-at t) content.Post content-Inv-loop content-μ-loop
   content-returns-2 c =
@@ -279,7 +279,7 @@ module _ (t : ℕ) where
       let called = c .before .before .before .before .before .before in
       let turn = called .before .before .before .before in
       let a = turn .before .before .before .before .before .before .args in
-      let k = put-grows (length (a .s .now)) (turn .loop .st .at) (turn .loop .st .len) (c .before .before .next .given .1)
+      let k = subst (GrowsText (length (a .s .now)) (turn .loop .st .at) (turn .loop .st .len)) (c .before .before .next .given .1)
       (called .text-at .ensures .1) in
       let f = c .further .ensures .at in
       omega (arith, k .at, k .inside, f)
@@ -293,7 +293,7 @@ module _ (t : ℕ) where
       let r = called .text-at in
       let m = c .further .result in
       let is = c .before .before .next .given .1 in
-      let grows = put-grows (length (a .s .now)) (l .st .at) (l .st .len) is (r .ensures .1) in
+      let grows = subst (GrowsText (length (a .s .now)) (l .st .at) (l .st .len)) is (r .ensures .1) in
       let k = ahead-further (length (a .s .now)) (a .verb) (a .s .now) (l .st) (l .out) _ _ _ (r .result) m is (r .ensures .0) grows (l .inv .3 .from)
       (l .inv .3 .start) (c .further .ensures) in (
         ways.ahead-on (length (a .s .now)) 1 (a .first) (l .st) m (l .inv .0) k,

@@ -3,7 +3,8 @@ use native.Mathlib.Omega.{arith}
 use mathlib.Core.Path.{_≡_, refl, sym, subst, _∙_}
 use lib.ListN.{length}
 use borrow.Author.Needs.{needs}
-use Rattle.literal.specs.Inner.{AheadMade, Placed}
+use Rattle.literal.specs.Inner.{AheadMade}
+use Rattle.turn.specs.Turns.{Placed}
 use Rattle.literal.proofs.ways.LiteralWays.{parse-long, parse-refused, parse-chunks, parse-ready, parse-fits, parse-grows, first}
 use Rattle.literal.proofs.parse.parse.Statement.{statement}
 use Rattle.literal.proofs.parse.parse.Tie as tie

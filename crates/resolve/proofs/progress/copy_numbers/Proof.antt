@@ -5,7 +5,7 @@ use mathlib.Core.Path.{_≡_, ap, _∙_}
 use mathlib.Core.List.{List, _++_}
 use lib.ListN.{length, getD, take, drop, set, length-set}
 use borrow.Author.Needs.{needs}
-use Rattle.resolve.proofs.ways.FieldWays.{copy-on}
+use Rattle.resolve.proofs.appending.AppendWays.{copy-on}
 use Rattle.resolve.proofs.progress.copy_numbers.Statement.{statement}
 use Rattle.resolve.proofs.progress.copy_numbers.Tie as tie
 

@@ -2,7 +2,7 @@
 use mathlib.Core.Path.{sym}
 use lib.ListN.{length}
 use borrow.Author.Needs.{needs}
-use Rattle.resolve.proofs.ways.AskedWays.{file-small}
+use Rattle.resolve.proofs.Asking.{asking}
 use Rattle.whole.proofs.ways.FileWays as ways
 use Rattle.whole.proofs.file.whole.Statement.{statement}
 use Rattle.whole.proofs.file.whole.Tie as tie
@@ -62,7 +62,7 @@ indexed-requires c κs =
     let a = check .before .before .before .before .before .before .before .before .before .before .before .before .args in
     let asks = ways.filed-asks (a .file .now) (a .rows .now) (a .flags .now) (a .months .now) (a .words .now) (length (a .scratch .now)) (r .result) (r .ensures) (passed .enum-told .given .1)
     (x .result) (n .result) (x .ensures) (n .ensures) (test .if1 .left) in
-    (file-small (a .file .now) (r .result) (r .ensures) (passed .enum-told .given .1), asks .0, built .build .ensures .index, asks .1, room .if2 .left)
+    (asking .file-small (a .file .now) (r .result) (r .ensures) (passed .enum-told .given .1), asks .0, built .build .ensures .index, asks .1, room .if2 .left)
 
 returns-4 : tie.Need-returns-4
 returns-4 c =

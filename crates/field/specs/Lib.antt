@@ -1,0 +1,3 @@
+pub mod OneField
+pub mod WellFormedFields
+pub mod Worked

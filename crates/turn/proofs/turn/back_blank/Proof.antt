@@ -1,0 +1,34 @@
+-- `turn::turn::back_blank` meets its contract. Assumes nothing.
+use Prim.Native.Nat.{ℕ, _+_, _*_, _≤_, _<_}
+use native.Mathlib.Omega.{arith}
+use mathlib.Core.Path.{_≡_, refl, sym, ap, _∙_}
+use lib.ListN.{length, getD}
+use borrow.Author.Needs.{needs}
+use Rattle.turn.proofs.ways.TextAnswers.{back-blank, grows-blank}
+use Rattle.turn.proofs.turn.back_blank.Statement.{statement}
+use Rattle.turn.proofs.turn.back_blank.Tie as tie
+
+returns : tie.Need-returns
+returns c =
+    let begin = c .before .before .before .before .before .before .before .before .before .before .before in
+    let a = begin .args in
+    let p = begin .pre in
+    let copy = c .before .before .before .before .before .before .before .copy in
+    let push = c .before .before .before .push in
+    let eat = c .eat-whitespace in (
+      back-blank (a .s .now) (a .at) (a .code) (a .next) (a .len) (a .out .now) (p .0) (eat .result) (push .result) (copy .result) _ _ (p .1)
+          (eat .ensures .0) (copy .ensures .0) (push .ensures .0),
+      grows-blank (a .s .now) (a .at) (a .code) (a .next) (a .len) (a .out .now) (p .0) (eat .result) (push .result) (copy .result) (p .1)
+          (eat .ensures .0) (eat .ensures .1) (copy .ensures .1) (push .ensures .1),
+    )
+
+pub back-blank-spec : {M : Type 1} → statement M
+back-blank-spec =
+    tie.close
+    (tie.spec
+    (λ c κs. search needs)
+    (λ c κs. search needs)
+    (λ c. search needs)
+    (λ c κs. search needs)
+    (λ c. search needs)
+    returns)

@@ -1,0 +1,60 @@
+-- `turn::turn::bare` meets its contract. Assumes nothing.
+use Prim.Native.Nat.{ℕ, _+_, _*_, _≤_, _<_}
+use native.Mathlib.Omega.{arith}
+use mathlib.Core.Path.{_≡_, refl, sym, ap, subst, _∙_}
+use mathlib.Core.Bool.{Bool, true, false, not, _&&_}
+use mathlib.Core.List.{List, _∷_, []}
+use lib.ListN.{length, getD}
+use lib.Dec.{eqb}
+use borrow.Author.Needs.{needs}
+use borrow.Author.Tests.{not-true, not-false}
+use Rattle.text.specs.Scan.{part}
+use Rattle.command.specs.Execute.{Sane}
+use Rattle.command.proofs.ways.ExecuteWays.{meaning-sane}
+use Rattle.turn.proofs.ways.CommandAnswers.{bare-lays}
+use Rattle.turn.proofs.turn.bare.Statement.{statement}
+use Rattle.turn.proofs.turn.bare.Tie as tie
+
+execute-bare-requires : tie.Need-execute-bare-requires
+execute-bare-requires c κs =
+    let begin = c .before .before .before .before .before .before in
+    let a = begin .args in
+    let p = begin .pre in
+    let mean = c .before .meaning-of in (
+      subst Sane (sym (mean .ensures)) (meaning-sane (part (a .s .now) (a .at + 1) (a .end))),
+      omega (arith, p .0 .name),
+      omega
+          (arith, p .0 .white, p .0 .inside),
+      omega (arith, p .0 .name, p .0 .white, p .0 .inside, p .1 .room),
+    )
+
+returns : tie.Need-returns
+returns c =
+    let begin = c .before .before .before .before .before .before .before .before .before in
+    let a = begin .args in
+    let p = begin .pre in
+    let mean = c .before .before .before .before .meaning-of in
+    let run = c .before .before .execute-bare in (
+      record {
+        len = run .result;
+        told = refl;
+        lays = bare-lays (part (a .s .now) (a .at + 1) (a .end)) (a .out .now) (a .len) (mean .result) (run .result) _ (mean .ensures)
+            (run .ensures .0);
+      },
+      record {
+        at = omega (arith, p .0 .name, p .0 .white);
+        inside = p .0 .inside;
+        text = omega (arith, p .0 .name, p .0 .white, run .ensures .1);
+      },
+    )
+
+pub bare-spec : {M : Type 1} → statement M
+bare-spec =
+    tie.close
+    (tie.spec
+    (λ c. search needs)
+    (λ c κs. search needs)
+    (λ c. search needs)
+    execute-bare-requires
+    (λ c. search needs)
+    returns)

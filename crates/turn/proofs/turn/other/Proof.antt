@@ -1,0 +1,82 @@
+-- `turn::turn::other` meets its contract. Assumes nothing.
+use Prim.Native.Nat.{ℕ, _+_, _*_, _≤_, _<_}
+use native.Mathlib.Omega.{arith}
+use mathlib.Core.Path.{_≡_, refl, sym, ap, _∙_}
+use lib.ListN.{length, getD}
+use borrow.Author.Needs.{needs}
+use Rattle.turn.proofs.ways.TextAnswers as answers
+use Rattle.turn.proofs.turn.other.Statement.{statement}
+use Rattle.turn.proofs.turn.other.Tie as tie
+
+push-requires : tie.Need-push-requires
+push-requires c κs =
+    let begin = c .before .before .before .before .before .before .before .before .before in
+    let a = begin .args in
+    let p = begin .pre in
+    let peek = c .before .before .before .before .before .before .peek in
+    let seen = c .before .before .before .before .code .given .1 in
+    let in-text = answers.char-in (a .verb) (a .s .now) (a .at) (a .len) (a .out .now) (p .4) (peek .ensures .0) seen in
+    omega (arith, p .4, in-text .0, in-text .1)
+
+returns : tie.Need-returns
+returns c =
+    let begin = c .before .before .before .before .before .before .before .before .before .before .before .before .before in
+    let a = begin .args in
+    let p = begin .pre in
+    let peek = c .before .before .before .before .before .before .before .before .before .before .peek in
+    let seen = c .before .before .before .before .before .before .before .before .code .given .1 in
+    let white = c .before .before .before .before .before .before .is-whitespace .ensures in
+    let is = c .before .before .before .before .before .if1 .taken in
+    let push = c .before .before .before .push in
+    let eat = c .eat-whitespace in (
+      answers.other-white (a .verb) (a .s .now) (a .at) (a .len) (a .out .now) (p .4) (peek .ensures .0) seen (eat .result) (push .result) _ white is
+          (eat .ensures .0) (push .ensures .0),
+      answers.grows-white (a .verb) (a .s .now) (a .at) (a .len) (a .out .now) (p .4) (peek .ensures .0) seen (eat .result) (push .result) white is
+          (eat .ensures .0) (eat .ensures .1) (push .ensures .1),
+    )
+
+copy-requires : tie.Need-copy-requires
+copy-requires c κs =
+    let begin = c .before .before .before .before .before .before .before .before .before in
+    let a = begin .args in
+    let p = begin .pre in
+    let peek = c .before .before .before .before .before .before .peek in
+    let seen = c .before .before .before .before .code .given .1 in
+    let in-text = answers.char-in (a .verb) (a .s .now) (a .at) (a .len) (a .out .now) (p .4) (peek .ensures .0) seen in
+    (omega (arith, in-text .0), in-text .1, omega (arith, p .4, in-text .0, in-text .1))
+
+returns-2 : tie.Need-returns-2
+returns-2 c =
+    let begin = c .before .before .before .before .before in
+    absurd (answers.not-end (begin .args .s .now) (begin .args .at) (c .before .before .peek .ensures .0) (c .enum-told .given .1) (begin .pre .0))
+
+returns-3 : tie.Need-returns-3
+returns-3 c =
+    let begin = c .before .before .before .before .before .before .before .before .before .before .before .before in
+    let a = begin .args in
+    let p = begin .pre in
+    let peek = c .before .before .before .before .before .before .before .before .before .peek in
+    let seen = c .before .before .before .before .before .before .before .code .given .1 in
+    let white = c .before .before .before .before .before .is-whitespace .ensures in
+    let copy = c .before .before .copy in (
+      answers.other-char (a .verb) (a .s .now) (a .at) (a .len) (a .out .now) (p .4) (peek .ensures .0) seen (copy .result) _ (p .1) (p .2) (p .3)
+          white (c .before .before .before .before .if1 .left) (copy .ensures .0),
+      answers.grows-char (a .verb) (a .s .now) (a .at) (a .len) (a .out .now) (p .4) (peek .ensures .0) seen (copy .result) (copy .ensures .1),
+    )
+
+pub other-spec : {M : Type 1} → statement M
+other-spec =
+    tie.close
+    (tie.spec
+    (λ c κs. search needs)
+    (λ c. search needs)
+    (λ c. search needs)
+    (λ c κs. search needs)
+    push-requires
+    (λ c κs. search needs)
+    (λ c. search needs)
+    returns
+    copy-requires
+    returns-2
+    (λ c. search needs)
+    returns-3)

@@ -1,0 +1,59 @@
+-- `turn::turn::past_rare` meets its contract. Assumes nothing.
+use Prim.Native.Nat.{ℕ, _+_, _≤_, _<_}
+use native.Mathlib.Omega.{arith}
+use mathlib.Core.Path.{_≡_, sym, _∙_}
+use lib.ListN.{length, getD}
+use borrow.Author.Needs.{needs}
+use Rattle.turn.proofs.ways.TextTurns.{steps-none, steps-blank, steps-wide}
+use Rattle.turn.proofs.turn.past_rare.Statement.{statement}
+use Rattle.turn.proofs.turn.past_rare.Tie as tie
+
+returns : tie.Need-returns
+returns c =
+    let begin = c .before .before .before .before .before in
+    let a = begin .args in
+    let eat = c .before .eat-whitespace in
+    steps-blank (a .s .now) (a .at) (eat .result) (begin .pre) (c .before .before .if1 .taken) (eat .ensures .0) (c .if2 .taken)
+
+returns-2 : tie.Need-returns-2
+returns-2 c = let begin = c .before .before .before .before .before in steps-none (begin .args .s .now) (begin .args .at) (begin .pre)
+
+returns-3 : tie.Need-returns-3
+returns-3 c = let begin = c .before .before .before .before .before in steps-none (begin .args .s .now) (begin .args .at) (begin .pre)
+
+returns-4 : tie.Need-returns-4
+returns-4 c =
+    let begin = c .before .before .before .before .before .before .before .before .before .before .before in
+    steps-none (begin .args .s .now) (begin .args .at) (begin .pre)
+
+returns-5 : tie.Need-returns-5
+returns-5 c =
+    let begin = c .before .before .before .before .before .before .before .before in
+    steps-none (begin .args .s .now) (begin .args .at) (begin .pre)
+
+returns-6 : tie.Need-returns-6
+returns-6 c =
+    let peek = c .before .before .before .before .before in
+    let begin = peek .before .before .before .before .before .before in
+    let a = begin .args in
+    steps-wide (a .s .now) (a .at) _ _ (peek .before .if3 .left) (sym (peek .peek .ensures .0) ∙ c .before .before .before .code .given .1)
+    (sym (c .before .is-white .ensures) ∙ c .if4 .left)
+
+pub past-rare-spec : {M : Type 1} → statement M
+past-rare-spec =
+    tie.close
+    (tie.spec
+    (λ c. search needs)
+    (λ c κs. search needs)
+    (λ c. search needs)
+    returns
+    returns-2
+    (λ c. search needs)
+    returns-3
+    (λ c κs. search needs)
+    (λ c. search needs)
+    (λ c. search needs)
+    (λ c κs. search needs)
+    returns-4
+    returns-5
+    returns-6)

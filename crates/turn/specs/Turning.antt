@@ -1,0 +1,46 @@
+-- What the crate above needs of turns and of what they see. The proof is `turning` of proofs/Turning.antt.
+-- Assumes nothing.
+use Prim.Native.Nat.{ℕ, suc, _+_, _≤_, _<_}
+use mathlib.Core.Path.{_≡_}
+use mathlib.Core.Bool.{Bool, true, false}
+use mathlib.Core.List.{List, [], _∷_}
+use lib.ListN.{length, drop, getD}
+use Rattle.text.specs.Class.{isWhitespace}
+use Rattle.text.specs.Scan.{see, nextOf, skip, code, rest}
+use Rattle.text.specs.declared.scanner.Seen.the-variants.{Char}
+use Rattle.row.specs.declared.fault.Fault.{Fault}
+use Rattle.raw.specs.Reader.{again, bad, more, andThen, turn}
+use Rattle.turn.specs.Content.{Part, cut, Reader, argumentEnd, opensAt, maths, closing, contentTurn}
+use Rattle.turn.specs.Turns.{isSign, Ordinary, turns, Ends}
+
+pub record Turning : Type 0 where
+  -- a character that is seen: its parts; white space; the place after it
+  pub char-parts : (s : List ℕ) (p c n : ℕ) → see s p ≡ Char c n → (p < length s) × (c ≡ code (drop p s)) × (n ≡ p + 1 + rest (drop p s))
+  pub white-on : (s : List ℕ) (p c n : ℕ) → see s p ≡ Char c n → isWhitespace c ≡ true → skip isWhitespace s p ≡ skip isWhitespace s n
+  pub next-inside : (s : List ℕ) (p : ℕ) → p ≤ length s → (p ≤ nextOf p (see s p)) × (nextOf p (see s p) ≤ length s)
+  -- where a skip stops
+  pub skip-inside : (t : ℕ → Bool) (s : List ℕ) (p : ℕ) → p ≤ length s → (p ≤ skip t s p) × (skip t s p ≤ length s)
+  pub skip-at : (t : ℕ → Bool) (s : List ℕ) (n i : ℕ) → length s ≤ i + n → skip t s i < length s → t (code (drop (skip t s i) s)) ≡ false
+  -- a byte of ASCII and the character that it is
+  pub at-byte : (s : List ℕ) (p b : ℕ) → p < length s → getD s p 0 ≡ b → b < 0x80 → see s p ≡ Char b (p + 1)
+  pub byte-of : (s : List ℕ) (p c n : ℕ) → see s p ≡ Char c n → c < 0x80 → getD s p 0 ≡ c
+  -- an argument that is opened ends inside the text
+  pub opens-inside : (s : List ℕ) (w : ℕ) → opensAt (see s w) ≡ true → w + 1 ≤ length s
+  pub end-inside : (s : List ℕ) (p : ℕ) → p ≤ length s → Ends (length s) p (argumentEnd s p)
+  -- content is its first turn and then content, or refused with it
+  pub leads : (argument : Reader) (verb : Bool) (d : ℕ) (s : List ℕ) (p q : ℕ) (xs : List Part) (a : ℕ)
+      → contentTurn argument verb d s p ≡ again q xs a → turns argument verb d s p ≡ more xs (turns argument verb a s q)
+  pub stopped : (argument : Reader) (verb : Bool) (d : ℕ) (s : List ℕ) (p : ℕ) (f : Fault) → contentTurn argument verb d s p ≡ bad f
+      → turns argument verb d s p ≡ bad f
+  -- the turns that end a chunk
+  pub turn-open : (argument : Reader) (verb : Bool) (d : ℕ) (s : List ℕ) (p : ℕ) → p < length s → getD s p 0 ≡ 0x7B
+      → contentTurn argument verb d s p ≡ again (p + 1) (cut (suc d) p (p + 1) ∷ []) (suc d)
+  pub turn-close : (argument : Reader) (verb : Bool) (d : ℕ) (s : List ℕ) (p : ℕ) → p < length s → getD s p 0 ≡ 0x7D
+      → contentTurn argument verb d s p ≡ closing d s p
+  pub turn-math : (argument : Reader) (verb : Bool) (d : ℕ) (s : List ℕ) (p : ℕ) → p < length s → getD s p 0 ≡ 0x24 → verb ≡ false
+      → contentTurn argument verb d s p ≡ andThen (maths d s p) (turn d s)
+  -- the bytes at which they are: such a byte stands inside the text, any other is ordinary, and which of them it is
+  pub sign-inside : (verb : Bool) (s : List ℕ) (i : ℕ) → isSign verb (getD s i 0) ≡ true → i < length s
+  pub ordinary : (verb : Bool) (b : ℕ) → isSign verb b ≡ false → Ordinary verb b
+  pub sign-dollar : (verb : Bool) (b : ℕ) → isSign verb b ≡ true → b ≡ 0x24 → verb ≡ false
+  pub sign-closing : (verb : Bool) (b : ℕ) → isSign verb b ≡ true → (b ≡ 0x7B → ⊥) → (b ≡ 0x24 → ⊥) → b ≡ 0x7D

@@ -1,0 +1,2 @@
+// The turns of content that write text, after `ContentParser` of resolve.rs.
+pub mod turn;

@@ -1,0 +1,4 @@
+pub mod Field
+pub mod OwnRows
+pub mod EnoughText
+pub mod Uses
