@@ -77,23 +77,13 @@ pub fn parse(s: &[u8], base: usize, rows: &mut [u32], n: usize) -> Answer
     }
 }
 
-// The UTF-8 of a text. One of a few bytes, as a damaged piece of a file may be, is not worth the preparations for blocks.
-fn validate(s: &[u8]) -> Validity
-    ensures { λ r. ⌜ r ≡ validityOf (now (s .entry)) ⌝ }
-{
-    if s.len() < 16 {
-        return utf8::validate_short(s);
-    }
-    utf8::validate(s)
-}
-
 // Reads a text that may not be UTF-8 and stands base bytes into a file. Where it is, its rows are put from the first on.
 pub fn parse_bytes(s: &[u8], base: usize, rows: &mut [u32]) -> Answer
     requires { ⌜ base + length (now s) ≤ mostBytes ⌝ }
     ensures says { λ r. ⌜ Says base (strict (now (s .entry))) 0 (now (rows .entry)) r (now (rows .exit)) ⌝ }
     ensures within { λ r. ⌜ Within (length (now (s .entry))) 0 0 0 r ⌝ }
 {
-    match validate(s) {
+    match utf8::validate_short(s) {
         Validity::IllFormed(i) => Answer::Refused(Fault {
             reason: Reason::NotUtf8,
             start: i,

@@ -7,10 +7,12 @@ use mathlib.Core.List.{List}
 use lib.ListN.{length, getD}
 use lib.Dec.{eqb, ltb, leb}
 use Rattle.text.specs.Range.{Range, _–_, within}
-use Rattle.text.specs.Utf8.{tail}
+use Rattle.text.specs.Walk.{walk}
+use Rattle.text.specs.Utf8.{tail, lookValid, validityOf}
 use Rattle.text.specs.Class.{holdsOf}
 use Rattle.text.specs.declared.class.Masks.{Masks}
 use Rattle.text.specs.declared.class.Test.{Test}
+use Rattle.text.specs.declared.utf8.Validity.the-variants.{Valid}
 
 -- the second octets that may follow the first octet a
 unfoldable pub seconds : ℕ → Range
@@ -20,6 +22,12 @@ seconds a =
 
 unfoldable pub goesSecond : ℕ → ℕ → Bool
 goesSecond a b = within (seconds a) b
+
+-- r is the first octet that is not ASCII, or the end, and the walk over sequences comes there
+pub record WideAt (s : List ℕ) (r : ℕ) : Type 0 where
+  pub to : r ≤ length s
+  pub walked : validityOf s ≡ walk lookValid (λ n. Valid) s r
+  pub wide : r < length s → 0x80 ≤ getD s r 0
 
 -- bit b of two words, the first 64 bits in the lower
 unfoldable pub hasBit : ℕ → ℕ → ℕ → Bool

@@ -1,5 +1,6 @@
 -- The loop of `validate`, look by look.
---     valid-on, valid-ascii, valid-stop   a sequence is passed; a run of ASCII is passed; the walk ends at any other octet
+--     valid-on, valid-one      a sequence is passed; an octet of ASCII is passed
+--     valid-ascii, valid-stop  a run of ASCII is passed; the walk ends at any other octet
 -- Assumes nothing.
 use mathlib.Core.Path.{_≡_, refl, sym, ap, _∙_, subst}
 use mathlib.Core.Bool.{Bool, true, false, cond, _&&_}
@@ -35,7 +36,7 @@ module _ (e : ℕ → Validity) (s : List ℕ) where
   unfolding lookValid
   valid-stop i w q z h = walk-answer lookValid e s i (IllFormed i) h (rw (sym q, eq-eqb w 0 z))
 
-  valid-one : (i : ℕ) → i < length s → getD s i 0 < 0x80 → walk lookValid e s i ≡ walk lookValid e s (i + 1)
+  pub valid-one : (i : ℕ) → i < length s → getD s i 0 < 0x80 → walk lookValid e s i ≡ walk lookValid e s (i + 1)
   valid-one i h a = valid-on i 1 (sym (width-ascii s i h (omega arith) a)) (λ z. omega arith) (omega arith)
 
   ascii-on : (i n : ℕ) → i + n ≤ length s → ((k : ℕ) → i ≤ k → k < i + n → getD s k 0 < 0x80) → walk lookValid e s i ≡ walk lookValid e s (i + n)

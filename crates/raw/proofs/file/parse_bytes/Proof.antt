@@ -8,7 +8,7 @@ returns : tie.Need-returns
 returns c =
     let checked = c .before .before .before in
     let b = checked .before .before .before in
-    (bytes-ill (b .args .s .now) (b .args .base) (b .args .rows .now) (b .pre) (checked .validate .ensures) (c .before .i .given .1), tt)
+    (bytes-ill (b .args .s .now) (b .args .base) (b .args .rows .now) (b .pre) (checked .validate-short .ensures) (c .before .i .given .1), tt)
 
 returns-2 : tie.Need-returns-2
 returns-2 c =
@@ -16,7 +16,7 @@ returns-2 c =
     let valid = read .before .before in
     let checked = valid .before .before in
     let b = checked .before .before .before in (
-      bytes-valid (b .args .s .now) (b .args .base) (b .args .rows .now) (b .pre) (checked .validate .ensures) (valid .enum-told .given .1)
+      bytes-valid (b .args .s .now) (b .args .base) (b .args .rows .now) (b .pre) (checked .validate-short .ensures) (valid .enum-told .given .1)
           (read .parse .ensures .0),
       read .parse .ensures .1,
     )
