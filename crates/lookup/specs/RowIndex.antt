@@ -73,7 +73,7 @@ Follows f n most (followed.Row i) = found.Row i ≡ f
 Follows f n most followed.Nothing = found.Nothing ≡ f
 Follows f n most followed.TooLong = most ≤ n
 
--- the chains of the rows from row i on, or one has more rows than may be looked at
-abbrev pub Links : List ℕ → List ℕ → ℕ → ℕ → Bool → List ℕ → List ℕ → Type 0
-Links file rows i most true heads next = IndexedFrom file rows i heads next
-Links file rows i most false heads next = most ≤ length rows / 4
+-- the chains of the rows from row i on were made; or else one has more rows than may be looked at
+pub record Links (file rows : List ℕ) (i most : ℕ) (done : Bool) (heads next : List ℕ) : Type 0 where
+  pub made : done ≡ true → IndexedFrom file rows i heads next
+  pub long : done ≡ false → most ≤ length rows / 4
