@@ -6,6 +6,8 @@ pub mod bytes
 pub mod rows
 -- the index
 pub mod links
+-- the definitions in order
+pub mod sorting
 -- the proof of specs/Worked.antt: published hashes, and names in a file
 pub mod Worked
 -- the proof of specs/Lookup.antt: what is found is the last definition, for the crates above
