@@ -8,6 +8,7 @@ pub mod rows
 pub mod links
 -- the definitions in order
 pub mod orderly
+pub mod sorting
 -- the proof of specs/Worked.antt: published hashes, and names in a file
 pub mod Worked
 -- the proof of specs/Lookup.antt: what is found is the last definition, for the crates above

@@ -171,7 +171,7 @@ pub fn fill(file: &[u8], rows: &[u32], heads: &mut [u32], next: &mut [u32]) -> b
 
 // The last definition of a name among those in order.
 pub fn search(file: &[u8], rows: &[u32], order: &[u32], wanted: &[u8]) -> Found
-    requires { ⌜ now order ≡ inOrder (now file) (rowsOf (now rows)) ⌝ }
+    requires { ⌜ (now order ≡ inOrder (now file) (rowsOf (now rows))) × (length (now rows) / 4 ≤ 2147483647) ⌝ }
     ensures { λ r. ⌜ r ≡ lastNamed (now (file .entry)) (now (wanted .entry)) (rowsOf (now (rows .entry))) ⌝ }
 {
     let mut lo = 0;
