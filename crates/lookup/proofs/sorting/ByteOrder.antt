@@ -1,18 +1,18 @@
 -- The order of bytes, and of rows by their names.
---     flipped, order-flip                     two texts the other way round
---     order-less, order-greater               Less one way is Greater the other way
---     order-self, order-equal                 Equal is equality
---     order-alike                             where none of two texts comes behind the other they are equal
---     less-trans, greater-on                  the order is transitive
---     comes-total, comes-trans                rows are ordered too
---     comes-order, comes-same                 what the order of rows says of their names, and of two rows of one name
+--     flipped, order-flip           two texts the other way round
+--     order-less, order-greater     Less one way is Greater the other way
+--     order-self, order-equal       Equal is equality
+--     order-alike                   where neither of two texts comes behind the other they are equal
+--     less-trans, greater-on        the order is transitive
+--     comes-total, comes-trans      of two rows one comes before the other, and the order of rows is transitive
+--     comes-order, comes-same       what it says of the rows' names, and of two rows of one name
 -- Assumes nothing.
-use Prim.Native.Nat.{ℕ, _≤_, _<_}
+use Prim.Native.Nat.{ℕ, _≤_}
 use native.Mathlib.Omega.{arith}
-use mathlib.Core.Path.{_≡_, refl, sym, ap, subst, _∙_}
+use mathlib.Core.Path.{_≡_, refl, ap, _∙_}
 use mathlib.Core.Bool.{Bool, true, false, cond, true≢false, false≢true}
 use mathlib.Core.List.{List, [], _∷_}
-use lib.Dec.{ltb, leb}
+use lib.Dec.{ltb}
 use borrow.Author.Tests.{ltb-true, ltb-false, lt-ltb, le-ltb, leb-true, leb-false, le-leb}
 use Rattle.row.specs.Row.{Row}
 use Rattle.lookup.specs.declared.order.Order.{Order}
@@ -36,9 +36,6 @@ greater-not-equal e = let z : _≡_ {A = ℕ} 0 1 = cc in absurd (omega arith)
 
 greater-not-less : {A : Type 0} → order.Greater ≡ order.Less → A
 greater-not-less e = let z : _≡_ {A = ℕ} 0 1 = cc in absurd (omega arith)
-
-equal-not-less : {A : Type 0} → order.Equal ≡ order.Less → A
-equal-not-less e = let z : _≡_ {A = ℕ} 0 1 = cc in absurd (omega arith)
 
 pub order-flip : (a b : List ℕ) → orderOf b a ≡ flipped (orderOf a b)
 unfolding orderOf
@@ -117,7 +114,7 @@ less-trans (x ∷ a) (y ∷ b) (z ∷ c) e f = by (ltb x y) (ltb y x) (ltb y z) 
         let k = ltb-false z y s in
         rw (le-ltb x z (omega arith), le-ltb z x (omega arith)) (g e f)
 
--- what comes behind b does so still where it is put off to c
+-- where a comes behind b and not behind c, c comes behind b
 pub greater-on : (a b c : List ℕ) → orderOf a b ≡ order.Greater → (orderOf a c ≡ order.Greater → ⊥) → orderOf c b ≡ order.Greater
 greater-on a b c e f = by (orderOf a c) refl
   where

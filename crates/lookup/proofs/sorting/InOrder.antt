@@ -8,7 +8,7 @@
 use Prim.Native.Nat.{ℕ, suc, _+_, _-_, _≤_, _<_}
 use native.Mathlib.Omega.{arith}
 use native.Mathlib.Nat.{eq-or-lt-of-le}
-use mathlib.Core.Path.{_≡_, refl, sym, ap, subst, _∙_}
+use mathlib.Core.Path.{_≡_, refl, sym, subst, _∙_}
 use mathlib.Core.Bool.{Bool, true, false, false≢true}
 use mathlib.Core.List.{List}
 use mathlib.Core.Logic.{_⊎_, inl, inr}
@@ -19,6 +19,7 @@ use Rattle.row.specs.Row.{Row}
 use Rattle.lookup.specs.declared.plain.Found.the-variants as found
 use Rattle.lookup.specs.declared.order.Order.the-variants as order
 use Rattle.lookup.specs.Names.{nameOf, rowNo, isNamed, lastNamed}
+use Rattle.lookup.specs.RowIndex.{lastFrom}
 use Rattle.lookup.specs.Order.{orderOf, comes, sorted, isDefinition, definitions, inOrder}
 use Rattle.lookup.proofs.rows.LastDefinition.{last-is, from-none, from-nothing, from-first}
 use Rattle.lookup.proofs.links.RowBuckets.{named-name, name-named}
@@ -44,7 +45,7 @@ in-order file rs few =
       rows = λ p h. definition-in rs (getD (sorted le 32 ds) p 0) (sorted-in le (getD (sorted le 32 ds) p 0) 32 ds (at-in (sorted le 32 ds) p h));
       all = λ i h e. in-at i (sorted le 32 ds) (in-sorted le i 32 ds (in-definitions rs i h e));
       rises = sorted-at le (sorted le 32 ds)
-        (sorted-sorted le (comes-total file rs) (comes-trans file rs) 32 ds (omega (arith, definitions-length rs)));
+          (sorted-sorted le (comes-total file rs) (comes-trans file rs) 32 ds (omega (arith, definitions-length rs)));
     }
 
 pub arranged : (file : List ℕ) (rs : List Row) (o : List ℕ) → o ≡ inOrder file rs → length rs ≤ 2147483647 → Arranged file rs o
@@ -118,15 +119,42 @@ module _ (file : List ℕ) (rs : List Row) (wanted o : List ℕ) (is : o ≡ inO
   pub split-none : lo ≡ hi → lo ≡ 0 → found.Nothing ≡ lastNamed file wanted rs
   split-none m z = none (λ j h e. let p = early m j h e in omega (arith, p .1 .0))
 
-  pub split-other : lo ≡ hi → 0 < lo → isNamed file wanted (rowNo rs (getD o (lo - 1) 0)) ≡ false → found.Nothing ≡ lastNamed file wanted rs
-  split-other m z f = none (λ j h e. let p = early m j h e in by j e (p .0) (p .1 .1) (eq-or-lt-of-le (omega (arith, p .1 .0))))
+  -- it stands at place lo - 1, or else there it comes before the row
+  last-or : lo ≡ hi → (j : ℕ) → j < length rs → isNamed file wanted (rowNo rs j) ≡ true →
+      (getD o (lo - 1) 0 ≡ j) ⊎ (comes file rs j (getD o (lo - 1) 0) ≡ true)
+  last-or m j h e = let p = early m j h e in by (p .0) (p .1 .0) (p .1 .1) (eq-or-lt-of-le (omega (arith, p .1 .0)))
     where
-      here : lo - 1 < length o
-      here = omega (arith, s .between, s .inside)
+      by : (p : ℕ) → p < lo → getD o p 0 ≡ j → (p ≡ lo - 1) ⊎ (p < lo - 1) → (getD o (lo - 1) 0 ≡ j) ⊎ (comes file rs j (getD o (lo - 1) 0) ≡ true)
+      by p k q (inl u) = inl (rw (← u) q)
+      by p k q (inr u) = inr (rw q at (arranged file rs o is few .rises p (lo - 1) u (omega (arith, s .between, s .inside))))
 
-      by : (j : ℕ) → isNamed file wanted (rowNo rs j) ≡ true → (p : ℕ) → getD o p 0 ≡ j → (p ≡ lo - 1) ⊎ (p < lo - 1) → ⊥
-      by j e p q (inl u) = ?
-      by j e p q (inr u) = ?
+  pub split-other : lo ≡ hi → 0 < lo → isNamed file wanted (rowNo rs (getD o (lo - 1) 0)) ≡ false → found.Nothing ≡ lastNamed file wanted rs
+  split-other m z f = none (λ j h e. by j e (last-or m j h e))
+    where
+      i : ℕ
+      i = getD o (lo - 1) 0
+
+      kind : rowNo rs i .kind ≡ 8
+      kind = eqb-true (rowNo rs i .kind) 8 (arranged file rs o is few .rows (lo - 1) (omega (arith, s .between, s .inside)) .1)
+
+      by : (j : ℕ) → isNamed file wanted (rowNo rs j) ≡ true → (i ≡ j) ⊎ (comes file rs j i ≡ true) → ⊥
+      by j e (inl u) = false≢true (sym (rw u at f) ∙ e)
+      by j e (inr c) =
+          let n = named-name file rs j wanted e .1 in
+          let name = order-alike (nameOf file (rowNo rs i)) wanted (s .low (lo - 1) (omega arith)) (λ g. comes-order file rs j i c (rw n g)) in
+          false≢true (sym f ∙ name-named file rs i wanted kind name)
 
   pub split-row : lo ≡ hi → 0 < lo → isNamed file wanted (rowNo rs (getD o (lo - 1) 0)) ≡ true → found.Row (getD o (lo - 1) 0) ≡ lastNamed file wanted rs
-  split-row m z t = ?
+  split-row m z t = sym (last-is file wanted rs i (split-inside z) t (from-nothing file wanted rs (suc i) behind))
+    where
+      i : ℕ
+      i = getD o (lo - 1) 0
+
+      by : (j : ℕ) → i < j → isNamed file wanted (rowNo rs j) ≡ true → (i ≡ j) ⊎ (comes file rs j i ≡ true) → ⊥
+      by j h e (inl u) = omega arith
+      by j h e (inr c) =
+          let k = comes-same file rs j i c (named-name file rs j wanted e .1 ∙ sym (named-name file rs i wanted t .1)) in
+          omega arith
+
+      behind : found.Nothing ≡ lastFrom file wanted rs (suc i)
+      behind = from-none file wanted rs (suc i) (λ j h y. by j h (y .named) (last-or m j (y .below) (y .named)))

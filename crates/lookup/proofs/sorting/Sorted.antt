@@ -1,22 +1,22 @@
 -- Lists merged and sorted. First by any order:
---     In, in-at, at-in                        x is in a list: it is at some place of it
---     in-merged-left, in-merged-right, merged-in    what is in merged lists is in one of them
---     in-sorted, sorted-in                    what is in a sorted list is in the list
---     merged-length, sorted-length            how many numbers they have
+--     In, Place, at-in, in-at         x is in a list: it is at some place of it
+--     merged-in, in-merged            what is in two merged lists is what is in one of them
+--     sorted-in, in-sorted            what is in a sorted list is what was in the list
+--     merged-length, sorted-length    how many numbers they have
+--     Sorted, sorted-at               each number of a list comes before those behind it
 -- Then by an order that is total and transitive:
---     Sorted, sorted-at                       no number of a list comes before an earlier one
---     merged-sorted, sorted-sorted            merged lists are sorted if both were, and `sorted` sorts
+--     merged-sorted, sorted-sorted    lists that are sorted are so when merged, and `sorted` sorts
 -- Assumes nothing.
-use Prim.Native.Nat.{ℕ, zero, suc, _+_, _-_, _*_, _/_, _^_, _≤_, _<_, min}
+use Prim.Native.Nat.{ℕ, zero, suc, _+_, _/_, _^_, _≤_, _<_}
 use native.Mathlib.Omega.{arith}
 use native.Mathlib.Nat.{two-pow-succ}
-use mathlib.Core.Path.{_≡_, refl, sym, ap, _∙_}
+use mathlib.Core.Path.{_≡_, refl, sym}
 use mathlib.Core.Bool.{Bool, true, false, cond}
-use mathlib.Core.List.{List, [], _∷_, _++_}
+use mathlib.Core.List.{List, [], _∷_}
 use mathlib.Core.Logic.{_⊎_, inl, inr, ⊎-elim}
 use lib.ListN.{length, getD, take, drop, length-take, length-drop}
 use lib.Dec.{ltb}
-use borrow.Author.Tests.{ltb-true, ltb-false}
+use borrow.Author.Tests.{ltb-true}
 use Rattle.lookup.specs.Order.{merged, mergedAt, sorted}
 
 -- ---- what is in a list
