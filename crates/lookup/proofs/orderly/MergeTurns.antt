@@ -1,9 +1,9 @@
 -- Two lists merged: one turn of `merge`, by what its code tests.
 --     first-left, first-right, first-both    whose number is next, where a list has ended, and where none has
 --     left-inside, right-inside              the list whose number is next has not ended
---     merge-left, merge-right                the next number is put behind those that are merged
---     merge-ends                             at the end all are
---     merged-length                          there are as many as in both lists
+--     Going                                  where it stands: i and j numbers are merged, and those behind them make up the rest
+--     going-left, going-right                the next number is put behind those that are merged
+--     going-ends                             at the end all are
 -- Assumes nothing.
 use Prim.Native.Nat.{ℕ, suc, _+_, _≤_, _<_}
 use native.Mathlib.Numerals.{add-one}
@@ -11,7 +11,7 @@ use native.Mathlib.Omega.{arith}
 use mathlib.Core.Path.{_≡_, refl, sym, ap, _∙_}
 use mathlib.Core.Bool.{Bool, true, false, cond, true≢false}
 use mathlib.Core.List.{List, [], _∷_, _++_, append-nil}
-use lib.ListN.{length, getD, take, drop, set, drop-of-length-le}
+use lib.ListN.{length, getD, take, drop, set, length-set, drop-of-length-le}
 use lib.Seq.{drop-cons, take-suc-set, append-snoc}
 use lib.Dec.{ltb}
 use borrow.Author.Tests.{ltb-true, ltb-false}
@@ -63,7 +63,7 @@ module _ (le : ℕ → ℕ → Bool) where
       put : (n v : ℕ) (rest : List ℕ) → n ≡ suc (i + j) → take n (set out (i + j) v) ++ rest ≡ take (i + j) out ++ v ∷ rest
       put n v rest e = rw (e, take-suc-set out (i + j) v room) (append-snoc (take (i + j) out) v rest)
 
-      pub merge-left : i < length a → leftFirst le (drop i a) (drop j b) ≡ true →
+      merge-left : i < length a → leftFirst le (drop i a) (drop j b) ≡ true →
           take (i + 1 + j) (set out (i + j) (getD a i 0)) ++ merged le (drop (i + 1) a) (drop j b) ≡ whole
       merge-left h e =
           let z : leftFirst le (getD a i 0 ∷ drop (suc i) a) (drop j b) ≡ true = rw (drop-cons a i 0 h) at e in
@@ -73,7 +73,7 @@ module _ (le : ℕ → ℕ → Bool) where
           ∙ ap (λ (n : ℕ). take (i + j) out ++ getD a i 0 ∷ merged le (drop n a) (drop j b)) (add-one i)
           ∙ ap (λ (l : List ℕ). take (i + j) out ++ l) (sym t) ∙ so-far
 
-      pub merge-right : leftFirst le (drop i a) (drop j b) ≡ false →
+      merge-right : leftFirst le (drop i a) (drop j b) ≡ false →
           take (i + (j + 1)) (set out (i + j) (getD b j 0)) ++ merged le (drop i a) (drop (j + 1) b) ≡ whole
       merge-right e =
           let h = right-inside e in
@@ -84,7 +84,7 @@ module _ (le : ℕ → ℕ → Bool) where
           ∙ ap (λ (n : ℕ). take (i + j) out ++ getD b j 0 ∷ merged le (drop i a) (drop n b)) (add-one j)
           ∙ ap (λ (l : List ℕ). take (i + j) out ++ l) (sym t) ∙ so-far
 
-  pub merge-ends : (a b out whole : List ℕ) (i j : ℕ) → i ≡ length a → j ≡ length b → take (i + j) out ++ merged le (drop i a) (drop j b) ≡ whole →
+  merge-ends : (a b out whole : List ℕ) (i j : ℕ) → i ≡ length a → j ≡ length b → take (i + j) out ++ merged le (drop i a) (drop j b) ≡ whole →
       take (length a + length b) out ≡ whole
   unfolding merged
   merge-ends a b out whole i j p q e =
@@ -92,3 +92,21 @@ module _ (le : ℕ → ℕ → Bool) where
       let v : length b ≤ j = omega arith in
       let z : take (i + j) out ++ merged le [] [] ≡ whole = rw (drop-of-length-le a u, drop-of-length-le b v) at e in
       rw (← p, ← q) (sym (append-nil (take (i + j) out)) ∙ z)
+
+  -- out has as many numbers as at first
+  abbrev pub Going : List ℕ → List ℕ → List ℕ → List ℕ → ℕ → ℕ → Type 0
+  Going a b old out i j = (length out ≡ length old) × (i ≤ length a) × (j ≤ length b) × (take (i + j) out ++ merged le (drop i a) (drop j b) ≡ merged le a b)
+
+  module _ (a b old out : List ℕ) (i j : ℕ) (room : length a + length b ≤ length old) (g : Going a b old out i j) where
+    pub going-left : i + j < length a + length b → leftFirst le (drop i a) (drop j b) ≡ true → Going a b old (set out (i + j) (getD a i 0)) (i + 1) j
+    going-left h e =
+        let k = left-inside a b i j h e in
+        (length-set out (i + j) (getD a i 0) ∙ g .0, omega arith, g .2, merge-left a b i j out (merged le a b) (omega (arith, g .0)) (g .3) k e)
+
+    pub going-right : i + j < length a + length b → leftFirst le (drop i a) (drop j b) ≡ false → Going a b old (set out (i + j) (getD b j 0)) i (j + 1)
+    going-right h e =
+        let k = right-inside a b i j e in
+        (length-set out (i + j) (getD b j 0) ∙ g .0, g .1, omega arith, merge-right a b i j out (merged le a b) (omega (arith, g .0)) (g .3) e)
+
+    pub going-ends : length a + length b ≤ i + j → take (length a + length b) out ≡ merged le a b
+    going-ends h = merge-ends a b out (merged le a b) i j (omega (arith, g .1, g .2)) (omega (arith, g .1, g .2)) (g .3)
