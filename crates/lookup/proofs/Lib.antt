@@ -4,11 +4,12 @@
 pub mod bytes
 -- rows by their numbers, and the last definition of a name
 pub mod rows
--- the index
-pub mod links
--- the definitions in order
-pub mod orderly
+-- the definitions in the order of their names: what the order, merging and sorting settle, and the search
 pub mod sorting
+-- the turns of the loops that compare, gather, merge and sort
+pub mod orderly
+-- the chains of the index, and its two forms
+pub mod links
 -- the proof of specs/Worked.antt: published hashes, and names in a file
 pub mod Worked
 -- the proof of specs/Lookup.antt: what is found is the last definition, for the crates above
