@@ -1,5 +1,5 @@
 -- A list sorted in one place: the ways through `sort`.
---     sort-stays, sort-deep                a list that is not halved; one that is has a halving left
+--     sort-deep, sort-stays                a list that is halved has a halving left; one that is not halved
 --     half, oneDone, other, bothDone       the list while its halves are sorted, and the part that is lent for the second
 --     half-size, one-length, other-size, both-length    how long these are
 --     sort-whole                           the halves are sorted, merged into the spare numbers, and copied back
@@ -15,6 +15,14 @@ use lib.Dec.{ltb, eqb}
 use borrow.Author.Tests.{eqb-true}
 use borrow.Rule.Slice.PartMut.{midOf, putMid, same-len-mid}
 use Rattle.lookup.specs.Order.{merged, sorted}
+
+pub sort-deep : (d : ℕ) (xs : List ℕ) → (ltb (length xs) 2 || eqb d 0) ≡ false → 1 ≤ d
+sort-deep zero xs e = by (ltb (length xs) 2) e
+  where
+    by : (s : Bool) → (s || true) ≡ false → 1 ≤ 0
+    by true e = absurd (false≢true (sym e))
+    by false e = absurd (false≢true (sym e))
+sort-deep (suc d) xs e = omega arith
 
 module _ (le : ℕ → ℕ → Bool) where
   pub sort-stays : (d : ℕ) (xs : List ℕ) → (ltb (length xs) 2 || eqb d 0) ≡ true → xs ≡ sorted le d xs
@@ -43,14 +51,6 @@ module _ (le : ℕ → ℕ → Bool) where
       by : (s : Bool) → ltb (length xs) 2 ≡ s → (s || eqb (suc d) 0) ≡ false → ltb (length xs) 2 ≡ false
       by true p e = absurd (false≢true (sym e))
       by false p e = p
-
-  pub sort-deep : (d : ℕ) (xs : List ℕ) → (ltb (length xs) 2 || eqb d 0) ≡ false → 1 ≤ d
-  sort-deep zero xs e = by (ltb (length xs) 2) e
-    where
-      by : (s : Bool) → (s || true) ≡ false → 1 ≤ 0
-      by true e = absurd (false≢true (sym e))
-      by false e = absurd (false≢true (sym e))
-  sort-deep (suc d) xs e = omega arith
 
 -- ---- the list in its place, whose first half is sorted, ys; and whose second half is too, zs
 
