@@ -4,18 +4,22 @@
 --     Going                                  where it stands: i and j numbers are merged, and those behind them make up the rest
 --     going-left, going-right                the next number is put behind those that are merged
 --     going-ends                             at the end all are
+--     halves-length, halves-merged           a list is merged from its halves
 -- Assumes nothing.
-use Prim.Native.Nat.{ℕ, suc, _+_, _≤_, _<_}
+use Prim.Native.Nat.{ℕ, suc, _+_, _-_, _≤_, _<_}
 use native.Mathlib.Numerals.{add-one}
 use native.Mathlib.Omega.{arith}
 use mathlib.Core.Path.{_≡_, refl, sym, ap, _∙_}
 use mathlib.Core.Bool.{Bool, true, false, cond, true≢false}
 use mathlib.Core.List.{List, [], _∷_, _++_, append-nil}
-use lib.ListN.{length, getD, take, drop, set, length-set, drop-of-length-le}
-use lib.Seq.{drop-cons, take-suc-set, append-snoc}
+use lib.ListN.{length, getD, take, drop, set, length-set, length-drop, drop-of-length-le}
+use lib.Seq.{drop-cons, take-suc-set, append-snoc, take-all, length-take-le}
 use lib.Dec.{ltb}
 use borrow.Author.Tests.{ltb-true, ltb-false}
 use Rattle.lookup.specs.Order.{merged, mergedAt, leftFirst}
+
+pub halves-length : (a : List ℕ) (h : ℕ) → h ≤ length a → length (take h a) + length (take (length a - h) (drop h a)) ≡ length a
+halves-length a h k = omega (arith, length-take-le h a k, length-take-le (length a - h) (drop h a) (omega (arith, length-drop h a)), length-drop h a)
 
 module _ (le : ℕ → ℕ → Bool) where
   turn-left : (x : ℕ) (xs ys : List ℕ) → leftFirst le (x ∷ xs) ys ≡ true → merged le (x ∷ xs) ys ≡ x ∷ merged le xs ys
@@ -110,3 +114,11 @@ module _ (le : ℕ → ℕ → Bool) where
 
     pub going-ends : length a + length b ≤ i + j → take (length a + length b) out ≡ merged le a b
     going-ends h = merge-ends a b out (merged le a b) i j (omega (arith, g .1, g .2)) (omega (arith, g .1, g .2)) (g .3)
+
+  -- a list is merged from its halves
+  pub halves-merged : (a out : List ℕ) (h : ℕ) → h ≤ length a →
+      take (length (take h a) + length (take (length a - h) (drop h a))) out ≡ merged le (take h a) (take (length a - h) (drop h a)) →
+      take (length a) out ≡ merged le (take h a) (drop h a)
+  halves-merged a out h k e =
+      let z = take-all (length a - h) (drop h a) (omega (arith, length-drop h a)) in
+      ap (λ (n : ℕ). take n out) (sym (halves-length a h k)) ∙ e ∙ ap (merged le (take h a)) z
