@@ -4,7 +4,8 @@ use borrow.Author.Tests.{not-false}
 use native.Mathlib.Omega.{arith}
 use mathlib.Core.Path.{_≡_, sym, _∙_}
 use Prim.Native.Nat.{_+_, _/_, _≤_}
-use lib.ListN.{length, length-take-le}
+use lib.ListN.{length}
+use lib.Seq.{length-take-le}
 use Rattle.row.specs.Numbers.{rowsOf}
 use Rattle.lookup.specs.RowIndex.{lastFrom}
 use Rattle.lookup.proofs.rows.LastDefinition.{from-first}
