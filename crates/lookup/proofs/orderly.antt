@@ -12,3 +12,5 @@ pub mod GatherTurns
 pub mod SortWays
 -- numbers copied: one turn of the loop, and its end
 pub mod CopyTurns
+-- the definitions gathered and put in order, with the mark
+pub mod FillWays
