@@ -4,11 +4,13 @@
 pub mod CompareTurns
 -- rows compared by their names
 pub mod RowsCompared
--- two lists merged: one turn of the loop, and its end
+-- two lists merged: one turn of the loop, and its end; and the halves of one list
 pub mod MergeTurns
--- the numbers of the definitions gathered
-pub mod GatherTurns
--- a list sorted by its halves, in one place
-pub mod SortWays
 -- numbers copied: one turn of the loop, and its end
 pub mod CopyTurns
+-- a list sorted by its halves, in one place
+pub mod SortWays
+-- the numbers of the definitions gathered: one turn of the loop, and its end
+pub mod GatherTurns
+-- the definitions gathered and put in order, with the mark
+pub mod FillWays

@@ -10,7 +10,7 @@ use Prim.Native.Nat.{ℕ, suc, _+_, _-_, _≤_, _<_}
 use native.Mathlib.Numerals.{add-one}
 use native.Mathlib.Omega.{arith}
 use mathlib.Core.Path.{_≡_, refl, sym, ap, _∙_}
-use mathlib.Core.Bool.{Bool, true, false, cond, true≢false}
+use mathlib.Core.Bool.{Bool, true, false, true≢false}
 use mathlib.Core.List.{List, [], _∷_, _++_, append-nil}
 use lib.ListN.{length, getD, take, drop, set, length-set, length-drop, drop-of-length-le}
 use lib.Seq.{drop-cons, take-suc-set, append-snoc, take-all, length-take-le}
@@ -72,7 +72,7 @@ module _ (le : ℕ → ℕ → Bool) where
       merge-left h e =
           let z : leftFirst le (getD a i 0 ∷ drop (suc i) a) (drop j b) ≡ true = rw (drop-cons a i 0 h) at e in
           let t : merged le (drop i a) (drop j b) ≡ getD a i 0 ∷ merged le (drop (suc i) a) (drop j b) =
-              rw (drop-cons a i 0 h) (turn-left (getD a i 0) (drop (suc i) a) (drop j b) z) in
+          rw (drop-cons a i 0 h) (turn-left (getD a i 0) (drop (suc i) a) (drop j b) z) in
           put (i + 1 + j) (getD a i 0) (merged le (drop (i + 1) a) (drop j b)) (omega arith)
           ∙ ap (λ (n : ℕ). take (i + j) out ++ getD a i 0 ∷ merged le (drop n a) (drop j b)) (add-one i)
           ∙ ap (λ (l : List ℕ). take (i + j) out ++ l) (sym t) ∙ so-far
@@ -83,7 +83,7 @@ module _ (le : ℕ → ℕ → Bool) where
           let h = right-inside e in
           let z : leftFirst le (drop i a) (getD b j 0 ∷ drop (suc j) b) ≡ false = rw (drop-cons b j 0 h) at e in
           let t : merged le (drop i a) (drop j b) ≡ getD b j 0 ∷ merged le (drop i a) (drop (suc j) b) =
-              rw (drop-cons b j 0 h) (turn-right (drop i a) (getD b j 0) (drop (suc j) b) z) in
+          rw (drop-cons b j 0 h) (turn-right (drop i a) (getD b j 0) (drop (suc j) b) z) in
           put (i + (j + 1)) (getD b j 0) (merged le (drop i a) (drop (j + 1) b)) (omega arith)
           ∙ ap (λ (n : ℕ). take (i + j) out ++ getD b j 0 ∷ merged le (drop i a) (drop n b)) (add-one j)
           ∙ ap (λ (l : List ℕ). take (i + j) out ++ l) (sym t) ∙ so-far

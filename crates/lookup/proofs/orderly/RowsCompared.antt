@@ -1,20 +1,17 @@
 -- Rows compared by their names.
---     name-past                             the name past the last row is empty
---     comes-less, comes-equal, comes-greater    row i comes before row j, by how their names stand
+--     name-past    the name past the last row is empty
+--     comes-by     row i comes before row j, by how their names stand
 -- Assumes nothing.
 use Prim.Native.Nat.{ℕ, _/_, _≤_}
 use native.Mathlib.Omega.{arith}
-use mathlib.Core.Path.{_≡_, refl, sym, ap, _∙_}
-use mathlib.Core.Bool.{true, false}
+use mathlib.Core.Path.{_≡_, sym, ap}
 use mathlib.Core.List.{List}
 use lib.ListN.{length, List·getD-eq-default}
-use lib.Dec.{leb}
 use Rattle.text.specs.Scan.{part}
 use Rattle.row.specs.Row.{Row, rowOf}
 use Rattle.row.specs.Numbers.{rowsOf}
 use Rattle.row.proofs.Laid.{laid}
 use Rattle.lookup.specs.declared.order.Order.{Order}
-use Rattle.lookup.specs.declared.order.Order.the-variants as order
 use Rattle.lookup.specs.Names.{nameOf, rowNo}
 use Rattle.lookup.specs.Order.{orderOf, comes, comesBy}
 

@@ -8,7 +8,7 @@ use Prim.Native.Nat.{ℕ, zero, suc, _-_, _/_, _≤_}
 use native.Mathlib.Omega.{arith}
 use mathlib.Core.Path.{_≡_, refl, sym, ap, ap₂, _∙_}
 use mathlib.Core.Bool.{Bool, true, false, cond, _||_, false≢true}
-use mathlib.Core.List.{List, [], _∷_, _++_, append-nil}
+use mathlib.Core.List.{List, [], _++_, append-nil}
 use lib.ListN.{length, take, drop, drop-of-length-le, length-drop}
 use lib.Seq.{take-all, take-at, drop-at, length-take-le, length-front}
 use lib.Dec.{ltb, eqb}
@@ -106,7 +106,7 @@ module _ (xs ys : List ℕ) (as-many : length ys ≡ length (take (half xs) xs))
       out ≡ take (length (bothDone xs ys zs)) spare → out ≡ sorted le d xs
   sort-whole le d zs spare out halved one two e f =
       let left : take (half xs) (bothDone xs ys zs) ≡ sorted le (d - 1) (take (half xs) xs) =
-          ap (take (half xs)) (both-is zs) ∙ take-at ys zs (half xs) size ∙ one in
+      ap (take (half xs)) (both-is zs) ∙ take-at ys zs (half xs) size ∙ one in
       let right : drop (half xs) (bothDone xs ys zs) ≡ sorted le (d - 1) (drop (half xs) xs) =
-          ap (drop (half xs)) (both-is zs) ∙ drop-at ys zs (half xs) size ∙ two ∙ ap (sorted le (d - 1)) other-is in
+      ap (drop (half xs)) (both-is zs) ∙ drop-at ys zs (half xs) size ∙ two ∙ ap (sorted le (d - 1)) other-is in
       f ∙ e ∙ ap₂ (merged le) left right ∙ sort-halves le d xs halved

@@ -1,6 +1,5 @@
 -- `lookup::order::name` meets its contract. Assumes nothing.
 use borrow.Author.Needs.{needs}
-use native.Mathlib.Omega.{arith}
 use mathlib.Core.Path.{_∙_}
 use Rattle.lookup.proofs.rows.RowNumbers.{name-by}
 use Rattle.lookup.proofs.orderly.RowsCompared.{name-past}
