@@ -6,8 +6,8 @@ pub mod bytes
 pub mod rows
 -- the definitions in the order of their names: what the order, merging and sorting settle, and the search
 pub mod sorting
--- the turns of the loops that compare, gather, merge and sort
-pub mod orderly
+-- the loops that compare, gather, merge and sort, a turn at a time
+pub mod loops
 -- the chains of the index, and its two forms
 pub mod links
 -- the proof of specs/Worked.antt: published hashes, and names in a file

@@ -7,7 +7,7 @@ use borrow.Fn.Kinds.{In}
 use borrow.Fn.PlainCycle.{Measures, is, falls, and}
 use Rattle.row.specs.Numbers.{rowsOf}
 use Rattle.lookup.specs.Order.{comes}
-use Rattle.lookup.proofs.orderly.SortWays.{sort-stays, sort-deep, half-size, one-length, other-size, both-length, sort-whole}
+use Rattle.lookup.proofs.loops.SortWays.{sort-stays, sort-deep, half-size, one-length, other-size, both-length, sort-whole}
 use Rattle.lookup.proofs.order.sort.Reads as sort
 use Rattle.lookup.proofs.order.sort.Kinds as sort-kinds
 use Rattle.lookup.proofs.order.+sort.Lts-sort as sort-lts

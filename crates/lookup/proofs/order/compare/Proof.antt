@@ -5,7 +5,7 @@ use Prim.Native.Nat.{_-_}
 use mathlib.Core.Path.{_≡_, refl, sym, _∙_}
 use lib.ListN.{length, drop}
 use Rattle.lookup.specs.Order.{orderOf}
-use Rattle.lookup.proofs.orderly.CompareTurns.{order-on, order-less, order-greater, order-longer, order-shorter, order-end}
+use Rattle.lookup.proofs.loops.CompareTurns.{order-on, order-less, order-greater, order-longer, order-shorter, order-end}
 use Rattle.lookup.proofs.order.compare.Statement.{statement}
 use Rattle.lookup.proofs.order.compare.Tie as tie
 

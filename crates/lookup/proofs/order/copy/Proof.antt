@@ -4,7 +4,7 @@ use native.Mathlib.Omega.{arith}
 use Prim.Native.Nat.{_-_, _≤_}
 use mathlib.Core.Path.{_≡_, refl}
 use lib.ListN.{length, take}
-use Rattle.lookup.proofs.orderly.CopyTurns.{copy-on, copied}
+use Rattle.lookup.proofs.loops.CopyTurns.{copy-on, copied}
 use Rattle.lookup.proofs.order.copy.Statement.{statement}
 use Rattle.lookup.proofs.order.copy.Tie as tie
 

@@ -5,7 +5,7 @@ use mathlib.Core.Bool.{false≢true}
 use Prim.Native.Nat.{_/_}
 use lib.ListN.{length}
 use Rattle.lookup.proofs.links.RowBuckets.{room}
-use Rattle.lookup.proofs.orderly.FillWays.{gathered-size, gathered-inside, gathered-most, filled}
+use Rattle.lookup.proofs.loops.FillWays.{gathered-size, gathered-inside, gathered-most, filled}
 use Rattle.lookup.proofs.order.fill.Statement.{statement}
 use Rattle.lookup.proofs.order.fill.Tie as tie
 

@@ -5,7 +5,7 @@ use Prim.Native.Nat.{_-_, _/_}
 use mathlib.Core.Path.{refl}
 use mathlib.Core.Logic.{⊎-elim}
 use lib.ListN.{length}
-use Rattle.lookup.proofs.orderly.GatherTurns.{Going, gather-none, going-in, going-not, going-ends}
+use Rattle.lookup.proofs.loops.GatherTurns.{Going, gather-none, going-in, going-not, going-ends}
 use Rattle.lookup.proofs.order.gather.Statement.{statement}
 use Rattle.lookup.proofs.order.gather.Tie as tie
 

@@ -6,7 +6,7 @@ use mathlib.Core.Path.{refl, sym, _∙_}
 use lib.ListN.{length}
 use Rattle.row.specs.Numbers.{rowsOf}
 use Rattle.lookup.specs.Order.{comes}
-use Rattle.lookup.proofs.orderly.MergeTurns.{Going, left-inside, right-inside, going-left, going-right, going-ends}
+use Rattle.lookup.proofs.loops.MergeTurns.{Going, left-inside, right-inside, going-left, going-right, going-ends}
 use Rattle.lookup.proofs.order.merge.Statement.{statement}
 use Rattle.lookup.proofs.order.merge.Tie as tie
 

@@ -5,7 +5,7 @@ use mathlib.Core.Path.{sym}
 use lib.Seq.{length-take-le}
 use Rattle.row.specs.Numbers.{rowsOf}
 use Rattle.lookup.specs.Order.{comes}
-use Rattle.lookup.proofs.orderly.MergeTurns.{halves-length, halves-merged}
+use Rattle.lookup.proofs.loops.MergeTurns.{halves-length, halves-merged}
 use Rattle.lookup.proofs.order.merge_halves.Statement.{statement}
 use Rattle.lookup.proofs.order.merge_halves.Tie as tie
 

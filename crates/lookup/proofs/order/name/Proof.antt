@@ -2,7 +2,7 @@
 use borrow.Author.Needs.{needs}
 use mathlib.Core.Path.{_∙_}
 use Rattle.lookup.proofs.rows.RowNumbers.{name-by}
-use Rattle.lookup.proofs.orderly.RowsCompared.{name-past}
+use Rattle.lookup.proofs.loops.RowsCompared.{name-past}
 use Rattle.lookup.proofs.order.name.Statement.{statement}
 use Rattle.lookup.proofs.order.name.Tie as tie
 

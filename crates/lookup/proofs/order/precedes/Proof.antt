@@ -3,7 +3,7 @@ use borrow.Author.Needs.{needs}
 use mathlib.Core.Path.{sym, _∙_}
 use Rattle.row.specs.Numbers.{rowsOf}
 use Rattle.lookup.specs.declared.order.Order.the-variants as order
-use Rattle.lookup.proofs.orderly.RowsCompared.{comes-by}
+use Rattle.lookup.proofs.loops.RowsCompared.{comes-by}
 use Rattle.lookup.proofs.order.precedes.Statement.{statement}
 use Rattle.lookup.proofs.order.precedes.Tie as tie
 

@@ -3,7 +3,7 @@ use borrow.Author.Needs.{needs}
 use mathlib.Core.Path.{sym, ap₂, _∙_}
 use Rattle.row.specs.Numbers.{rowsOf}
 use Rattle.lookup.specs.Order.{comes}
-use Rattle.lookup.proofs.orderly.MergeTurns.{first-left, first-right, first-both}
+use Rattle.lookup.proofs.loops.MergeTurns.{first-left, first-right, first-both}
 use Rattle.lookup.proofs.order.takes_left.Statement.{statement}
 use Rattle.lookup.proofs.order.takes_left.Tie as tie
 

@@ -9,8 +9,9 @@ use mathlib.Core.List.{List, _++_}
 use lib.ListN.{length, take, drop, set, length-take}
 use lib.Seq.{getD-set-same, take-at}
 use Rattle.row.specs.Numbers.{rowsOf}
+use Rattle.row.proofs.Laid.{laid}
 use Rattle.lookup.specs.Order.{comes, sorted, definitions, inOrder, Ordered}
-use Rattle.lookup.proofs.orderly.GatherTurns.{definitions-most}
+use Rattle.lookup.proofs.sorting.Definitions.{definitions-length}
 
 module _ (rows next : List ℕ) (m : ℕ) (count : m ≡ length (definitions (rowsOf rows))) (first : take m next ≡ definitions (rowsOf rows)) where
   pub gathered-size : m ≡ length (take m next)
@@ -20,7 +21,7 @@ module _ (rows next : List ℕ) (m : ℕ) (count : m ≡ length (definitions (ro
   gathered-inside = omega (arith, gathered-size, length-take m next)
 
   pub gathered-most : m ≤ length rows / 4
-  gathered-most = omega (arith, count, definitions-most rows)
+  gathered-most = omega (arith, count, definitions-length (rowsOf rows), laid .rows-length rows)
 
   pub filled : (file heads ys : List ℕ) → 0 < length heads → ys ≡ sorted (comes file (rowsOf rows)) 32 (take m next) → length ys ≡ length (take m next) →
       Ordered file rows (set heads 0 (length rows / 4 + 1 + m)) (ys ++ drop m next)

@@ -2,13 +2,12 @@
 --     Going, gather-none       where it stands; at first
 --     going-in, going-not      row i is a definition; it is none
 --     going-ends               behind the last row all are gathered
---     definitions-most         there are no more than rows
 -- Assumes nothing.
-use Prim.Native.Nat.{ℕ, zero, suc, _+_, _-_, _*_, _/_, _≤_, _<_}
+use Prim.Native.Nat.{ℕ, suc, _+_, _-_, _*_, _/_, _≤_, _<_}
 use native.Mathlib.Numerals.{add-one}
 use native.Mathlib.Omega.{arith}
 use mathlib.Core.Path.{_≡_, sym, ap, _∙_}
-use mathlib.Core.Bool.{Bool, true, false, cond}
+use mathlib.Core.Bool.{Bool, true, false}
 use mathlib.Core.List.{List, [], _∷_, _++_, append-nil}
 use lib.ListN.{length, getD, take, set, length-set}
 use lib.Seq.{take-suc-set, append-snoc, length-take-le}
@@ -20,15 +19,6 @@ use Rattle.lookup.specs.Order.{isDefinition, definitions}
 use Rattle.lookup.proofs.rows.RowNumbers.{kind-by}
 
 module _ (p : ℕ → Bool) where
-  rising-most : (k i : ℕ) → length (rising p k i) ≤ k
-  unfolding rising
-  rising-most zero i = omega arith
-  rising-most (suc k) i = by (p i) (rising-most k (suc i))
-    where
-      by : (t : Bool) → length (rising p k (suc i)) ≤ k → length (cond t (i ∷ rising p k (suc i)) (rising p k (suc i))) ≤ suc k
-      by true h = omega arith
-      by false h = omega arith
-
   rising-in : (n i : ℕ) → i < n → p i ≡ true → rising p (n - i) i ≡ i ∷ rising p (n - (i + 1)) (i + 1)
   unfolding rising
   rising-in n i h e = let z : n - i ≡ suc (n - suc i) = omega arith in rw (z, e, add-one i)
@@ -90,7 +80,3 @@ module _ (rows old next : List ℕ) (m i : ℕ) (room : length rows / 4 ≤ leng
 
   pub going-ends : length rows / 4 ≤ i → (m ≡ length (definitions (rowsOf rows))) × (take m next ≡ definitions (rowsOf rows))
   going-ends h = (gather-count rows next m i (g .3) h (omega (arith, g .0, g .1, g .2)), gather-ends rows next m i (g .3) h)
-
-pub definitions-most : (rows : List ℕ) → length (definitions (rowsOf rows)) ≤ length rows / 4
-unfolding definitions
-definitions-most rows = omega (arith, rising-most (isDefinition (rowsOf rows)) (length (rowsOf rows)) 0, laid .rows-length rows)
