@@ -4,7 +4,11 @@
 pub mod bytes
 -- rows by their numbers, and the last definition of a name
 pub mod rows
--- the index
+-- the definitions in the order of their names: what the order, merging and sorting settle, and the search
+pub mod sorting
+-- the loops that compare, gather, merge and sort, a turn at a time
+pub mod loops
+-- the chains of the index, and its two forms
 pub mod links
 -- the proof of specs/Worked.antt: published hashes, and names in a file
 pub mod Worked

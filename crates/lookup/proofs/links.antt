@@ -1,4 +1,4 @@
--- The index.
+-- The chains of the index, and its two forms.
 
 -- the first number that passes a test
 pub mod First
@@ -10,3 +10,5 @@ pub mod RowBuckets
 pub mod FollowWays
 -- the rows' index made from the last row to the first: `link` and `build`
 pub mod LinkWays
+-- the two forms of the index told apart: `find_name`
+pub mod TwoForms

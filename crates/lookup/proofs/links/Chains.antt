@@ -2,7 +2,7 @@
 --     link-none, link-in, link-out                 the index of nothing; one thing more in front; a thing that is in no bucket
 --     chain-rises                                  a bucket's chain is its things, from the first to the last
 --     Going, going-starts, going-on, going-ends    a search along a chain: it passes nothing that it seeks
---     left, going-less                             how far the search can still go
+--     left, left-most, going-less                  how far the search can still go
 -- Assumes nothing.
 use Prim.Native.Nat.{ℕ, zero, suc, _+_, _-_, _≤_, _<_}
 use native.Mathlib.Omega.{arith}
@@ -113,6 +113,13 @@ going-ends h q n from at k g j u v w x =
 
 abbrev pub left : ℕ → ℕ → ℕ
 left n at = cond (ltb 0 at) (suc n - at) 0
+
+pub left-most : (n at : ℕ) → left n at ≤ n
+left-most n at = by (ltb 0 at) refl
+  where
+    by : (t : Bool) → ltb 0 at ≡ t → cond t (suc n - at) 0 ≤ n
+    by true t = omega (arith, ltb-true 0 at t)
+    by false t = omega arith
 
 pub going-less : (n at after : ℕ) → 0 < at → at ≤ n → (0 < after → at < after) → left n after < left n at
 going-less n at after h m f = rw (lt-ltb 0 at h) (by (ltb 0 after) refl)

@@ -1,19 +1,23 @@
 -- The search along a chain of the rows' index: the ways through `follow`.
 --     Going                                        where it stands
 --     follow-starts, follow-hit, follow-on, follow-ends    it starts; finds the row; goes on; ends without a row
+--     follows-row, follows-none, follows-long              what it came to, told by the answer
 -- Assumes nothing.
 use Prim.Native.Nat.{ℕ, suc, _/_, _%_, _≤_, _<_}
 use native.Mathlib.Omega.{arith}
-use mathlib.Core.Path.{_≡_, sym}
+use mathlib.Core.Path.{_≡_, sym, subst}
 use mathlib.Core.Bool.{Bool, true, false}
 use mathlib.Core.List.{List}
 use lib.ListN.{length, getD}
 use Rattle.row.specs.Numbers.{rowsOf}
 use Rattle.row.proofs.Laid.{laid}
+use Rattle.lookup.specs.declared.plain.Found.{Found}
 use Rattle.lookup.specs.declared.plain.Found.the-variants as found
+use Rattle.lookup.specs.declared.index.Followed.{Followed}
+use Rattle.lookup.specs.declared.index.Followed.the-variants as followed
 use Rattle.lookup.specs.Fnv.{hashOf}
 use Rattle.lookup.specs.Names.{isNamed, rowNo}
-use Rattle.lookup.specs.RowIndex.{rowIn, IndexedFrom, lastFrom}
+use Rattle.lookup.specs.RowIndex.{rowIn, IndexedFrom, Follows, lastFrom}
 use Rattle.lookup.proofs.rows.LastDefinition.{Says, from-is, from-none}
 use Rattle.lookup.proofs.links.Chains as chains
 use Rattle.lookup.proofs.links.Chains.{left, going-less, going-ends}
@@ -54,3 +58,13 @@ module _ (file name rows heads next : List ℕ) (from b : ℕ) (x : IndexedFrom 
             let r : RowIn file (rowsOf rows) (length heads) b i = record { kind = n .0; last = rw (n .1) (s .behind); bucket = rw (n .1) (sym e) } in
             going-ends (hits file name rows) (rowIn file (rowsOf rows) (length heads) b) (length rows / 4) from at k g i m
             (omega (arith, s .below, laid .rows-length rows)) (row-in file (rowsOf rows) (length heads) i b r) (s .named)
+
+module _ (f : Found) (n most : ℕ) {r : Followed} (x : Follows f n most r) where
+  pub follows-row : (i : ℕ) → r ≡ followed.Row i → found.Row i ≡ f
+  follows-row i e = subst (Follows f n most) e x
+
+  pub follows-none : r ≡ followed.Nothing → found.Nothing ≡ f
+  follows-none e = subst (Follows f n most) e x
+
+  pub follows-long : r ≡ followed.TooLong → most ≤ n
+  follows-long e = subst (Follows f n most) e x

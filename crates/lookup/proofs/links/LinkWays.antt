@@ -1,26 +1,25 @@
 -- The index of rows, made from the last row to the first: the ways through `link`, and the ends of `build`.
 --     link-not, link-later, link-new    a row that is no definition; one whose name a later row defines; one that counts
---     link-others                       no other row's number is written
+--     links-made, links-long            the chains were made; one is too long
 --     index-none, index-at              the index of no rows; the same index with its first row's number written in another way
 -- Assumes nothing.
-use Prim.Native.Nat.{ℕ, suc, _+_, _-_, _*_, _/_, _%_, _<_}
+use Prim.Native.Nat.{ℕ, suc, _+_, _-_, _*_, _/_, _%_, _≤_, _<_}
 use native.Mathlib.Numerals.{add-one}
 use native.Mathlib.Omega.{arith}
 use mathlib.Core.Path.{_≡_, sym, ap, _∙_}
 use mathlib.Core.Bool.{true, false, true≢false}
 use mathlib.Core.List.{List}
 use lib.ListN.{length, getD, set, replicate, length-set, length-replicate}
-use lib.Seq.{getD-set-other}
 use Rattle.row.specs.Numbers.{rowsOf}
 use Rattle.lookup.specs.declared.plain.Found.the-variants as found
 use Rattle.lookup.specs.Fnv.{hashOf}
 use Rattle.lookup.specs.Names.{nameOf, rowNo}
 use Rattle.lookup.specs.Buckets.{Linked}
-use Rattle.lookup.specs.RowIndex.{rowIn, fits, IndexedFrom, Others, lastFrom}
+use Rattle.lookup.specs.RowIndex.{rowIn, fits, IndexedFrom, Links, lastFrom}
 use Rattle.lookup.proofs.rows.RowNumbers.{kind-by}
 use Rattle.lookup.proofs.rows.LastDefinition.{from-nothing, from-row}
 use Rattle.lookup.proofs.links.Chains.{link-none, link-in, link-out}
-use Rattle.lookup.proofs.links.RowBuckets.{room, RowIn, row-in, row-counts, row-alone, row-out, row-shadowed}
+use Rattle.lookup.proofs.links.RowBuckets.{room, RowIn, row-in, row-alone, row-out, row-shadowed}
 
 module _ (file rows : List ℕ) (i : ℕ) (heads next : List ℕ) (x : IndexedFrom file rows (i + 1) heads next) where
   below : i < length rows / 4
@@ -61,11 +60,12 @@ module _ (file rows : List ℕ) (i : ℕ) (heads next : List ℕ) (x : IndexedFr
                 (link-in (rowIn file rs m) (length rows / 4) i below heads next after b h (omega (arith, below)) (row-in file rs m i b new-row) (row-alone file rs m i b new-row));
           }
 
-      -- no other row's number is written
-      pub link-others : (v : ℕ) → Others file (rowsOf rows) next (set next i v)
-      link-others v j e =
-          let u = row-counts file (rowsOf rows) (length heads) i b new-row in
-          getD-set-other next i j v 0 (λ z. true≢false (sym u ∙ (rw z at e)))
+-- the chains were made, or one is too long
+pub links-made : (file rows : List ℕ) (i most : ℕ) (heads next : List ℕ) → IndexedFrom file rows i heads next → Links file rows i most true heads next
+links-made file rows i most heads next x = record { made = λ e. x; long = λ e. absurd (true≢false e) }
+
+pub links-long : (file rows : List ℕ) (i most : ℕ) (heads next : List ℕ) → most ≤ length rows / 4 → Links file rows i most false heads next
+links-long file rows i most heads next h = record { made = λ e. absurd (true≢false (sym e)); long = λ e. h }
 
 pub index-none : (file rows old heads next : List ℕ) → fits (length rows / 4) (length old) (length next) ≡ true → heads ≡ replicate (length old) 0 →
     IndexedFrom file rows (length rows / 4) heads next

@@ -27,13 +27,13 @@ use Rattle.lookup.proofs.bytes.Compared.{same-true, same-self}
 pub record Room (n heads next : ℕ) : Type 0 where
   pub some : 0 < heads
   pub each : n ≤ next
-  pub small : n ≤ 4294967295
+  pub small : n ≤ 2147483647
 
 pub room : (n heads next : ℕ) → fits n heads next ≡ true → Room n heads next
 room n heads next e =
-    let p = both-true (ltb 0 heads && leb n next) (leb n 4294967295) e in
+    let p = both-true (ltb 0 heads && leb n next) (leb n 2147483647) e in
     let q = both-true (ltb 0 heads) (leb n next) (p .0) in
-    record { some = ltb-true 0 heads (q .0); each = leb-true n next (q .1); small = leb-true n 4294967295 (p .1) }
+    record { some = ltb-true 0 heads (q .0); each = leb-true n next (q .1); small = leb-true n 2147483647 (p .1) }
 
 -- ---- which bucket
 
