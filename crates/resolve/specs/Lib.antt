@@ -9,4 +9,3 @@ pub mod OwnRows
 pub mod EnoughText
 pub mod Progress
 pub mod Uses
-pub mod Worked

@@ -30,7 +30,7 @@ use Rattle.salvage.specs.Salvage.{head, cut, pieces, salvageOf}
 use Rattle.pack.specs.Digits.{digits}
 use Rattle.pack.specs.Seven.{packing, every}
 use Rattle.pack.specs.Pack.{isPackable}
-use Rattle.bib.specs.EdgeTable.{table, EdgeTable}
+use Rattle.cases.specs.EdgeTable.{table, EdgeTable}
 
 pub edge-table : EdgeTable
 unfolding

@@ -1,6 +1,6 @@
--- Cases of resolving besides those of the edge table, which stand in `bib`. Each is a value of one literal at place 0.
---     table, Worked       the proof of `Worked` is `worked` of proofs/Worked.antt
---     Deep                arguments at the limit of 64
+-- Cases of resolving besides those of the edge table. Each is a value of one literal at place 0.
+--     table, LiteralCases   the proof of `LiteralCases` is `literal-cases` of proofs/LiteralCases.antt
+--     Deep                  arguments at the limit of 64
 -- Assumes nothing.
 use Prim.Native.Nat.{ℕ, zero, suc}
 use Prim.Native.String.{String}
@@ -86,8 +86,8 @@ table =
     verbatim "\\emph{x}" gives chunks (Normal of "\\emph" from 0 to 5 ∷ Verbatim of "x" from 6 to 7 ∷ []) ∷
     []
 
-abbrev pub Worked : Type 0
-Worked = map (λ c. outcomeOf (resolveLiteral (c .verb) (utf8 (c .text)) 0)) table ≡ map (λ c. c .outcome) table
+abbrev pub LiteralCases : Type 0
+LiteralCases = map (λ c. outcomeOf (resolveLiteral (c .verb) (utf8 (c .text)) 0)) table ≡ map (λ c. c .outcome) table
 
 -- ---- arguments at the limit: \P{ so many times, and as many closing braces. The name P writes U+00B6 and drops its argument
 

@@ -1,4 +1,4 @@
--- The cases of specs/Worked.antt compute: `worked`, `deep`.
+-- The cases of specs/FieldCases.antt compute: `field-cases`, `deep`.
 -- Assumes nothing.
 use mathlib.Core.Path.{refl}
 use Rattle.text.specs.Walk.{walkFrom}
@@ -14,17 +14,17 @@ use Rattle.text.specs.Strings.{utf8}
 use Rattle.lookup.specs.Names.{sameBytes, isNamed, later, lastNamed}
 use Rattle.literal.specs.Content.{steps, endTurn, braced, closing, contentTurn, contentBy, inside, flattenFrom}
 use Rattle.literal.specs.Literal.{resolveLiteral}
 use Rattle.resolve.specs.Resolves.{checkedFile}
 use Rattle.resolve.specs.Field.{elements, walk, monthOf, onPath, name}
 use Rattle.resolve.specs.Checks.{everySpan, isValue, everyMonth, areMonths, areLent}
-use Rattle.resolve.specs.Worked.{table, Worked, chain, Deep}
+use Rattle.cases.specs.FieldCases.{table, FieldCases, chain, Deep}
 
-pub worked : Worked
+pub field-cases : FieldCases
 unfolding walkFrom alternatives begins widthBy gather value octets lookValid validityOf isBoundary whiteSpace control isWhitespace isControl
     isIdContinue holdsOf scan.code scan.rest seeFrom lookPast skip flat next run isRows rowsOf areRows loop many flattenFrom utf8 sameBytes isNamed
     later lastNamed steps endTurn braced closing contentTurn contentBy inside resolveLiteral checkedFile elements walk monthOf onPath name everySpan
     isValue everyMonth areMonths areLent table
-worked = refl
+field-cases = refl
 
 pub deep : Deep
 unfolding walkFrom alternatives begins widthBy gather value octets lookValid validityOf isBoundary whiteSpace control isWhitespace isControl

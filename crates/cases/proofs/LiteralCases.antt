@@ -1,4 +1,4 @@
--- The cases of specs/Worked.antt compute: `worked`, `deep`.
+-- The cases of specs/LiteralCases.antt compute: `literal-cases`, `deep`.
 -- Assumes nothing.
 use mathlib.Core.Path.{refl}
 use Rattle.text.specs.Walk.{walkFrom}
@@ -13,17 +13,17 @@ use Rattle.compose.specs.Composites.{composites}
 use Rattle.compose.specs.Lookup.{lookup}
 use Rattle.command.specs.Commands.{isSingleCharFunc, commands, same, meaningIn}
 use Rattle.command.specs.Execute.{dotted, bare, executeCommand}
 use Rattle.literal.specs.Content.{steps, endTurn, argumentEnd, braced, withName, command, backslash, maths, closing, hyphens}
 use Rattle.literal.specs.Content.{contentTurn, contentBy, inside, flattenFrom}
 use Rattle.literal.specs.Literal.{resolveLiteral}
-use Rattle.literal.specs.Worked.{table, Worked, opened, closers, Deep}
+use Rattle.cases.specs.LiteralCases.{table, LiteralCases, opened, closers, Deep}
 
-pub worked : Worked
+pub literal-cases : LiteralCases
 unfolding walkFrom alternatives begins widthBy gather value octets whiteSpace control isWhitespace isControl isIdContinue holdsOf scan.code
     scan.rest seeFrom lookPast skip composites lookup loop many lastFrom lines formatFrom isEscapable flattenFrom utf8 isSingleCharFunc commands
     same meaningIn dotted bare executeCommand steps endTurn argumentEnd braced withName command backslash maths closing hyphens contentTurn
     contentBy inside resolveLiteral table
-worked = refl
+literal-cases = refl
 
 pub deep : Deep
 unfolding walkFrom alternatives begins widthBy gather value octets whiteSpace control isWhitespace isControl isIdContinue holdsOf scan.code

@@ -1,6 +1,6 @@
 -- Fields resolved with their names and month words [01:Resolving and writing], with the rows of a file as reading gives them.
---     table, Worked       the proof of `Worked` is `worked` of proofs/Worked.antt
---     Deep                names at the limit of 32
+--     table, FieldCases     the proof of `FieldCases` is `field-cases` of proofs/FieldCases.antt
+--     Deep                  names at the limit of 32
 -- Assumes nothing.
 use Prim.Native.Nat.{ℕ, zero, suc}
 use Prim.Native.String.{String}
@@ -14,9 +14,9 @@ use Rattle.row.specs.Fault.{numberOf}
 use Rattle.chunk.specs.declared.form.Kind.the-variants.{Normal, Verbatim}
 use Rattle.chunk.specs.Chunk.{Chunk}
 use Rattle.text.specs.Strings.{utf8}
-use Rattle.literal.specs.Worked.{_of_from_to_}
+use Rattle.cases.specs.LiteralCases.{_of_from_to_}
 use Rattle.resolve.specs.Resolves as resolves
 use Rattle.resolve.specs.OneField.{valueAt}
 
 -- chunks and the number of names resolved, or 01's number and a place
 pub data Outcome : Type 0 where
@@ -123,8 +123,8 @@ table =
 abbrev pub comesTo : Case → Outcome
 comesTo c = outcomeOf (valueAt (utf8 (c .file)) (flat (c .rows)) (c .which) false (c .words .numbers) (utf8 (c .words .bytes)) (c .scratch))
 
-abbrev pub Worked : Type 0
-Worked = map comesTo table ≡ map (λ c. c .outcome) table
+abbrev pub FieldCases : Type 0
+FieldCases = map comesTo table ≡ map (λ c. c .outcome) table
 
 -- ---- names at the limit: n definitions from place k on, each of one letter, whose value is the next letter's name; and `last` behind them
 
