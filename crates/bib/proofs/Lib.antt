@@ -6,7 +6,5 @@ pub mod Exports
 pub mod Packs
 -- the proof of specs/EnoughRoom.antt: a row for each byte, and one more, is always enough
 pub mod EnoughRoom
--- the proof of specs/EdgeTable.antt: 01's sixteen lines together
-pub mod EdgeTable
 -- any two outcomes that an exported contract allows are the same
 pub mod Unique

@@ -1,4 +1,3 @@
 pub mod Export
 pub mod Packs
 pub mod EnoughRoom
-pub mod EdgeTable

@@ -6,5 +6,3 @@ pub mod ways
 pub mod WellFormedFields
 -- any two outcomes that a public contract allows are the same
 pub mod Unique
--- fields with their names and month words, computed
-pub mod Worked

@@ -1,3 +1,2 @@
 pub mod OneField
 pub mod WellFormedFields
-pub mod Worked

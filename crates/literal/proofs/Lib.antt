@@ -10,5 +10,3 @@ pub mod Joining
 pub mod Flattening
 -- the proof of specs/WellFormed.antt: what a literal is resolved into is well-formed
 pub mod WellFormed
--- the cases of specs/Worked.antt compute
-pub mod Worked

@@ -3,4 +3,3 @@ pub mod Rows
 pub mod Flattening
 pub mod WellFormed
 pub mod Inner
-pub mod Worked

@@ -1,0 +1,34 @@
+-- The cases of specs/FieldCases.antt compute: `field-cases`, `deep`.
+-- Assumes nothing.
+use mathlib.Core.Path.{refl}
+use Rattle.text.specs.Walk.{walkFrom}
+use Rattle.text.specs.Utf8.{alternatives, begins, widthBy, gather, value, octets, lookValid, validityOf, isBoundary}
+use Rattle.text.specs.Class.{whiteSpace, control, isWhitespace, isControl, isIdContinue, holdsOf}
+use Rattle.text.specs.Scan.{seeFrom, lookPast, skip}
+use Rattle.text.specs.Scan as scan
+use Rattle.row.specs.Row.{flat}
+use Rattle.row.specs.Rules.{next, run, isRows}
+use Rattle.row.specs.Numbers.{rowsOf, areRows}
+use Rattle.raw.specs.Reader.{loop, many}
+use Rattle.text.specs.Strings.{utf8}
+use Rattle.lookup.specs.Names.{sameBytes, isNamed, later, lastNamed}
+use Rattle.turn.specs.Content.{steps, endTurn, braced, closing, contentTurn, contentBy, inside, flattenFrom}
+use Rattle.literal.specs.Literal.{resolveLiteral}
+use Rattle.resolve.specs.Resolves.{checkedFile}
+use Rattle.value.specs.Field.{elements, walk, monthOf, onPath, name}
+use Rattle.resolve.specs.Checks.{everySpan, isValue, everyMonth, areMonths, areLent}
+use Rattle.cases.specs.FieldCases.{table, FieldCases, chain, Deep}
+
+pub field-cases : FieldCases
+unfolding walkFrom alternatives begins widthBy gather value octets lookValid validityOf isBoundary whiteSpace control isWhitespace isControl
+    isIdContinue holdsOf scan.code scan.rest seeFrom lookPast skip flat next run isRows rowsOf areRows loop many flattenFrom utf8 sameBytes isNamed
+    later lastNamed steps endTurn braced closing contentTurn contentBy inside resolveLiteral checkedFile elements walk monthOf onPath name everySpan
+    isValue everyMonth areMonths areLent table
+field-cases = refl
+
+pub deep : Deep
+unfolding walkFrom alternatives begins widthBy gather value octets lookValid validityOf isBoundary whiteSpace control isWhitespace isControl
+    isIdContinue holdsOf scan.code scan.rest seeFrom lookPast skip flat next run isRows rowsOf areRows loop many flattenFrom utf8 sameBytes isNamed
+    later lastNamed steps endTurn braced closing contentTurn contentBy inside resolveLiteral checkedFile elements walk monthOf onPath name everySpan
+    isValue everyMonth areMonths areLent chain
+deep = record { thirty-two = refl; thirty-three = refl; unknown = refl }

@@ -1,0 +1,3 @@
+pub mod EdgeTable
+pub mod LiteralCases
+pub mod FieldCases
