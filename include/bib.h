@@ -232,9 +232,10 @@ uint32_t bib_resolve_field(const uint8_t *file, size_t file_len,
  * have no more bytes than the file. The answer is the same with any room that is enough.
  *
  * heads and next are for the index of the names: heads may have any length, and BIB_GOOD_HEADS of the
- * number of rows is a good one; next has a number for each row. With fewer the answer is the same, and
- * names are found by searching all rows, which is slow where there are many. Both hold zeros after
- * every call, as scratch does.
+ * number of rows is a good one; next has a number for each row. With fewer the answer is the same, but
+ * names are found slowly where there are many: with fewer numbers in next, by searching all rows; with
+ * fewer in heads than there are definitions, where many names fall together. Both hold zeros after every
+ * call, as scratch does.
  *
  * Refuses with 1 a file that is too long; then with 2; then with 17 rows or months as in
  * bib_resolve_field, or fewer flags than value rows; then with 16 if scratch has fewer than
