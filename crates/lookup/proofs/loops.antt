@@ -14,3 +14,5 @@ pub mod SortWays
 pub mod GatherTurns
 -- the definitions gathered and put in order, with the mark
 pub mod FillWays
+-- the search among the definitions in order: one turn of the loop, and what it ends in
+pub mod SearchTurns

@@ -5,7 +5,9 @@ use Rattle.bib.proofs.bib_resolve_field.Statement.{statement}
 use Rattle.bib.proofs.bib_resolve_field.Tie as tie
 
 returns : tie.Need-returns
-returns c = exported-resolving (c .before .before .before .before .before .before .before .before .before .before .before .before .resolve-field .ensures) (c .tell-resolving .ensures)
+returns c =
+    let resolved = c .before .before .before .before .before .before .before .before .before .before .before .before in
+    exported-resolving (resolved .resolve-field .ensures) (c .tell-resolving .ensures)
 
 pub bib-resolve-field-spec : {M : Type 1} → statement M
 bib-resolve-field-spec =

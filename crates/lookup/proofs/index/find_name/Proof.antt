@@ -69,7 +69,8 @@ returns-3 c =
     let a = followed .before .before .before .before .before .before .before .before .before .before .before .before .args in
     let rs = rowsOf (a .rows .now) in
     let last = lastFrom (a .file .now) (a .name .now) rs 0 in
-    follows-row last (length (a .rows .now) / 4) (length (a .rows .now) / 4 + 1) (followed .follow .ensures) _ (c .before .i .given .1) ∙ from-first (a .file .now) (a .name .now) rs
+    let n = length (a .rows .now) / 4 in
+    follows-row last n (n + 1) (followed .follow .ensures) _ (c .before .i .given .1) ∙ from-first (a .file .now) (a .name .now) rs
 
 returns-4 : tie.Need-returns-4
 returns-4 c =
@@ -77,7 +78,8 @@ returns-4 c =
     let a = followed .before .before .before .before .before .before .before .before .before .before .before .before .args in
     let rs = rowsOf (a .rows .now) in
     let last = lastFrom (a .file .now) (a .name .now) rs 0 in
-    follows-none last (length (a .rows .now) / 4) (length (a .rows .now) / 4 + 1) (followed .follow .ensures) (c .enum-told .given .1) ∙ from-first (a .file .now) (a .name .now) rs
+    let n = length (a .rows .now) / 4 in
+    follows-none last n (n + 1) (followed .follow .ensures) (c .enum-told .given .1) ∙ from-first (a .file .now) (a .name .now) rs
 
 -- no chain has more rows than the file
 returns-5 : tie.Need-returns-5

@@ -153,7 +153,8 @@ module _ (t : ℕ) where
       let le = comes (a .file .now) (rowsOf (a .rows .now)) in
       let one = first .sort in
       let two = second .sort2 in
-      sort-whole (a .a .now) (one .last .1 .1 .0) (one .kept .1 .1 .0) le (a .depth) (two .last .1 .1 .0) _ _ (asked .if1 .left) (one .ensures) (two .ensures) (merged .merge-halves .ensures)
+      sort-whole (a .a .now) (one .last .1 .1 .0) (one .kept .1 .1 .0) le (a .depth) (two .last .1 .1 .0) _ _ (asked .if1 .left) (one .ensures)
+      (two .ensures) (merged .merge-halves .ensures)
       (copied .copy .ensures)
 
 pub +sort-spec : {M : Type 1} → statement M

@@ -28,7 +28,8 @@ returns c =
     let loop = c .before .before .loop in
     let s = c .before .before .before .before .args .s .now in
     let eat = c .before .eat-until in
-    (end-off (loop .depth) s (loop .i) (eat .result) (eat .ensures .0) (c .if1 .taken) ∙ sym (loop .inv .3), (omega (arith, eat .ensures .1 .to, loop .inv .1), omega (arith, eat .ensures .1 .to, loop .inv .1)))
+    let off = end-off (loop .depth) s (loop .i) (eat .result) (eat .ensures .0) (c .if1 .taken) in
+    (off ∙ sym (loop .inv .3), (omega (arith, eat .ensures .1 .to, loop .inv .1), omega (arith, eat .ensures .1 .to, loop .inv .1)))
 
 loop-again : tie.Need-loop-again Inv-loop μ-loop
 loop-again c =

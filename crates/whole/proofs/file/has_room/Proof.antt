@@ -26,7 +26,8 @@ count-requires c κs =
 returns-2 : tie.Need-returns-2
 returns-2 c =
     let counted = c .before .before .before in
-    let a = counted .before .before .before .before .before .before .before .before .before .before .before .before .before .before .before .before .before .before .before .before .before .args in
+    let lent = counted .before .before .before .before .before .before .before .before .before .before in
+    let a = lent .before .before .before .before .before .before .before .before .before .before .before .args in
     let vs = results (lentOf (a .file .now) (a .rows .now) (a .months .now) (a .words .now)) (a .flags .now) in
     c .fits3 .ensures .0 vs (counted .count .ensures .0)
 

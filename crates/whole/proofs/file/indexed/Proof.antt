@@ -26,7 +26,8 @@ returns : tie.Need-returns
 returns c =
     let asked = c .before .before .before in
     let f = asked .has-room in
-    let a = asked .before .before .before .before .before .before .before .before .before .before .before .before .before .before .before .before .before .before .before .before .args in
+    let lent = asked .before .before .before .before .before .before .before .before .before .before in
+    let a = lent .before .before .before .before .before .before .before .before .before .before .args in
     let vs = results (lentOf (a .file .now) (a .rows .now) (a .months .now) (a .words .now)) (a .flags .now) in
     file-full vs (a .answers .now) (a .chunks .now) (a .text .now) (sym (f .ensures) ∙ not-true (f .result) (c .if1 .taken))
 
@@ -51,7 +52,8 @@ write-requires c κs =
 same-length-5 : tie.Need-same-length-5
 same-length-5 c =
     let wrote = c .before .before .before .before .before .before .before .before in
-    wrote .write .kept .1 .1 .1 .1 .1 .1 .1 .1 .1 .0 ∙ wrote .before .before .before .before .before .before .before .before .before .before .has-room .kept .1 .1 .1 .1 .1 .1 .1 .1 .1 .0
+    let asked = wrote .before .before .before .before .before .before .before .before .before .before in
+    wrote .write .kept .1 .1 .1 .1 .1 .1 .1 .1 .1 .0 ∙ asked .has-room .kept .1 .1 .1 .1 .1 .1 .1 .1 .1 .0
 
 returns-2 : tie.Need-returns-2
 returns-2 c =
@@ -60,7 +62,8 @@ returns-2 c =
     let enough = wrote .before .before .before .before .before .before .before in
     let asked = enough .before .before .before in
     let f = asked .has-room in
-    let a = asked .before .before .before .before .before .before .before .before .before .before .before .before .before .before .before .before .before .before .before .before .args in
+    let lent = asked .before .before .before .before .before .before .before .before .before .before in
+    let a = lent .before .before .before .before .before .before .before .before .before .before .args in
     let vs = results (lentOf (a .file .now) (a .rows .now) (a .months .now) (a .words .now)) (a .flags .now) in
     file-wrote vs (a .answers .now) (a .chunks .now) (a .text .now) (r .result) _ _ _ (r .ensures .1)
     (sym (f .ensures) ∙ not-false (f .result) (enough .if1 .left)) (r .ensures .0)

@@ -28,8 +28,8 @@ returns-2 c =
     let r = check .check-file in
     let a = check .before .before .before .before .before .before .before .before .before .before .before .before .args in
     ways.refuse-as _ (c .nowhere .ensures) (a .answers .now) (a .chunks .now) (a .text .now)
-    (ways.all-rows (a .file .now) (a .rows .now) (a .flags .now) (a .months .now) (a .words .now) (length (a .scratch .now)) (r .result) (r .ensures) (passed .enum-told .given .1)
-    (x .result) (n .result) (x .ensures) (n .ensures) (test .if1 .taken))
+    (ways.all-rows (a .file .now) (a .rows .now) (a .flags .now) (a .months .now) (a .words .now) (length (a .scratch .now))
+    (r .result) (r .ensures) (passed .enum-told .given .1) (x .result) (n .result) (x .ensures) (n .ensures) (test .if1 .taken))
 
 returns-3 : tie.Need-returns-3
 returns-3 c =
@@ -44,8 +44,8 @@ returns-3 c =
     let r = check .check-file in
     let a = check .before .before .before .before .before .before .before .before .before .before .before .before .args in
     ways.refuse-as _ (c .nowhere2 .ensures) (a .answers .now) (a .chunks .now) (a .text .now)
-    (ways.all-scratch (a .file .now) (a .rows .now) (a .flags .now) (a .months .now) (a .words .now) (length (a .scratch .now)) (r .result) (r .ensures) (passed .enum-told .given .1)
-    (x .result) (n .result) (x .ensures) (n .ensures) (test .if1 .left) (room .if2 .taken))
+    (ways.all-scratch (a .file .now) (a .rows .now) (a .flags .now) (a .months .now) (a .words .now) (length (a .scratch .now))
+    (r .result) (r .ensures) (passed .enum-told .given .1) (x .result) (n .result) (x .ensures) (n .ensures) (test .if1 .left) (room .if2 .taken))
 
 indexed-requires : tie.Need-indexed-requires
 indexed-requires c κs =
@@ -60,8 +60,8 @@ indexed-requires c κs =
     let check = passed .before .before in
     let r = check .check-file in
     let a = check .before .before .before .before .before .before .before .before .before .before .before .before .args in
-    let asks = ways.filed-asks (a .file .now) (a .rows .now) (a .flags .now) (a .months .now) (a .words .now) (length (a .scratch .now)) (r .result) (r .ensures) (passed .enum-told .given .1)
-    (x .result) (n .result) (x .ensures) (n .ensures) (test .if1 .left) in
+    let asks = ways.filed-asks (a .file .now) (a .rows .now) (a .flags .now) (a .months .now) (a .words .now) (length (a .scratch .now))
+    (r .result) (r .ensures) (passed .enum-told .given .1) (x .result) (n .result) (x .ensures) (n .ensures) (test .if1 .left) in
     (asking .file-small (a .file .now) (r .result) (r .ensures) (passed .enum-told .given .1), asks .0, built .build .ensures .index, asks .1, room .if2 .left)
 
 returns-4 : tie.Need-returns-4
@@ -78,8 +78,8 @@ returns-4 c =
     let check = passed .before .before in
     let r = check .check-file in
     let a = check .before .before .before .before .before .before .before .before .before .before .before .before .args in
-    ways.writes-as (sym (ways.all-good (a .file .now) (a .rows .now) (a .flags .now) (a .months .now) (a .words .now) (length (a .scratch .now)) (r .result) (r .ensures) (passed .enum-told .given .1)
-    (x .result) (n .result) (x .ensures) (n .ensures) (test .if1 .left) (room .if2 .left))) (all .indexed .ensures)
+    ways.writes-as (sym (ways.all-good (a .file .now) (a .rows .now) (a .flags .now) (a .months .now) (a .words .now) (length (a .scratch .now))
+    (r .result) (r .ensures) (passed .enum-told .given .1) (x .result) (n .result) (x .ensures) (n .ensures) (test .if1 .left) (room .if2 .left))) (all .indexed .ensures)
 
 pub whole-spec : {M : Type 1} → statement M
 whole-spec =
