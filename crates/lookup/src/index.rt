@@ -1,8 +1,11 @@
-// The index of a file's definitions, in lent numbers, and the search by it.
+// The index of a file's definitions, in lent numbers, and the search by it. It has one of two forms.
 //
-// Of the definitions of a name only the last is in the index, so that many definitions of one name make no chain longer. `heads` has a number
-// for each bucket: one more than the number of the first row of the index whose name falls into the bucket, or 0. `next` has a number for
-// each row: for a row of the index, one more than the number of the next row of its bucket, or 0.
+// Chains: of the definitions of a name only the last is in a chain, so that many definitions of one name make none longer. `heads` has a
+// number for each bucket: one more than the number of the first row whose name falls into the bucket, or 0. `next` has a number for each row:
+// for a row in a chain, one more than the number of the next row of its bucket, or 0.
+//
+// In order, where chains would be long: `next` begins with the numbers of all definitions in the order of their names (`order`). The first
+// number of `heads` then tells how many there are, and is greater than any that a chain has.
 use crate::hash;
 use crate::order;
 use crate::plain;
