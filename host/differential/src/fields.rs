@@ -1,6 +1,7 @@
 //! Files with fields, to ask about one by one or all at once: names and months, chains of names and cycles, as many names as there may be and more, long
 //! and deep literals, files drawn at random, rows and months that are none, and real files.
 
+use cases::collisions::Names;
 use cases::fields::{literal, name, Draft, Element, Fields as Drawing, Months, NAMES};
 use cases::rows::break_rows;
 use cases::symbols::SEQUENCES;
@@ -276,6 +277,52 @@ pub fn definitions<A: Asks>(judge: &mut Judge, seed: u64, long: bool) {
         draft.entry();
         let first = draft.next();
         for _ in 0..20 {
+            let elements: Vec<Element> = (0..3).map(|_| name(any(&mut random))).collect();
+            draft.field("t", &elements);
+        }
+        let fields = (first..draft.next()).filter(|row| draft.rows[4 * row] == 5);
+        let fields: Vec<usize> = fields.collect();
+        let given = given(&draft, &months);
+        asks.check_these(judge, given, fields.into_iter(), Tried::One);
+    }
+}
+
+/// Definitions whose names have one hash, around as many as a chain of the index may have and more, in
+/// any order, some of them again and some of names that these begin with: the index then has the
+/// definitions in order. And fields that use some.
+pub fn colliding<A: Asks>(judge: &mut Judge, seed: u64, long: bool) {
+    let (mut random, mut asks) = (Random::new(seed, 22), A::new());
+    let months = Months::english();
+    let text = |name: Vec<u8>| String::from_utf8(name).expect("letters");
+    let alike: Vec<String> = Names::new(b"").iter().step_by(1_009).map(text).take(300).collect();
+    for turn in 0..if long { 3_000 } else { 60 } {
+        let count = [15, 16, 17, 18, 40, alike.len()][turn % 6];
+        let any = |random: &mut Random| {
+            let alike = &alike[random.below(count)];
+            match random.below(12) {
+                0 => alike[..alike.len() - 1].to_string(),
+                1 => format!("{alike}a"),
+                _ => alike.clone(),
+            }
+        };
+        let mut order: Vec<usize> = (0..count).collect();
+        for i in 1..count {
+            order.swap(i, random.below(i + 1));
+        }
+        let mut draft = Draft::default();
+        for i in order {
+            let value = match random.below(6) {
+                0 => vec![name(any(&mut random)), literal(i.to_string())],
+                _ => vec![literal(i.to_string())],
+            };
+            draft.definition(&alike[i], &value);
+            if random.one_in(4) {
+                draft.definition(&any(&mut random), &[literal(format!("{i} again"))]);
+            }
+        }
+        draft.entry();
+        let first = draft.next();
+        for _ in 0..12 {
             let elements: Vec<Element> = (0..3).map(|_| name(any(&mut random))).collect();
             draft.field("t", &elements);
         }

@@ -176,6 +176,9 @@ fn resolving_fields<A: Asks>(judge: &mut Judge, wanted: &Wanted, what: &str) {
     group("many definitions", &|j| {
         fields::definitions::<A>(j, seed, long)
     });
+    group("names of one hash", &|j| {
+        fields::colliding::<A>(j, seed, long)
+    });
     group("drawn", &|j| fields::drawn::<A>(j, seed, long));
     group("room", &|j| fields::rooms::<A>(j, seed, long));
     group("broken", &|j| fields::broken::<A>(j, seed, long));
