@@ -30,7 +30,7 @@ use Rattle.resolve.specs.Resolves.{Value, told, rowsLeft, textLeft}
 use Rattle.resolve.specs.OneLiteral.{literalOf}
 use Rattle.resolve.specs.declared.answer.Answer.{Answer}
 use Rattle.resolve.specs.declared.answer.Answer.the-variants as answer
-use Rattle.field.specs.OneField.{valueAt}
+use Rattle.fields.specs.OneField.{valueAt}
 use Rattle.whole.specs.WholeFile.{All, tellAll, answersLeft, chunksLeft, textsLeft}
 use Rattle.whole.specs.declared.file.Filed.{Filed}
 use Rattle.whole.specs.declared.file.Filed.the-variants as filed

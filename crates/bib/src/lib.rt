@@ -6,7 +6,7 @@
 // Scratch holds zeros after the call, whatever it held. include/bib.h says all this to C.
 use chunk::biblatex;
 use chunk::format;
-use field::field as fields;
+use fields::field;
 use pack::packing;
 use pack::unpacking;
 use raw::answer::Reading;
@@ -245,7 +245,7 @@ pub extern "C" fn bib_resolve_field(
         (now (count .exit)) (now (bytes .exit)) (now (names .exit)) (now (start .exit)) (now (end .exit))
         (now (scratch .exit)) (now (chunks .exit)) (now (text .exit)) ⌝ }
 {
-    let resolved = fields::resolve_field(
+    let resolved = field::resolve_field(
         file,
         rows,
         which,

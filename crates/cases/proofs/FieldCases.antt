@@ -15,7 +15,7 @@ use Rattle.lookup.specs.Names.{sameBytes, isNamed, later, lastNamed}
 use Rattle.turn.specs.Content.{steps, endTurn, braced, closing, contentTurn, contentBy, inside, flattenFrom}
 use Rattle.literal.specs.Literal.{resolveLiteral}
 use Rattle.resolve.specs.Resolves.{checkedFile}
-use Rattle.value.specs.Field.{elements, walk, monthOf, onPath, name}
+use Rattle.values.specs.Field.{elements, walk, monthOf, onPath, name}
 use Rattle.resolve.specs.Checks.{everySpan, isValue, everyMonth, areMonths, areLent}
 use Rattle.cases.specs.FieldCases.{table, FieldCases, chain, Deep}
 

@@ -16,7 +16,7 @@ use Rattle.chunk.specs.Chunk.{Chunk}
 use Rattle.text.specs.Strings.{utf8}
 use Rattle.cases.specs.LiteralCases.{_of_from_to_}
 use Rattle.resolve.specs.Resolves as resolves
-use Rattle.field.specs.OneField.{valueAt}
+use Rattle.fields.specs.OneField.{valueAt}
 
 -- chunks and the number of names resolved, or 01's number and a place
 pub data Outcome : Type 0 where

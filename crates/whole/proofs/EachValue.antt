@@ -16,8 +16,8 @@ use Rattle.row.specs.Numbers.{rowsOf}
 use Rattle.chunk.specs.declared.answer.Checked.the-variants as checked
 use Rattle.resolve.specs.Resolves.{Value, refused, leastScratch, checkedFile, after}
 use Rattle.resolve.specs.Checks.{Lent, areLent, isValue, isRight, lentOf}
-use Rattle.value.specs.Field.{fieldOf}
-use Rattle.field.specs.OneField.{valueAt}
+use Rattle.values.specs.Field.{fieldOf}
+use Rattle.fields.specs.OneField.{valueAt}
 use Rattle.whole.specs.WholeFile.{isValueRow, flag, resultsFrom, results, values, all, allOf}
 use Rattle.whole.specs.EachValue.{valueRowsFrom, valueRows, valueNo, EachValue}
 use Rattle.whole.proofs.values.RowByRow.{results-length}

@@ -13,8 +13,8 @@ use Rattle.literal.specs.WellFormed.{Passes}
 use Rattle.literal.proofs.WellFormed.{well-formed}
 use Rattle.resolve.specs.Resolves.{Value, resolved, refused}
 use Rattle.resolve.specs.Checks.{Lent, lentOf}
-use Rattle.value.specs.Field.{fieldOf}
-use Rattle.field.proofs.WellFormedFields.{well-formed-fields}
+use Rattle.values.specs.Field.{fieldOf}
+use Rattle.fields.proofs.WellFormedFields.{well-formed-fields}
 use Rattle.whole.specs.WholeFile.{isValueRow, flag, resultsFrom, chunksIn, all, allOf}
 use Rattle.whole.specs.WellFormedFile.{AllPass, WellFormedFile}
 use Rattle.whole.proofs.ways.FileWays.{asked-of}

@@ -16,7 +16,7 @@ use Rattle.resolve.specs.declared.progress.Went.the-variants as went
 use Rattle.resolve.specs.Resolves.{Value, mostWritten}
 use Rattle.resolve.specs.Checks.{Lent}
 use Rattle.resolve.specs.Runs.{Run, done, stop}
-use Rattle.value.specs.Field.{walk, elements, element}
+use Rattle.values.specs.Field.{walk, elements, element}
 use Rattle.whole.specs.declared.bound.Most.{Most}
 use Rattle.whole.specs.declared.bound.Most.the-variants as most
 use Rattle.whole.specs.declared.file.Totals.{Totals}

@@ -12,7 +12,7 @@ use Rattle.row.specs.Fault.{nowhere}
 use Rattle.row.specs.Row.{Row}
 use Rattle.row.specs.Numbers.{rowsOf}
 use Rattle.resolve.specs.Resolves.{Value, refused}
-use Rattle.field.specs.OneField.{valueAt}
+use Rattle.fields.specs.OneField.{valueAt}
 use Rattle.whole.specs.WholeFile.{isValueRow, flag, all, allOf}
 
 -- the rows rs begin with row i

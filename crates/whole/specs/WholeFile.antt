@@ -24,7 +24,7 @@ use Rattle.whole.specs.declared.file.Filed.{Filed}
 use Rattle.whole.specs.declared.file.Filed.the-variants as filed
 use Rattle.resolve.specs.Resolves.{Value, resolved, refused, mostWritten, leastScratch, checkedFile}
 use Rattle.resolve.specs.Checks.{Lent, areLent, lentOf}
-use Rattle.value.specs.Field.{fieldOf}
+use Rattle.values.specs.Field.{fieldOf}
 
 -- ---- what the values resolve to
 

@@ -1,6 +1,6 @@
 // How much a value can come to at most, told from the places of its literals. That is little work beside resolving it.
-use value::elements;
-use value::elements::Element;
+use values::elements;
+use values::elements::Element;
 ghost use Prim.Native.Nat.{_+_, _/_, _<_};
 ghost use lib.ListN.{length, drop};
 ghost use Rattle.row.specs.Numbers.{rowsOf};

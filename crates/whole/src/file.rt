@@ -9,7 +9,7 @@ use chunk::answer::Checked;
 use command::names as commands;
 use command::stack;
 use compose;
-use field::field as fields;
+use fields::field;
 use lookup::index;
 use resolve::answer;
 use resolve::answer::Answer;
@@ -168,7 +168,7 @@ fn count(
         i += 1;
         if is_value(rows, at) {
             let verbatim = flag_at(flags, t.values);
-            let w = fields::count(
+            let w = field::count(
                 file,
                 rows,
                 months,
@@ -214,7 +214,7 @@ fn bound_row(
         Most::Literals { rows: n, bytes: m } => add(t, n, m, false),
         Most::Unknown => {
             let flag = flag_at(flags, t.values);
-            let w = fields::count(
+            let w = field::count(
                 file,
                 rows,
                 months,
@@ -425,7 +425,7 @@ fn write_row(
     let verbatim = flag_at(flags, t.values);
     let first = t.rows * 5;
     let from = t.bytes;
-    let a = fields::write(
+    let a = field::write(
         file,
         rows,
         months,

@@ -32,11 +32,11 @@ use Rattle.literal.proofs.WellFormed.{well-formed}
 use Rattle.resolve.specs.Resolves.{mostWritten}
 use Rattle.resolve.specs.Checks.{Lent}
 use Rattle.resolve.specs.Runs.{Run, done, stop, ofLiteral}
-use Rattle.value.specs.declared.elements.Element.{Element}
-use Rattle.value.specs.declared.elements.Element.the-variants as element
-use Rattle.value.specs.Field.{behind, onward, walk, elements, ofRun, flattened, name, mostOpen, fieldOf}
-use Rattle.value.specs.Field as field
-use Rattle.value.specs.Uses.{firstElement}
+use Rattle.values.specs.declared.elements.Element.{Element}
+use Rattle.values.specs.declared.elements.Element.the-variants as element
+use Rattle.values.specs.Field.{behind, onward, walk, elements, ofRun, flattened, name, mostOpen, fieldOf}
+use Rattle.values.specs.Field as field
+use Rattle.values.specs.Uses.{firstElement}
 use Rattle.whole.specs.WholeFile.{chunksIn}
 use Rattle.whole.specs.Bounds.{Within, AtMost, Under}
 use Rattle.whole.proofs.counting.CountWays.{either-false}

@@ -21,8 +21,8 @@ use Rattle.resolve.specs.declared.progress.Went.the-variants as went
 use Rattle.resolve.specs.Resolves.{Value, resolved, refused, mostWritten, small}
 use Rattle.resolve.specs.Checks.{Lent}
 use Rattle.resolve.specs.Progress.{Counted}
-use Rattle.value.specs.Field.{fieldOf}
-use Rattle.field.specs.OneField.{Resolving}
+use Rattle.values.specs.Field.{fieldOf}
+use Rattle.fields.specs.OneField.{Resolving}
 use Rattle.whole.specs.declared.file.Totals.{Totals}
 use Rattle.whole.specs.WholeFile.{isValueRow, flag, values, results, chunksIn, texts, countRows, smallAll}
 use Rattle.whole.specs.Filing.{Filing, CountsAll, Begun, Sized, AddsTo, AddsCounted}

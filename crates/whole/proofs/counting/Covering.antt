@@ -22,7 +22,7 @@ use Rattle.resolve.specs.declared.progress.Went.the-variants as went
 use Rattle.resolve.specs.Resolves.{Value, resolved, refused, mostWritten}
 use Rattle.resolve.specs.Checks.{Lent}
 use Rattle.resolve.specs.Progress.{Counted}
-use Rattle.value.specs.Field.{fieldOf}
+use Rattle.values.specs.Field.{fieldOf}
 use Rattle.whole.specs.declared.file.Totals.{Totals}
 use Rattle.whole.specs.WholeFile.{isValueRow, flag, values, results, texts, countRows, fitsAll}
 use Rattle.whole.specs.Filing.{Bounded, CountsAll}

@@ -16,7 +16,7 @@ use Rattle.row.specs.Row.{Row, rowOf}
 use Rattle.lookup.specs.Names.{rowNo}
 use Rattle.resolve.specs.Resolves.{Value}
 use Rattle.resolve.specs.Checks.{Lent}
-use Rattle.value.specs.Field.{fieldOf}
+use Rattle.values.specs.Field.{fieldOf}
 use Rattle.whole.specs.declared.file.Totals.{Totals}
 use Rattle.whole.specs.WholeFile.{isValueRow, flag, resultsFrom, results, values}
 use Rattle.whole.specs.Filing.{CountsAll, SoFar}

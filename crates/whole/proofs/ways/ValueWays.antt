@@ -24,7 +24,7 @@ use Rattle.resolve.specs.declared.answer.Answer.{Answer}
 use Rattle.resolve.specs.declared.answer.Answer.the-variants as answer
 use Rattle.resolve.specs.Resolves.{Value, resolved, refused, mostWritten, small, fits, Writes}
 use Rattle.resolve.specs.Checks.{Lent, lentOf}
-use Rattle.value.specs.Field.{fieldOf}
+use Rattle.values.specs.Field.{fieldOf}
 use Rattle.whole.specs.declared.file.Totals.{Totals}
 use Rattle.whole.specs.WholeFile.{isValueRow, flag, results, values, chunksIn, texts, chunkNumbers, countRows, six, answerNumbers, smallAll, fitsAll}
 use Rattle.whole.specs.Filing.{Filing, CountsAll, SoFar, Begun, AddsAnswer, FitsBehind, sixOf, WroteAll, Wrote}

@@ -1,0 +1,272 @@
+-- A value over a small room, and then over what is lent: for `count`, `write` and `field` of src/field.rt.
+--     says-count                        from the same number of names
+--     sound-first, answer-bounded       what `value` asks, and the bounds of an answer
+--     write-refused, write-full         the value is refused, or there is no room for it
+--     write-room                        how much it comes to, where there is
+--     write-copied, write-again         it is copied from the small room, or resolved again
+--     count-as                          the value is counted only
+--     right-as, lent-right, which-inside      what `field` asks
+--     field-at, count-at                the value of a row
+-- Assumes nothing.
+use Prim.Native.Nat.{ℕ, suc, _+_, _-_, _*_, _/_, _≤_, _<_, min}
+use native.Mathlib.Omega.{arith}
+use mathlib.Core.Path.{_≡_, refl, sym, ap, ap₂, subst, _∙_}
+use mathlib.Core.Bool.{Bool, true, false, cond, not, _&&_}
+use mathlib.Core.List.{List, [], _++_}
+use lib.ListN.{length, take, drop}
+use lib.Seq.{take-at, sets, sets-eq}
+use lib.Dec.{leb, ltb}
+use borrow.Author.Tests.{leb-true, ltb-true, ltb-false, not-true, not-false}
+use Rattle.text.specs.Scan.{part}
+use Rattle.text.proofs.general.Tests.{both-true}
+use Rattle.row.specs.declared.fault.Fault.{Fault}
+use Rattle.row.specs.declared.fault.Reason.the-variants.{NoRoom}
+use Rattle.row.specs.Fault.{nowhere}
+use Rattle.row.specs.Row.{Row}
+use Rattle.row.specs.Numbers.{rowsOf}
+use Rattle.row.proofs.Laid.{laid}
+use Rattle.chunk.specs.Chunk.{Chunk, flatChunks}
+use Rattle.turn.specs.Content.{flatten}
+use Rattle.literal.specs.Rows.{rowsFrom, textsOf}
+use Rattle.literal.proofs.Flattening.{flattening}
+use Rattle.resolve.specs.declared.answer.Answer.{Answer}
+use Rattle.resolve.specs.declared.answer.Answer.the-variants as answer
+use Rattle.resolve.specs.declared.progress.Progress.{Progress}
+use Rattle.resolve.specs.declared.progress.Went.{Went}
+use Rattle.resolve.specs.declared.progress.Went.the-variants as went
+use Rattle.resolve.specs.Resolves.{Value, resolved, small, fits, told, rowsLeft, textLeft, Writes}
+use Rattle.resolve.specs.Checks.{Lent, isValue, areLent, isRight}
+use Rattle.resolve.specs.Runs.{Run, done, stop}
+use Rattle.resolve.specs.Progress.{Has, answerOf, Bounded, SaysRun, BoundedAnswer, Counted}
+use Rattle.resolve.proofs.Asking.{asking}
+use Rattle.values.specs.Field.{flattened, ofRun, fieldOf}
+use Rattle.values.specs.Uses.{valueFrom, Sound}
+use Rattle.fields.specs.OneField.{Resolving}
+
+-- ---- chunks that were counted
+
+zeroed : (n : ℕ) → 0 + n ≡ n
+zeroed n = omega arith
+
+module _ (cs : List Chunk) (b₀ t₀ : List ℕ) (st : Progress) (b t : List ℕ) (has : Has cs b₀ t₀ st b t) where
+  abbrev flat : List Chunk
+  flat = flatten cs
+
+  texts : textsOf flat ≡ textsOf cs
+  texts = flattening .texts-flat cs
+
+  -- what they come to, where they fit over the numbers c and the bytes s
+  module _ (c s : List ℕ) (x : fits flat c s ≡ true) where
+    both : (small flat ≡ true) × ((leb (length flat) (length c / 5) && leb (length (textsOf flat)) (length s)) ≡ true)
+    both = both-true (small flat) (leb (length flat) (length c / 5) && leb (length (textsOf flat)) (length s)) x
+
+    right : st .over ≡ false
+    right = has .over ∙ ap not (both .0)
+
+    many : st .rows .n ≡ length flat
+    many = has .rows right .count
+
+    long : st .bytes ≡ length (textsOf flat)
+    long = has .bytes right ∙ ap length (sym texts)
+
+    rooms : (length flat ≤ length c / 5) × (length (textsOf flat) ≤ length s)
+    rooms =
+        let y = both-true (leb (length flat) (length c / 5)) (leb (length (textsOf flat)) (length s)) (both .1) in
+        (leb-true (length flat) (length c / 5) (y .0), leb-true (length (textsOf flat)) (length s) (y .1))
+
+    rows-room : length flat * 5 ≤ length c
+    rows-room = omega (arith, rooms .0)
+
+    enough : (st .rows .n * 5 ≤ length c) × (st .bytes ≤ length s)
+    enough = (omega (arith, many, rows-room), omega (arith, long, rooms .1))
+
+    answered : (n : ℕ) → st .names ≡ n → answerOf st ≡ told (resolved flat n) c s
+    answered n e =
+        ap₂ (λ (i j : ℕ). answer.Chunks i j (st .names)) many long ∙ ap (answer.Chunks (length flat) (length (textsOf flat))) e
+        ∙ ap (λ (w : Bool). cond w (answer.Chunks (length flat) (length (textsOf flat)) n) (answer.Refused (nowhere NoRoom))) (sym x)
+
+    rows-as : (n : ℕ) (c′ : List ℕ) → c′ ≡ flatChunks (rowsFrom 0 flat) ++ drop (length flat * 5) c → c′ ≡ rowsLeft (resolved flat n) c s
+    rows-as n c′ e = e ∙ ap (λ (w : Bool). cond w (flatChunks (rowsFrom 0 flat) ++ drop (length flat * 5) c) c) (sym x)
+
+    text-as : (n : ℕ) (s′ : List ℕ) → s′ ≡ sets s 0 (textsOf cs) → s′ ≡ textLeft (resolved flat n) c s
+    text-as n s′ e =
+        e ∙ ap (sets s 0) (sym texts) ∙ sets-eq (textsOf flat) s 0 (omega (arith, rooms .1))
+        ∙ ap (λ (n : ℕ). textsOf flat ++ drop n s) (zeroed (length (textsOf flat)))
+        ∙ ap (λ (w : Bool). cond w (textsOf flat ++ drop (length (textsOf flat)) s) s) (sym x)
+
+-- ---- what the room holds that they were counted over, where they fit over it
+
+module _ (cs : List Chunk) (b₀ t₀ : List ℕ) (st : Progress) (b t : List ℕ) (has : Has cs b₀ t₀ st b t) (n : length b ≡ length b₀)
+    (m : length t ≡ length t₀) (x : fits (flatten cs) b t ≡ true) where
+  held-rows : take (st .rows .n * 5) b ≡ flatChunks (rowsFrom 0 (flatten cs))
+  held-rows =
+      ap (take (st .rows .n * 5))
+      (has .rows (right cs b₀ t₀ st b t has b t x) .numbers
+      ∙ flattening .rows-written b₀ (flatten cs) (omega (arith, rows-room cs b₀ t₀ st b t has b t x, n)))
+      ∙ take-at (flatChunks (rowsFrom 0 (flatten cs))) (drop (length (flatten cs) * 5) b₀) (st .rows .n * 5)
+      (omega (arith, flattening .numbers-length 0 (flatten cs), many cs b₀ t₀ st b t has b t x))
+
+  held-text : part t 0 (st .bytes) ≡ textsOf cs
+  held-text =
+      ap (λ (n : ℕ). take n t) (least (st .bytes) (length t) (enough cs b₀ t₀ st b t has b t x .1))
+      ∙ ap (take (st .bytes)) (has .text (right cs b₀ t₀ st b t has b t x) ∙ sets-eq (textsOf cs) t₀ 0 room)
+      ∙ take-at (textsOf cs) (drop (0 + length (textsOf cs)) t₀) (st .bytes) (sym (has .bytes (right cs b₀ t₀ st b t has b t x)))
+    where
+      least : (n m : ℕ) → n ≤ m → min n m - 0 ≡ n
+      least n m p = omega arith
+
+      room : 0 + length (textsOf cs) ≤ length t₀
+      room = omega (arith, has .bytes (right cs b₀ t₀ st b t has b t x), enough cs b₀ t₀ st b t has b t x .1, m)
+
+-- ---- the ways through `write`
+
+pub says-count : (g : ℕ → Run) (n m : ℕ) → n ≡ m → (st : Progress) (b t : List ℕ) (r : Went) (b′ t′ : List ℕ) → SaysRun (g n) st b t r b′ t′
+    → SaysRun (g m) st b t r b′ t′
+says-count g n m e st b t r b′ t′ h = subst (λ (k : ℕ). SaysRun (g k) st b t r b′ t′) e h
+
+-- no name is open
+pub sound-first : (file rows months words heads next w byName byMark : List ℕ) (i : ℕ) (w′ held : List ℕ)
+    → Resolving file rows months words heads next w byName byMark i → length w′ ≡ length w → length held ≡ 32
+    → Sound file rows months words heads next w′ byName byMark held 32
+sound-first file rows months words heads next w byName byMark i w′ held h k e = record {
+  short = h .short;
+  lent = h .lent;
+  index = h .index;
+  ready = asking .ready-on w byName byMark w′ (h .ready) k;
+  path = (e, omega arith);
+}
+
+-- an answer has the bounds of what was counted
+pub answer-bounded : (st : Progress) → Bounded st → (d : Answer) → d ≡ answerOf st → BoundedAnswer d
+answer-bounded st h d e = subst BoundedAnswer (sym e) (h .rows, h .bytes, h .names)
+
+module _ (run : Run) (first : Progress) (begins : (b t : List ℕ) → Has [] b t first b t) (b₀ t₀ : List ℕ) (r : Went) (b t : List ℕ)
+    (h : SaysRun run first b₀ t₀ r b t) (c s : List ℕ) where
+  abbrev value : Run → Value
+  value run = ofRun (flattened run)
+
+  pub write-refused : (f : Fault) → r ≡ went.Refused f → Writes (value run) c s (answer.Refused f) c s
+  write-refused f e = by run (subst (λ (r : Went). SaysRun run first b₀ t₀ r b t) e h)
+    where
+      by : (run : Run) → SaysRun run first b₀ t₀ (went.Refused f) b t → Writes (value run) c s (answer.Refused f) c s
+      by (done cs n) k = absurd k
+      by (stop g) k = record { answer = ap answer.Refused k; rows = refl; text = refl }
+
+  module _ (st : Progress) (e : r ≡ went.Done st) where
+    counted : SaysRun run first b₀ t₀ (went.Done st) b t
+    counted = subst (λ (r : Went). SaysRun run first b₀ t₀ r b t) e h
+
+    -- what `fits` answers of any room
+    abbrev pub Fitted : Bool → List ℕ → List ℕ → Type 0
+    Fitted x c s = (ps : List Chunk) (b₀ t₀ b t : List ℕ) → Has ps b₀ t₀ st b t → x ≡ fits (flatten ps) c s
+
+    pub write-full : (x : Bool) → Fitted x c s → not x ≡ true → Writes (value run) c s (answer.Refused (nowhere NoRoom)) c s
+    write-full x l q = by run counted
+      where
+        by : (run : Run) → SaysRun run first b₀ t₀ (went.Done st) b t → Writes (value run) c s (answer.Refused (nowhere NoRoom)) c s
+        by (done cs n) k =
+            let y : fits (flatten cs) c s ≡ false = sym (l cs b₀ t₀ b t (k .1 [] b₀ t₀ (begins b₀ t₀))) ∙ not-true x q in
+            record { answer = rw y; rows = rw y; text = rw y }
+        by (stop g) k = absurd k
+
+    pub write-room : (x : Bool) (d u : List ℕ) → Fitted x d u → x ≡ true → (st .rows .n * 5 ≤ length d) × (st .bytes ≤ length u)
+    write-room x d u l q = by run counted
+      where
+        by : (run : Run) → SaysRun run first b₀ t₀ (went.Done st) b t → (st .rows .n * 5 ≤ length d) × (st .bytes ≤ length u)
+        by (done cs n) k =
+            let has = k .1 [] b₀ t₀ (begins b₀ t₀) in
+            enough cs b₀ t₀ st b t has d u (sym (l cs b₀ t₀ b t has) ∙ q)
+        by (stop g) k = absurd k
+
+    module _ (x : Bool) (l : Fitted x c s) (q : x ≡ true) (d : Answer) (o : d ≡ answerOf st) where
+      pub write-copied : length b ≡ length b₀ → length t ≡ length t₀ → (y : Bool) → Fitted y b t → y ≡ true → (c′ s′ : List ℕ)
+          → c′ ≡ take (st .rows .n * 5) b ++ drop (st .rows .n * 5) c → s′ ≡ sets s 0 (part t 0 (st .bytes))
+          → Writes (value run) c s d c′ s′
+      write-copied i j y m z c′ s′ p w = by run counted
+        where
+          by : (run : Run) → SaysRun run first b₀ t₀ (went.Done st) b t → Writes (value run) c s d c′ s′
+          by (done cs n) k =
+              let has = k .1 [] b₀ t₀ (begins b₀ t₀) in
+              let fit : fits (flatten cs) c s ≡ true = sym (l cs b₀ t₀ b t has) ∙ q in
+              let few : fits (flatten cs) b t ≡ true = sym (m cs b₀ t₀ b t has) ∙ z in
+              record {
+                answer = o ∙ answered cs b₀ t₀ st b t has c s fit n (k .0);
+                rows = rows-as cs b₀ t₀ st b t has c s fit n c′
+                    (p ∙ ap₂ _++_ (held-rows cs b₀ t₀ st b t has i j few) (ap (λ (n : ℕ). drop (n * 5) c) (many cs b₀ t₀ st b t has c s fit)));
+                text = text-as cs b₀ t₀ st b t has c s fit n s′ (w ∙ ap (sets s 0) (held-text cs b₀ t₀ st b t has i j few));
+              }
+          by (stop g) k = absurd k
+
+      pub write-again : (r₂ : Went) (c′ s′ : List ℕ) → SaysRun run first c s r₂ c′ s′ → Writes (value run) c s d c′ s′
+      write-again r₂ c′ s′ k₂ = by run counted r₂ k₂
+        where
+          by : (run : Run) → SaysRun run first b₀ t₀ (went.Done st) b t → (r₂ : Went) → SaysRun run first c s r₂ c′ s′
+              → Writes (value run) c s d c′ s′
+          by (done cs n) k (went.Done st₂) k₂ =
+              let has = k .1 [] b₀ t₀ (begins b₀ t₀) in
+              let has₂ = k₂ .1 [] c s (begins c s) in
+              let fit : fits (flatten cs) c s ≡ true = sym (l cs b₀ t₀ b t has) ∙ q in
+              let right₂ = right cs c s st₂ c′ s′ has₂ c s fit in
+              record {
+                answer = o ∙ answered cs b₀ t₀ st b t has c s fit n (k .0);
+                rows = rows-as cs b₀ t₀ st b t has c s fit n c′
+                    (has₂ .rows right₂ .numbers ∙ flattening .rows-written c (flatten cs) (rows-room cs b₀ t₀ st b t has c s fit));
+                text = text-as cs b₀ t₀ st b t has c s fit n s′ (has₂ .text right₂);
+              }
+          by (done cs n) k (went.Refused f) k₂ = absurd k₂
+          by (stop g) k r₂ k₂ = absurd k
+
+-- ---- the way through `count`
+
+pub count-as : (run : Run) (first : Progress) → ((b t : List ℕ) → Has [] b t first b t) → (b₀ t₀ : List ℕ) (r : Went) (b t : List ℕ)
+    → SaysRun run first b₀ t₀ r b t → Counted (ofRun (flattened run)) r
+count-as (done cs n) first begins b₀ t₀ (went.Done st) b t k =
+    let has = k .1 [] b₀ t₀ (begins b₀ t₀) in
+    (has .over, λ o. (has .rows o .count, has .bytes o ∙ ap length (sym (flattening .texts-flat cs))))
+count-as (done cs n) first begins b₀ t₀ (went.Refused f) b t k = k
+count-as (stop g) first begins b₀ t₀ (went.Done st) b t k = k
+count-as (stop g) first begins b₀ t₀ (went.Refused f) b t k = k
+
+-- ---- a field
+
+-- what `field` asks of the rows and of the chosen row, as the code tests it
+module _ (file rows months words : List ℕ) (which : ℕ) (x y : Bool) (p : x ≡ areLent file rows months words) (q : y ≡ isValue (drop which (rowsOf rows)))
+  where
+    pub right-as : (x && y) ≡ isRight file rows which months words
+    right-as = ap₂ _&&_ p q
+
+    module _ (n : not (x && y) ≡ false) where
+      both-right : (x ≡ true) × (y ≡ true)
+      both-right = both-true x y (not-false (x && y) n)
+
+      pub lent-right : areLent file rows months words ≡ true
+      lent-right = sym p ∙ both-right .0
+
+      pub which-inside : which < length rows / 4
+      which-inside = by (ltb which (length rows / 4)) refl
+        where
+          by : (z : Bool) → ltb which (length rows / 4) ≡ z → which < length rows / 4
+          by true e = ltb-true which (length rows / 4) e
+          by false e =
+              let no = asking .value-none rows which (ltb-false which (length rows / 4) e) in
+              let yes = sym q ∙ both-right .1 in
+              let z : _≡_ {A = ℕ} 0 1 = cc in
+              absurd (omega (arith, z))
+
+-- the value's elements stand behind its row
+module _ (l : Lent) (verb : Bool) (rows : List ℕ) (which : ℕ) (e : l .rows ≡ rowsOf rows) where
+  abbrev from : List Row → Value
+  from rs = ofRun (flattened (valueFrom l verb 32 [] rs 0))
+
+  rows-behind : rowsOf (drop (which * 4 + 4) rows) ≡ drop (suc which) (l .rows)
+  rows-behind = sym (ap (drop (suc which)) e ∙ laid .rows-by (suc which) rows ∙ ap (λ (n : ℕ). rowsOf (drop n rows)) (next which))
+    where
+      next : (n : ℕ) → suc n * 4 ≡ n * 4 + 4
+      next n = omega arith
+
+  pub field-at : (c s : List ℕ) (r : Answer) (c′ s′ : List ℕ) → Writes (from (rowsOf (drop (which * 4 + 4) rows))) c s r c′ s′
+      → Writes (fieldOf l verb which) c s r c′ s′
+  field-at c s r c′ s′ h = subst (λ (rs : List Row). Writes (from rs) c s r c′ s′) rows-behind h
+
+  pub count-at : (r : Went) → Counted (from (rowsOf (drop (which * 4 + 4) rows))) r → Counted (fieldOf l verb which) r
+  count-at r h = subst (λ (rs : List Row). Counted (from rs) r) rows-behind h
