@@ -259,6 +259,19 @@ pub fn deep<A: Asks>(judge: &mut Judge) {
     }
 }
 
+/// An entry with so many fields, each of three of the names, behind what the draft has; and the rows of
+/// their values.
+fn uses(draft: &mut Draft, count: usize, mut any: impl FnMut() -> String) -> Vec<usize> {
+    draft.entry();
+    let first = draft.next();
+    for _ in 0..count {
+        let elements: Vec<Element> = (0..3).map(|_| name(any())).collect();
+        draft.field("t", &elements);
+    }
+    let is_value = |row: &usize| draft.rows[4 * row] == 5;
+    (first..draft.next()).filter(is_value).collect()
+}
+
 /// Many definitions, some of them of the same names, and fields that use some.
 pub fn definitions<A: Asks>(judge: &mut Judge, seed: u64, long: bool) {
     let (mut random, mut asks) = (Random::new(seed, 20), A::new());
@@ -274,14 +287,7 @@ pub fn definitions<A: Asks>(judge: &mut Judge, seed: u64, long: bool) {
             };
             draft.definition(&any(&mut random), &value);
         }
-        draft.entry();
-        let first = draft.next();
-        for _ in 0..20 {
-            let elements: Vec<Element> = (0..3).map(|_| name(any(&mut random))).collect();
-            draft.field("t", &elements);
-        }
-        let fields = (first..draft.next()).filter(|row| draft.rows[4 * row] == 5);
-        let fields: Vec<usize> = fields.collect();
+        let fields = uses(&mut draft, 20, || any(&mut random));
         let given = given(&draft, &months);
         asks.check_these(judge, given, fields.into_iter(), Tried::One);
     }
@@ -294,7 +300,12 @@ pub fn colliding<A: Asks>(judge: &mut Judge, seed: u64, long: bool) {
     let (mut random, mut asks) = (Random::new(seed, 22), A::new());
     let months = Months::english();
     let text = |name: Vec<u8>| String::from_utf8(name).expect("letters");
-    let alike: Vec<String> = Names::new(b"").iter().step_by(1_009).map(text).take(300).collect();
+    let alike: Vec<String> = Names::new(b"")
+        .iter()
+        .step_by(1_009)
+        .map(text)
+        .take(300)
+        .collect();
     for turn in 0..if long { 3_000 } else { 60 } {
         let count = [15, 16, 17, 18, 40, alike.len()][turn % 6];
         let any = |random: &mut Random| {
@@ -320,14 +331,7 @@ pub fn colliding<A: Asks>(judge: &mut Judge, seed: u64, long: bool) {
                 draft.definition(&any(&mut random), &[literal(format!("{i} again"))]);
             }
         }
-        draft.entry();
-        let first = draft.next();
-        for _ in 0..12 {
-            let elements: Vec<Element> = (0..3).map(|_| name(any(&mut random))).collect();
-            draft.field("t", &elements);
-        }
-        let fields = (first..draft.next()).filter(|row| draft.rows[4 * row] == 5);
-        let fields: Vec<usize> = fields.collect();
+        let fields = uses(&mut draft, 12, || any(&mut random));
         let given = given(&draft, &months);
         asks.check_these(judge, given, fields.into_iter(), Tried::One);
     }
