@@ -5,7 +5,7 @@ use chunk::form::Kind;
 use command::settle;
 use command::stack;
 ghost use mathlib.Core.Path.{_≡_};
-ghost use Prim.Native.Nat.{_+_, _≤_, _<_};
+ghost use Prim.Native.Nat.{_+_, _≤_};
 ghost use lib.ListN.{length};
 ghost use Rattle.command.specs.Stack.{defaultChunk as kindAt};
 ghost use Rattle.literal.specs.Inner.{Turned, Calculated, Fits};

@@ -12,7 +12,7 @@ use turn::turn as turns;
 use turn::turn::Text;
 ghost use mathlib.Core.Path.{_≡_};
 ghost use mathlib.Core.Bool.{false};
-ghost use Prim.Native.Nat.{_+_, _*_, _≤_, _<_};
+ghost use Prim.Native.Nat.{_+_, _≤_, _<_};
 ghost use lib.ListN.{length, take};
 ghost use Rattle.text.specs.Scan.{part};
 ghost use Rattle.raw.specs.Strict.{faultUp};

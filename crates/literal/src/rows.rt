@@ -1,7 +1,6 @@
 // Chunk rows, joined as they are appended.
 use chunk::form;
 use chunk::form::Kind;
-ghost use mathlib.Core.Path.{_≡_};
 ghost use Prim.Native.Nat.{_+_, _≤_};
 ghost use Rattle.literal.specs.Rows.{Pushes};
 

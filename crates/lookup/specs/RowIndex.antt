@@ -14,7 +14,7 @@ use mathlib.Core.Path.{_≡_}
 use mathlib.Core.Bool.{Bool, true, false, _&&_}
 use mathlib.Core.List.{List}
 use mathlib.Core.Logic.{_⊎_}
-use lib.ListN.{length, getD, drop}
+use lib.ListN.{length, drop}
 use lib.Dec.{eqb, ltb, leb}
 use Rattle.row.specs.declared.form.Kind.the-variants.{DefinitionName}
 use Rattle.row.specs.Row.{Row}

@@ -9,7 +9,7 @@ use Rattle.row.specs.declared.form.Kind.{Kind}
 use Rattle.row.specs.declared.fault.Reason.the-variants.{ExpectedComma, ExpectedIdentifier}
 use Rattle.row.specs.Fault.{faultAt}
 use Rattle.raw.specs.Reader.{ok, bad}
-use Rattle.raw.specs.Grammar.{white, comment, fieldEnd, fields, commented}
+use Rattle.raw.specs.Grammar.{white, fieldEnd, fields, commented}
 
 -- from p up to q stands no closing brace
 pub data Unclosed (s : List ℕ) : ℕ → ℕ → Type 0 where

@@ -77,7 +77,7 @@ fn preamble(s: &[u8], base: usize, at: usize, rows: &mut [u32], n: usize) -> Ans
     let Step::At(p1) = r1 else {
         return value::refused(r1);
     };
-    form::put_row(rows, n, Kind::Preamble, base + at, base + p1);
+    form::put_row(rows, n, Kind::Preamble, base, at, p1);
     Answer::Next { at: p1, n: n + 1 }
 }
 
@@ -97,7 +97,7 @@ fn body(s: &[u8], base: usize, at: usize, rows: &mut [u32], n: usize) -> Answer
     let p4 = scanner::eat_whitespace(s, p3);
     let p5 = token::comment(s, p4);
     let p6 = scanner::eat_whitespace(s, p5);
-    form::put_row(rows, n, Kind::Key, base + at, base + p1);
+    form::put_row(rows, n, Kind::Key, base, at, p1);
     field::fields(s, base, p6, rows, n + 1, Kind::FieldName)
 }
 
@@ -140,12 +140,12 @@ fn rest(
             n,
         },
         Form::Other => {
-            form::put_row(rows, n + 1, Kind::EntryType, base + at, base + end);
+            form::put_row(rows, n + 1, Kind::EntryType, base, at, end);
             let r2 = body(s, base, p1, rows, n + 2);
             let Answer::Next { at: p2, n: n2 } = r2 else {
                 return r2;
             };
-            form::put_row(rows, n, Kind::Entry, base + start, base + p2);
+            form::put_row(rows, n, Kind::Entry, base, start, p2);
             Answer::Next { at: p2, n: n2 }
         }
     }
@@ -161,7 +161,7 @@ pub fn entry(s: &[u8], base: usize, at: usize, rows: &mut [u32], n: usize) -> An
     let Step::At(p1) = r1 else {
         return value::refused(r1);
     };
-    let r2 = token::ident(s, p1);
+    let r2 = token::name(s, p1, 0x7b);
     let Step::At(p2) = r2 else {
         return value::refused(r2);
     };

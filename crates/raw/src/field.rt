@@ -9,28 +9,11 @@ use row::fault::Reason;
 use row::form;
 use row::form::Kind;
 use text::scanner;
-ghost use mathlib.Core.Path.{_≡_};
 ghost use mathlib.Core.List.{List};
 ghost use Prim.Native.Nat.{ℕ};
 ghost use lib.ListN.{length};
-ghost use Rattle.raw.specs.Grammar.{ident, field, fieldEnd, fieldsTurn, fields};
-ghost use Rattle.raw.specs.Says.{stepOf, Onward, Says, Within, SaysTurn, WithinTurn, Ready};
-
-// Eat the name of a field: letters mostly, which a blank or an equals sign ends.
-fn name(s: &[u8], at: usize) -> Step
-    ensures { λ r. ⌜ (r ≡ stepOf (ident (now (s .entry)) at)) × Onward (length (now (s .entry))) 1 at r ⌝ }
-{
-    let end = scanner::eat_letters(s, at);
-    if at < end {
-        if end < s.len() {
-            let b = s[end];
-            if (b == 0x20) | (b == 0x3d) {
-                return Step::At(end);
-            }
-        }
-    }
-    token::ident(s, at)
-}
+ghost use Rattle.raw.specs.Grammar.{field, fieldEnd, fieldsTurn, fields};
+ghost use Rattle.raw.specs.Says.{Says, Within, SaysTurn, WithinTurn, Ready};
 
 // Eat a field: a row over its name, of the kind given, and its value's rows.
 fn field(s: &[u8], base: usize, at: usize, rows: &mut [u32], n: usize, kind: Kind) -> Answer
@@ -38,7 +21,7 @@ fn field(s: &[u8], base: usize, at: usize, rows: &mut [u32], n: usize, kind: Kin
     ensures says { λ r. ⌜ Says base (field kind (now (s .entry)) at) n (now (rows .entry)) r (now (rows .exit)) ⌝ }
     ensures within { λ r. ⌜ Within (length (now (s .entry))) 3 at n r ⌝ }
 {
-    let r1 = name(s, at);
+    let r1 = token::name(s, at, 0x3d);
     let Step::At(p1) = r1 else {
         return value::refused(r1);
     };
@@ -48,7 +31,7 @@ fn field(s: &[u8], base: usize, at: usize, rows: &mut [u32], n: usize, kind: Kin
         return value::refused(r3);
     };
     let p4 = scanner::eat_whitespace(s, p3);
-    form::put_row(rows, n, kind, base + at, base + p1);
+    form::put_row(rows, n, kind, base, at, p1);
     let r5 = value::abbr_field(s, base, p4, rows, n + 1);
     let Answer::Next { at: p5, n: n5 } = r5 else {
         return r5;

@@ -1,13 +1,13 @@
-// Tokens, after src/raw.rs: `comma`, `brace`, `quote`, `equals`, `comment`, `key`, `ident`. None puts a row.
+// Tokens, after src/raw.rs: `comma`, `brace`, `quote`, `equals`, `comment`, `key`, `ident`; and `name`, which is a quicker `ident`. None puts a row.
 use crate::answer::Step;
 use row::fault::Fault;
 use row::fault::Reason;
-use text::class::Test;
 use text::scanner;
 ghost use mathlib.Core.Path.{_≡_};
-ghost use mathlib.Core.Bool.{_||_};
+ghost use mathlib.Core.Bool.{false, _||_};
 ghost use Prim.Native.Nat.{_≤_, _<_, max};
 ghost use lib.ListN.{length};
+ghost use Rattle.text.specs.Class.{isIdContinue};
 ghost use Rattle.raw.specs.Grammar.{is, need, comma, atSign, opening, closing, quote, equals, comment, key, ident};
 ghost use Rattle.raw.specs.Says.{stepOf, Onward};
 
@@ -119,4 +119,21 @@ pub fn ident(s: &[u8], at: usize) -> Step
         });
     }
     Step::At(scanner::eat_id(s, next))
+}
+
+// Eat an identifier: the name of a field, or an entry's type. It is of letters mostly, and a blank ends it, or the byte that is named.
+pub fn name(s: &[u8], at: usize, ender: u8) -> Step
+    requires { ⌜ (ender < 128) × (isIdContinue ender ≡ false) ⌝ }
+    ensures { λ r. ⌜ (r ≡ stepOf (ident (now (s .entry)) at)) × Onward (length (now (s .entry))) 1 at r ⌝ }
+{
+    let end = scanner::eat_letters(s, at);
+    if at < end {
+        if end < s.len() {
+            let b = s[end];
+            if (b == 0x20) | (b == ender) {
+                return Step::At(end);
+            }
+        }
+    }
+    ident(s, at)
 }

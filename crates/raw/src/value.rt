@@ -183,7 +183,7 @@ fn literal(base: usize, from: usize, to: usize, closed: Step, rows: &mut [u32], 
     let Step::At(at) = closed else {
         return refused(closed);
     };
-    form::put_row(rows, n, Kind::Literal, base + from, base + to);
+    form::put_row(rows, n, Kind::Literal, base, from, to);
     Answer::Next { at, n: n + 1 }
 }
 
@@ -233,7 +233,7 @@ fn bare_element(s: &[u8], base: usize, at: usize, rows: &mut [u32], n: usize) ->
         let Step::At(p1) = r1 else {
             return refused(r1);
         };
-        form::put_row(rows, n, Kind::Literal, base + at, base + p1);
+        form::put_row(rows, n, Kind::Literal, base, at, p1);
         return Answer::Next { at: p1, n: n + 1 };
     }
     let start = scanner::eat_if(s, at, Test::IdStart);
@@ -242,7 +242,7 @@ fn bare_element(s: &[u8], base: usize, at: usize, rows: &mut [u32], n: usize) ->
         let Step::At(p2) = r2 else {
             return refused(r2);
         };
-        form::put_row(rows, n, Kind::Name, base + at, base + p2);
+        form::put_row(rows, n, Kind::Name, base, at, p2);
         return Answer::Next { at: p2, n: n + 1 };
     }
     Answer::Refused(Fault {
@@ -308,7 +308,7 @@ pub fn abbr_field(s: &[u8], base: usize, at: usize, rows: &mut [u32], n: usize) 
                 m = k;
             }
             Turn::Done { at: q, n: k } => {
-                form::put_row(rows, n, Kind::Value, base + at, base + q);
+                form::put_row(rows, n, Kind::Value, base, at, q);
                 return Answer::Next { at: q, n: k };
             }
             Turn::Refused(f) => {

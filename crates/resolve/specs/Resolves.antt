@@ -14,7 +14,6 @@ use Rattle.text.specs.Utf8.{validityOf}
 use Rattle.text.specs.declared.utf8.Validity.{Validity}
 use Rattle.text.specs.declared.utf8.Validity.the-variants as validity
 use Rattle.row.specs.declared.fault.Fault.{Fault}
-use Rattle.row.specs.declared.fault.Reason.{Reason}
 use Rattle.row.specs.declared.fault.Reason.the-variants.{TooLong, NotUtf8, NoRoom, BadRows}
 use Rattle.row.specs.Fault.{faultAt, nowhere}
 use Rattle.row.specs.Limits.{mostBytes}

@@ -1,7 +1,7 @@
 -- The proof of specs/Sequence.antt: `check`. A sequence of the grammar passes the check, part by part. Conversely, where rows pass, what
 -- the check awaits says what they are (`Rest`), and the grammar's sequence is put together from the last row to the first.
 -- Assumes nothing.
-use Prim.Native.Nat.{ℕ, _≤_}
+use Prim.Native.Nat.{ℕ}
 use native.Mathlib.Omega.{arith}
 use mathlib.Core.Path.{_≡_, refl, sym, ap, _∙_, subst}
 use mathlib.Core.Bool.{Bool, true, false, cond, _&&_, _||_}

@@ -1,7 +1,7 @@
 -- Each public contract allows one outcome only. This is said of the contract as the check reads it off the source, so that a contract
 -- which said less would fail here.
 -- Assumes nothing.
-use mathlib.Core.Path.{_≡_, sym, _∙_}
+use mathlib.Core.Path.{sym, _∙_}
 use Rattle.text.proofs.general.Outcomes.{One}
 use Rattle.row.proofs.fault.number.Kinds as number-kinds
 use Rattle.row.proofs.fault.number.Reads as number

@@ -5,7 +5,7 @@
 --     awaitOf, stateOf    the code's words for what may come next, and `Rules`' words
 -- Assumes nothing.
 use Prim.Native.Nat.{ℕ, _+_, _%_}
-use mathlib.Core.Bool.{Bool, true, false, cond, _&&_}
+use mathlib.Core.Bool.{Bool, cond, _&&_}
 use mathlib.Core.List.{List, [], _∷_}
 use lib.ListN.{length}
 use lib.Dec.{eqb}
@@ -17,7 +17,7 @@ use Rattle.row.specs.declared.check.Found.the-variants as found
 use Rattle.row.specs.declared.check.Checked.{Checked}
 use Rattle.row.specs.declared.check.Checked.the-variants as checked
 use Rattle.row.specs.Row.{Row}
-use Rattle.row.specs.Rules.{Await, part, type, key, value, chunk, chunks, cause, wrong, isKind, isDetail, whole, isRows}
+use Rattle.row.specs.Rules.{Await, part, type, key, value, chunk, chunks, cause, wrong, isKind, whole, isRows}
 
 -- numbers past the last whole row are left out
 unfoldable pub rowsOf : List ℕ → List Row

@@ -2,7 +2,7 @@
 -- of proofs/Sequence.antt. [01:Rows and their packing] "the sequence is made of: 1, 2, 3, then per field 4, 5 and at least one of 6
 -- or 7; 8, 5 and at least one of 6 or 7; 0 alone; 9 then 10. Detail is 0, but in kind 10 a number from 2 to 10."
 -- Assumes nothing.
-use Prim.Native.Nat.{ℕ, _≤_}
+use Prim.Native.Nat.{_≤_}
 use mathlib.Core.Path.{_≡_}
 use mathlib.Core.Logic.{_↔_}
 use mathlib.Core.Bool.{true}

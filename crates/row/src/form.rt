@@ -1,6 +1,6 @@
 // The row form: kind, detail, start, end, four numbers to a row in lent numbers.
 ghost use mathlib.Core.Path.{_≡_};
-ghost use Prim.Native.Nat.{_≤_};
+ghost use Prim.Native.Nat.{_+_, _≤_};
 ghost use Rattle.row.specs.Limits.{mostBytes};
 ghost use Rattle.row.specs.Row.{kindOf, rowOf, rowWith, row, putRow};
 
@@ -58,10 +58,10 @@ pub fn write_row(rows: &mut [u32], n: usize, kind: Kind, detail: u32, start: usi
     write_numbers(rows, n, kind_number(kind), detail, start as u32, end as u32)
 }
 
-// A row with detail 0.
-pub fn put_row(rows: &mut [u32], n: usize, kind: Kind, start: usize, end: usize)
-    requires { ⌜ (start ≤ mostBytes) × (end ≤ mostBytes) ⌝ }
-    ensures { λ _. ⌜ now (rows .exit) ≡ putRow (now (rows .entry)) n (row kind start end) ⌝ }
+// A row with detail 0, over a part of a text that stands base bytes into a file.
+pub fn put_row(rows: &mut [u32], n: usize, kind: Kind, base: usize, start: usize, end: usize)
+    requires { ⌜ (base + start ≤ mostBytes) × (base + end ≤ mostBytes) ⌝ }
+    ensures { λ _. ⌜ now (rows .exit) ≡ putRow (now (rows .entry)) n (row kind (base + start) (base + end)) ⌝ }
 {
-    write_row(rows, n, kind, 0, start, end)
+    write_row(rows, n, kind, 0, base + start, base + end)
 }

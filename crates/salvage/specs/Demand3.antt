@@ -20,7 +20,7 @@ use Rattle.row.specs.Limits.{mostBytes}
 use Rattle.raw.specs.Read.{strict}
 use Rattle.row.specs.Rules.{isRows, clean}
 use Rattle.raw.specs.Strict.{Rising}
-use Rattle.salvage.specs.Salvage.{head, newline, Texts, cut, damaged, told, pieces, salvageOf, Salvage}
+use Rattle.salvage.specs.Salvage.{head, newline, Texts, cut, told, pieces, salvageOf, Salvage}
 
 -- ---- the words
 

@@ -1,7 +1,6 @@
 -- The remark beside the salvage case of the edge table [01:Edge table]: "Strict reading accepts the salvage case, with key `@b{k` at 4..8". And a
 -- case of salvage whose cause lies inside a later piece. The proof of `Worked` is `worked` of proofs/Worked.antt.
 -- Assumes nothing.
-use Prim.Native.Nat.{ℕ}
 use mathlib.Core.Path.{_≡_}
 use mathlib.Core.List.{[], _∷_}
 use Rattle.text.specs.Strings.{utf8}

@@ -33,21 +33,20 @@ fn begins(s: &[u8], i: usize) -> bool
     s[i - 1] == 0x0a
 }
 
-// The end of the piece that begins at a place, if it is one of the next seven places; else the place itself. Bytes are looked at one by
-// one, which is quicker for a short piece than the blocks of `find`.
-fn near_end(s: &[u8], at: usize) -> usize
+// The length of the piece that begins at a place, if it is less than eight; else 0. Bytes are looked at one by one, which is quicker for a
+// short piece than the blocks of `find`.
+fn short_length(s: &[u8], at: usize) -> usize
     requires { ⌜ at + 8 ≤ length (now s) ⌝ }
-    ensures { λ r. ⌜ (at < r → Ends (now (s .entry)) at r) ⌝ }
+    ensures { λ r. ⌜ (0 < r → Ends (now (s .entry)) at (at + r)) ⌝ }
 {
     let mut k = 1;
     while k < 8 {
-        let i = at + k;
-        if begins(s, i) {
-            return i;
+        if begins(s, at + k) {
+            return k;
         }
         k += 1;
     }
-    at
+    0
 }
 
 // The end of the piece that begins at a place, however long: each "@" is found, and the byte before it tells.
@@ -74,9 +73,9 @@ pub fn piece_end(s: &[u8], at: usize) -> usize
     ensures { λ r. ⌜ Ends (now (s .entry)) at r ⌝ }
 {
     if 8 <= s.len() - at {
-        let e = near_end(s, at);
-        if at < e {
-            return e;
+        let k = short_length(s, at);
+        if 0 < k {
+            return at + k;
         }
     }
     far_end(s, at)
@@ -99,7 +98,7 @@ fn write_damage(w: &[u8], base: usize, rows: &mut [u32], fault: Fault)
     requires { ⌜ DamageToWrite (now w) base fault ⌝ }
     ensures { λ _. ⌜ now (rows .exit) ≡ overlay (now (rows .entry)) 0 (moved base (damaged (now (w .entry)) fault)) ⌝ }
 {
-    form::put_row(rows, 0, Kind::Damage, base, base + w.len());
+    form::put_row(rows, 0, Kind::Damage, base, 0, w.len());
     let from = fault.start;
     let to = fault.end;
     let reason = fault.reason;

@@ -1,10 +1,9 @@
 -- Classes of code points. For src/class.rt: `isWhitespace`, `isControl`, `holdsOf`.
 -- Assumes nothing.
-use Prim.Native.Nat.{ℕ, _-_, _/_, _%_, _^_, _<_}
-use mathlib.Core.Path.{_≡_}
-use mathlib.Core.Bool.{Bool, true, false, cond, not, _&&_, _||_}
+use Prim.Native.Nat.{ℕ}
+use mathlib.Core.Bool.{Bool, false, not, _&&_, _||_}
 use mathlib.Core.List.{List, [], _∷_}
-use lib.Dec.{eqb, ltb}
+use lib.Dec.{eqb}
 use Rattle.text.specs.Range.{Range, _–_, within, among}
 use Rattle.text.specs.declared.class.Test.{Test}
 use Rattle.text.specs.declared.class.Test.the-variants.{Whitespace, Key, IdStart, IdContinue, Digit, Comma, QuotationMark, Equals}

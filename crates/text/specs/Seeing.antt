@@ -40,6 +40,6 @@ pub record Seeing : Type 0 where
   pub skip-stop : (p : ℕ → Bool) (s : List ℕ) (i : ℕ) → i < length s → p (code (drop i s)) ≡ false → skip p s i ≡ i
   -- it never goes back, and not past the end
   pub skip-ahead : (p : ℕ → Bool) (s : List ℕ) (i : ℕ) → Ahead s i (skip p s i)
-  -- letters of ASCII before a space or "=" are a whole identifier
-  pub letters-id : {s : List ℕ} {i r : ℕ} → Letters s i r → i < r → r < length s → (eqb (getD s r 0) 0x20 || eqb (getD s r 0) 0x3D) ≡ true →
-      (i + 1 ≡ pastOne isIdStart i (see s i)) × (r ≡ skip isIdContinue s (i + 1))
+  -- letters of ASCII before a space, or before another byte that cannot be part of an identifier, are a whole one
+  pub letters-id : {s : List ℕ} {i r x : ℕ} → Letters s i r → i < r → r < length s → x < 0x80 → isIdContinue x ≡ false →
+      (eqb (getD s r 0) 0x20 || eqb (getD s r 0) x) ≡ true → (i + 1 ≡ pastOne isIdStart i (see s i)) × (r ≡ skip isIdContinue s (i + 1))

@@ -3,11 +3,9 @@
 // The loop over a block takes differences, minima and maxima only. No comparison decides in it, so the compiler works on the whole block at once.
 ghost use mathlib.Core.Path.{_≡_};
 ghost use mathlib.Core.Bool.{true, false};
-ghost use Prim.Native.Nat.{ℕ, _+_, _-_, _≤_, _<_, min, max};
-ghost use lib.ListN.{length, getD};
-ghost use Rattle.text.specs.Class.{isWhitespace};
-ghost use Rattle.text.specs.Scan.{skip, Ahead};
-ghost use Rattle.text.specs.Block.{setOf, inSet, apart, braces, quotes, others, solids, only, Clear, Found};
+ghost use Prim.Native.Nat.{_+_, _-_, _≤_, _<_, min, max};
+ghost use lib.ListN.{length};
+ghost use Rattle.text.specs.Block.{setOf, inSet, apart, braces, quotes, others, solids, Clear, Found};
 
 // The bytes from the first to the last, both included.
 pub struct Interval {

@@ -6,7 +6,7 @@ use crate::class::Test;
 use crate::utf8;
 use crate::utf8::Decoded;
 ghost use mathlib.Core.Path.{_≡_};
-ghost use Prim.Native.Nat.{ℕ, _+_, _-_, _≤_, _<_, min};
+ghost use Prim.Native.Nat.{_+_, _-_, _<_, min};
 ghost use lib.ListN.{length};
 ghost use Rattle.text.specs.Class.{isWhitespace, isKey, isIdStart, isIdContinue, holdsOf};
 ghost use Rattle.text.specs.Scan.{see, nextOf, pastOne, single, skip, fails, part, Ahead, Inside};

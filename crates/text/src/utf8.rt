@@ -3,10 +3,10 @@ use crate::block;
 ghost use mathlib.Core.Path.{_≡_};
 ghost use mathlib.Core.Bool.{true};
 ghost use mathlib.Core.List.{_∷_};
-ghost use Prim.Native.Nat.{ℕ, _+_, _-_, _%_, _≤_, _<_, max};
+ghost use Prim.Native.Nat.{_+_, _-_, _%_, _≤_, _<_, max};
 ghost use lib.ListN.{length, take, drop, replicate};
 ghost use Rattle.text.specs.Range.{within};
-ghost use Rattle.text.specs.Utf8.{tail, begins, width, sequenceLength, value, isScalar, octets, further, validityOf, decodeAt, Encode, isBoundary};
+ghost use Rattle.text.specs.Utf8.{tail, begins, width, sequenceLength, value, isScalar, further, validityOf, decodeAt, Encode, isBoundary};
 ghost use Rattle.text.specs.Inner.{seconds, goesSecond, WideAt};
 
 // Whether a text is valid, or where its first ill-formed sequence starts.

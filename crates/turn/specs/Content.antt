@@ -19,7 +19,7 @@ use Rattle.row.specs.declared.fault.Fault.{Fault}
 use Rattle.row.specs.declared.fault.Reason.{Reason}
 use Rattle.row.specs.declared.fault.Reason.the-variants.{UnexpectedEof, UnexpectedClosingBrace, TooDeep}
 use Rattle.row.specs.Fault.{faultAt}
-use Rattle.raw.specs.Reader.{OutOf, ok, again, bad, ReaderOf, andThen, eaten, stop, turn, refuse, _then_, when, sees, many}
+use Rattle.raw.specs.Reader.{OutOf, ok, again, bad, ReaderOf, stop, turn, refuse, _then_, when, sees, many}
 use Rattle.raw.specs.Grammar.{is, any}
 use Rattle.chunk.specs.declared.form.Kind.{Kind}
 use Rattle.chunk.specs.declared.form.Kind.the-variants.{Normal, Verbatim, Math}
@@ -27,7 +27,7 @@ use Rattle.chunk.specs.Chunk.{Chunk, chunk}
 use Rattle.chunk.specs.Format.{formatVerbatim, isEscapable}
 use Rattle.command.specs.Stack.{defaultChunk}
 use Rattle.command.specs.Commands.{isSingleCharFunc}
-use Rattle.command.specs.Execute.{Argument, absent, given, executeCommand}
+use Rattle.command.specs.Execute.{absent, given, executeCommand}
 
 -- ---- parts, and the chunks that come of them
 

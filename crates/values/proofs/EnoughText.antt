@@ -6,7 +6,7 @@ use native.Mathlib.Omega.{arith}
 use mathlib.Core.Path.{_≡_, refl, ap, sym, subst, _∙_}
 use mathlib.Core.Bool.{Bool, true, false, cond}
 use mathlib.Core.List.{List, [], _∷_, _++_}
-use lib.ListN.{length, take, drop, length-append, length-take}
+use lib.ListN.{length, drop, length-append, length-take}
 use lib.Dec.{ltb}
 use Rattle.text.specs.Scan.{part}
 use Rattle.row.specs.declared.form.Kind.the-variants.{Literal}

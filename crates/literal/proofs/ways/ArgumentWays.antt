@@ -5,26 +5,24 @@
 use Prim.Native.Nat.{ℕ, zero, suc, _+_, _-_, _*_, _≤_, _<_, max, min}
 use native.Mathlib.Omega.{arith}
 use mathlib.Core.Path.{_≡_, refl, sym, ap, ap₂, subst, _∙_}
-use mathlib.Core.Bool.{Bool, true, false}
+use mathlib.Core.Bool.{Bool, false}
 use mathlib.Core.List.{List, [], _∷_, _++_, append-assoc, append-nil}
 use lib.ListN.{length, take, drop, length-append}
 use lib.Seq.{take-take, take-append-seam, drop-append-seam, length-take-le}
 use Rattle.text.specs.Scan.{part}
 use Rattle.chunk.specs.declared.form.Kind.{Kind}
-use Rattle.chunk.specs.declared.form.Kind.the-variants.{Normal, Verbatim}
 use Rattle.chunk.specs.Chunk.{Chunk, chunk}
-use Rattle.chunk.specs.Format.{Written, formatOne, formatFrom, formatVerbatim, lines, whiteFrom}
+use Rattle.chunk.specs.Format.{formatOne, formatFrom, formatVerbatim, lines, whiteFrom}
 use Rattle.text.proofs.general.Parts.{drop-take, length-part}
 use Rattle.chunk.proofs.passes.ChunkByChunk.{format-on}
 use Rattle.command.specs.declared.meaning.Meaning.{Meaning}
 use Rattle.command.specs.Stack.{Lays, defaultChunk}
 use Rattle.command.specs.Commands.{meaningOf}
 use Rattle.command.specs.Execute.{given, leading, executed, executeCommand}
-use Rattle.command.proofs.stacks.LaysLaws.{lays-below}
 use Rattle.literal.specs.declared.rows.Rows.{Rows}
 use Rattle.literal.specs.declared.making.Making.{Making}
 use Rattle.turn.specs.Content.{Part, State, beginning, steps, pushed, closed, chunksOf}
-use Rattle.literal.specs.Inner.{Holds, Begun, Finished, Further, Closes, inArgument, wholeText}
+use Rattle.literal.specs.Inner.{Holds, Begun, Finished, Further, inArgument, wholeText}
 use Rattle.literal.proofs.ways.MakingWays.{held-text, held-below}
 
 pub begun : (name : List ℕ) (k : Meaning) (p : ℕ) (m : Making) (o : List ℕ) (rows : Rows) (r : ℕ) (o′ : List ℕ)

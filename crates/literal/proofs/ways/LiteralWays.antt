@@ -3,7 +3,7 @@
 --     parse-long, parse-refused, parse-chunks    the three ways through `parse`
 --     parse-ready, parse-fits, parse-grows       what `parse` owes to what it calls, and its bounds
 -- Assumes nothing.
-use Prim.Native.Nat.{ℕ, zero, suc, _+_, _*_, _≤_, _<_}
+use Prim.Native.Nat.{ℕ, _+_, _≤_, _<_}
 use native.Mathlib.Omega.{arith}
 use mathlib.Core.Path.{_≡_, refl, sym, ap, subst, _∙_}
 use mathlib.Core.Bool.{Bool, true, false, cond, not, _||_}
@@ -22,7 +22,7 @@ use Rattle.literal.specs.declared.making.Place.{Place}
 use Rattle.literal.specs.declared.content.Made.{Made}
 use Rattle.literal.specs.declared.content.Made.the-variants as made
 use Rattle.literal.specs.declared.parse.Parsed.the-variants as parsed
-use Rattle.turn.specs.Content.{Part, State, beginning, steps, pushed, closed, chunksOf, cut, contentBy, content, inside, flatten}
+use Rattle.turn.specs.Content.{Part, State, beginning, steps, pushed, closed, chunksOf, contentBy, content, inside, flatten}
 use Rattle.literal.specs.Literal.{Resolved, refused, mostArguments, chunkUp, resolvedOf, tooLong, resolveLiteral}
 use Rattle.literal.specs.Rows.{RowsHold, textsOf}
 use Rattle.literal.specs.Inner.{Holds, RowsHeld, Goes, Turned, Closed, standing, some, from, Says, Added, SaysParsed, Fits}

@@ -4,7 +4,7 @@
 --     argument-holds, literal-holds        the two ways through `turnaround`
 --     math-argument, math-literal          the two ways through `put_math`
 -- Assumes nothing.
-use Prim.Native.Nat.{ℕ, zero, suc, _+_, _-_, _≤_, _<_, min}
+use Prim.Native.Nat.{ℕ, zero, suc, _+_, _-_, _≤_, min}
 use native.Mathlib.Omega.{arith}
 use mathlib.Core.Path.{_≡_, refl, sym, ap, ap₂, subst, _∙_}
 use mathlib.Core.Bool.{Bool, true, false, cond}
@@ -15,7 +15,7 @@ use Rattle.text.specs.Scan.{part}
 use Rattle.chunk.specs.declared.form.Kind.{Kind}
 use Rattle.chunk.specs.declared.form.Kind.the-variants.{Verbatim, Math}
 use Rattle.chunk.specs.Chunk.{Chunk, chunk}
-use Rattle.chunk.specs.Format.{Written, formatOne, formatVerbatim, whiteFrom}
+use Rattle.chunk.specs.Format.{Written, formatOne, whiteFrom}
 use Rattle.text.proofs.general.Parts.{drop-take}
 use Rattle.chunk.proofs.passes.ChunkByChunk.{format-on, white-on}
 use Rattle.command.specs.Stack.{Lays, defaultChunk}
@@ -23,10 +23,10 @@ use Rattle.command.proofs.stacks.LaysLaws.{lays-on}
 use Rattle.literal.specs.declared.rows.Rows.{Rows}
 use Rattle.literal.specs.declared.making.Making.{Making}
 use Rattle.literal.specs.declared.making.Place.{Place}
-use Rattle.turn.specs.Content.{Part, cut, math, State, steps, flatten}
+use Rattle.turn.specs.Content.{cut, math, State, steps, flatten}
 use Rattle.literal.specs.Literal.{chunkUp}
 use Rattle.literal.specs.Rows.{RowsHold, textsOf, onto, Pushes}
-use Rattle.literal.specs.Inner.{Holds, Goes, RowsHeld, standing, some}
+use Rattle.literal.specs.Inner.{Holds, RowsHeld, standing, some}
 use Rattle.literal.proofs.Joining.{joining}
 use Rattle.literal.proofs.Flattening.{flattening}
 

@@ -1,20 +1,18 @@
 -- The ways through the functions of src/content.rt that take one turn, and what a turn of text leaves.
 -- Assumes nothing.
-use Prim.Native.Nat.{ℕ, zero, suc, _+_, _-_, _*_, _≤_, _<_}
+use Prim.Native.Nat.{ℕ, zero, suc, _+_, _-_, _≤_, _<_}
 use native.Mathlib.Omega.{arith}
 use native.Mathlib.Numerals.{add-one, sub-one}
 use mathlib.Core.Path.{_≡_, refl, sym, ap, subst, _∙_}
-use mathlib.Core.Bool.{Bool, true, false}
+use mathlib.Core.Bool.{Bool, false}
 use mathlib.Core.List.{List, [], _∷_, _++_, map, append-assoc, append-nil}
 use lib.ListN.{length, getD, take, length-append}
-use lib.Dec.{ltb}
 use borrow.Author.Tests.{lt-ltb, le-ltb}
 use Rattle.text.specs.Scan.{skip, fails, part}
 use Rattle.text.specs.declared.class.Test.the-variants as test
-use Rattle.row.specs.declared.fault.Fault.{Fault}
 use Rattle.row.specs.declared.fault.Reason.the-variants.{UnexpectedEof, UnexpectedClosingBrace}
 use Rattle.row.specs.Fault.{faultAt}
-use Rattle.raw.specs.Reader.{OutOf, ok, again, bad, more, andThen, turn}
+use Rattle.raw.specs.Reader.{again, more}
 use Rattle.chunk.specs.Chunk.{Chunk}
 use Rattle.command.specs.Stack.{Lays, defaultChunk}
 use Rattle.literal.specs.declared.rows.Rows.{Rows}
@@ -24,7 +22,7 @@ use Rattle.turn.specs.declared.turn.Text.{Text}
 use Rattle.turn.specs.declared.turn.Text.the-variants as text
 use Rattle.literal.specs.declared.content.Made.{Made}
 use Rattle.literal.specs.declared.content.Made.the-variants as made
-use Rattle.turn.specs.Content.{Part, put, cut, math, Reader, State, refusedByte, step, steps, maths, closing, contentTurn}
+use Rattle.turn.specs.Content.{put, cut, math, Reader, State, refusedByte, step, steps, maths, closing, contentTurn}
 use Rattle.literal.specs.Inner.{Holds, Goes, RowsHeld, standing, from, SaysSign, Onto, Turned, Calculated, Further, Ahead}
 use Rattle.turn.specs.Turns.{turns, concat, SaysText, Grows}
 use Rattle.turn.proofs.Turning.{turning}

@@ -1,13 +1,13 @@
 -- Bounds of the place that a reader answers. A refusal has no place, and keeps to any bounds.
 --     step-place, answer-place, again-place, done-place     the place that is answered lies in the text
 --     ahead-place                     a scan that begins in the text ends in it
---     file-place, place-fits          a place of the text is a place of the file, inside its limit and the code's numbers
+--     file-place                      a place of the text is a place of the file, inside its limit
 --     step-ahead                      its bounds where the reader may have begun past the end of the text
 --     onward-from, turn-later         bounds counted from an earlier place
 --     off-onward, off-answer, off-step, off-within          a refusal keeps to any bounds
 -- Assumes nothing.
-use Prim.Native.Nat.{ℕ, _+_, _*_, _^_, _≤_, _<_, max}
-use mathlib.Core.Path.{_≡_, refl, sym, ap, _∙_, subst}
+use Prim.Native.Nat.{ℕ, _+_, _*_, _≤_, max}
+use mathlib.Core.Path.{_≡_, sym, ap, _∙_, subst}
 use mathlib.Core.List.{List}
 use lib.ListN.{length}
 use native.Mathlib.Omega.{arith}
@@ -20,7 +20,7 @@ use Rattle.raw.specs.declared.answer.Answer.{Answer}
 use Rattle.raw.specs.declared.answer.Answer.the-variants as answer
 use Rattle.raw.specs.declared.answer.Turn.{Turn}
 use Rattle.raw.specs.declared.answer.Turn.the-variants as turn
-use Rattle.raw.specs.Reader.{Out, ok, again, bad}
+use Rattle.raw.specs.Reader.{Out, bad}
 use Rattle.raw.specs.Says.{stepOf, Onward, Within, WithinTurn, refusedOf, Says, Ready}
 use Rattle.raw.proofs.contracts.SaysLaws.{says-off, says-at}
 
@@ -29,9 +29,6 @@ ahead-place h a = omega arith
 
 pub file-place : {base len p n q : ℕ} → Ready base len p n → q ≤ len → base + q ≤ mostBytes
 file-place r h = omega arith
-
-pub place-fits : {n : ℕ} → n ≤ mostBytes → n < 2 ^ 64
-place-fits h = omega arith
 
 module _ (len w p : ℕ) where
   pub step-ahead : {r : Step} {q : ℕ} → r ≡ step.At q → Onward len w p r → (p + w ≤ q) × (q ≤ max p len)

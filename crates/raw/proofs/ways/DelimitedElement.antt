@@ -4,7 +4,7 @@
 use Prim.Native.Nat.{ℕ, _<_}
 use native.Mathlib.Omega.{arith}
 use mathlib.Core.Path.{_≡_, refl, _∙_}
-use mathlib.Core.Bool.{Bool, false}
+use mathlib.Core.Bool.{false}
 use mathlib.Core.List.{List}
 use lib.ListN.{length, getD}
 use Rattle.text.specs.Class.{whiteSpace, control, isWhitespace, isControl, isIdContinue, isIdStart, holdsOf}

@@ -1,6 +1,6 @@
 -- The ways through the readers of a field's value: `single_field`, `abbr_element` and `abbr_turn`.
 -- Assumes nothing.
-use Prim.Native.Nat.{ℕ, zero, suc, _+_, _≤_, _<_}
+use Prim.Native.Nat.{ℕ, _≤_, _<_}
 use mathlib.Core.Path.{_≡_, refl, sym, ap, _∙_, subst}
 use mathlib.Core.Bool.{Bool, true, false}
 use mathlib.Core.List.{List, []}
@@ -18,9 +18,9 @@ use Rattle.row.specs.Fault.{faultAt}
 use Rattle.raw.specs.declared.answer.Answer.the-variants as answer
 use Rattle.raw.specs.declared.answer.Turn.the-variants as turned
 use Rattle.row.specs.Row.{plain, row}
-use Rattle.raw.specs.Reader.{Out, ok, again, bad, andThen, under, eaten, after, many, sees, when, stop, turn, refuse, over, _then_}
+use Rattle.raw.specs.Reader.{Out, ok, again, bad, under, after, many, sees, turn, refuse, over, _then_}
 use Rattle.raw.specs.Inner.{Undelimited}
-use Rattle.raw.specs.Grammar.{is, any, white, number, numberTurn, ident, braced, stringLiteral, singleField, abbrElement, abbrTurn}
+use Rattle.raw.specs.Grammar.{is, white, number, numberTurn, ident, braced, stringLiteral, singleField, abbrElement, abbrTurn}
 use Rattle.raw.specs.Says.{Says, SaysTurn}
 use Rattle.raw.proofs.readers.Kept.{Advances}
 use Rattle.raw.proofs.readers.Loop.{many-turn}

@@ -1,10 +1,11 @@
 -- The ways through the functions of src/token.rt, by what the scanner answered.
 --     scan-on, white-on, comment-on, key-on       scans, white space, a comment and a key, which never refuse
---     key-told, comment-off, comment-line, ident-off, ident-line, ident-letters       the ways through `key`, `comment` and `ident`
+--     key-told, comment-off, comment-line, ident-off, ident-line, ident-letters       the ways through `key`, `comment`, `ident` and `name`
+--     equals-ends, brace-ends                     what `name` asks of the byte that ends it
 -- Assumes nothing.
 use Prim.Native.Nat.{ℕ, _+_, _≤_, _<_, max}
 use mathlib.Core.Path.{_≡_, refl, sym, ap, _∙_}
-use mathlib.Core.Bool.{Bool, true, _||_}
+use mathlib.Core.Bool.{Bool, true, false, _||_}
 use mathlib.Core.List.{List, []}
 use native.Mathlib.Omega.{arith}
 use lib.ListN.{length, getD}
@@ -74,9 +75,18 @@ module _ (s : List ℕ) (i : ℕ) where
         let name = eaten-on isIdStart s i (scan isIdContinue s) (bad (faultAt ExpectedIdentifier i)) e h in
         (sym (ap stepOf (name ∙ scan-on isIdContinue s r d)), (omega arith, omega arith))
 
-  -- an identifier of letters alone
-  pub ident-letters : {r : ℕ} → Letters s i r → i < r → r < length s → (eqb (getD s r 0) 0x20 || eqb (getD s r 0) 0x3D) ≡ true
-      → (step.At r ≡ stepOf (ident s i)) × Onward (length s) 1 i (step.At r)
-  ident-letters {r} a p q t =
-      let x = seeing .letters-id a p q t in
+  -- an identifier of letters alone, which a space ends, or a byte x that cannot be part of it
+  pub ident-letters : {r x : ℕ} → Letters s i r → i < r → r < length s → (x < 128) × (isIdContinue x ≡ false)
+      → (eqb (getD s r 0) 0x20 || eqb (getD s r 0) x) ≡ true → (step.At r ≡ stepOf (ident s i)) × Onward (length s) 1 i (step.At r)
+  ident-letters {r} a p q e t =
+      let x = seeing .letters-id a p q (e .0) (e .1) t in
       ident-line (x .0) (λ z. omega arith) (record { from = omega arith; to = omega arith }) (x .1) (record { from = omega arith; to = omega arith })
+
+-- "=" and "{" cannot be part of an identifier: what `name` asks
+pub equals-ends : (0x3D < 128) × (isIdContinue 0x3D ≡ false)
+unfolding isIdContinue
+equals-ends = (omega arith, refl)
+
+pub brace-ends : (0x7B < 128) × (isIdContinue 0x7B ≡ false)
+unfolding isIdContinue
+brace-ends = (omega arith, refl)

@@ -1,6 +1,6 @@
--- Where a piece ends: the ways through `begins`, `near_end` and `far_end`, over what their calls answered.
+-- Where a piece ends: the ways through `begins`, `short_length` and `far_end`, over what their calls answered.
 --     begins-not, begins-is               `begins`, by whether "@" stands there
---     near-found, near-on                 `near_end`: a piece begins at the place, or not
+--     short-found, short-on                 `short_length`: a piece begins at the place, or not
 --     found-last, found-head, found-on    `far_end`: no "@" is left; one stands after a newline; one stands elsewhere
 -- Assumes nothing.
 use Prim.Native.Nat.{ℕ, zero, suc, _+_, _-_, _≤_, _<_}
@@ -92,16 +92,16 @@ module _ (s : List ℕ) where
         let z = ap (λ (n : ℕ). newline (getD s (i - 1) 0) && head (drop n s)) (sym back) ∙ x in
         ends-on (i - 1) (omega arith) e z (subst (λ (n : ℕ). Ends s n e) back y)
 
-  -- ---- `near_end`
+  -- ---- `short_length`
 
   module _ (i : ℕ) (h : 0 < i) (l : i < length s) {b : Bool} (d : b ≡ Begun i) where
-    pub near-found : b ≡ true → Ends s (i - 1) i
-    near-found e =
+    pub short-found : b ≡ true → Ends s (i - 1) i
+    short-found e =
         let t = both-true (newline (getD s (i - 1) 0)) (head (drop i s)) (sym d ∙ e) in
         begun i h l (t .0) (t .1)
 
-    pub near-on : b ≡ false → (e : ℕ) → Ends s i e → Ends s (i - 1) e
-    near-on e = not-begun i h l (sym d ∙ e)
+    pub short-on : b ≡ false → (e : ℕ) → Ends s i e → Ends s (i - 1) e
+    short-on e = not-begun i h l (sym d ∙ e)
 
   -- ---- `far_end`
 

@@ -38,14 +38,11 @@ module _ (w : List ℕ) (base : ℕ) (b : List ℕ) {valid : Bool} (k : PieceToR
 -- ---- `write_damage`
 
 module _ (w : List ℕ) (base : ℕ) (b : List ℕ) (f : Fault) where
-  pub damage-put : {x y z d : ℕ} {b₁ b₂ : List ℕ}
-      → x ≡ length w + base → y ≡ f .start + base → z ≡ f .end + base → d ≡ numberOf (f .reason)
-      → b₁ ≡ putRow b 0 (row kind.Damage base x) → b₂ ≡ putRow b₁ 1 (rowWith kind.Cause d y z) → b₂ ≡ overlay b 0 (moved base (damaged w f))
+  pub damage-put : {v x y z d : ℕ} {b₁ b₂ : List ℕ}
+      → v ≡ 0 + base → x ≡ length w + base → y ≡ f .start + base → z ≡ f .end + base → d ≡ numberOf (f .reason)
+      → b₁ ≡ putRow b 0 (row kind.Damage v x) → b₂ ≡ putRow b₁ 1 (rowWith kind.Cause d y z) → b₂ ≡ overlay b 0 (moved base (damaged w f))
   unfolding overlay moved
-  damage-put g h i j p q =
-      let n : base ≡ 0 + base = omega arith in
-      let cause = rowWith kind.Cause (numberOf (f .reason)) (f .start + base) (f .end + base) in
-      q ∙ rw (p, g, h, i, j) (ap (λ (a : ℕ). putRow (putRow b 0 (row kind.Damage a (length w + base))) 1 cause) n)
+  damage-put e g h i j p q = q ∙ rw (p, e, g, h, i, j) refl
 
 -- ---- `read_piece`
 

@@ -1,7 +1,7 @@
 -- A fact about every number below a bound, from one test that the checker computes at each of them.
 --     each        where `below f n` computes to true, f passes at every number below n
 -- Assumes nothing.
-use mathlib.Core.Path.{_≡_, sym, subst}
+use mathlib.Core.Path.{sym, subst}
 use mathlib.Core.Bool.{Bool, true, false}
 use mathlib.Core.Logic.{⊎-elim}
 use Prim.Native.Nat.{ℕ, zero, suc, _<_}

@@ -14,7 +14,7 @@ use lib.Seq.{drop-cons}
 use mathlib.Core.Bool.{Bool, true, false, not, _&&_}
 use lib.ListN.{List·getD-eq-default}
 use lib.Dec.{eqb, leb, ltb}
-use borrow.Author.Tests.{eq-eqb, ne-eqb, eqb-true, eqb-false, le-leb, lt-leb, ltb-true, ltb-false}
+use borrow.Author.Tests.{eqb-true, eqb-false, le-leb, lt-leb, ltb-true, ltb-false}
 use Rattle.text.specs.Range.{within}
 use Rattle.text.specs.Scan.{part}
 use Rattle.text.specs.Utf8.{tail, gather, value, isBoundary}

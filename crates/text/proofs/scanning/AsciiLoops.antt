@@ -1,7 +1,8 @@
 -- The loops that go over bytes of ASCII by comparisons: `eat_whitespace`, `eat_gap`, `eat_id`, `eat_start`, `eat_letters`, `eat_key`.
 --     implied                                     where computing shows that p implies q below n, q passes wherever p does
 --     space-on, tab-on, solid-stop, gap-over      white space: a blank is passed, a solid byte stops the scan, a run of blanks is passed
---     letter-on, letter-start, id-stop            identifiers: a letter is passed, a letter begins one, a space or "=" ends one
+--     letter-on, letter-start                     identifiers: a letter is passed, a letter begins one
+--     id-stop, equals-ends                        a space ends one, and so does another byte that cannot be part of one, as "="
 --     letters-none, letters-more, letters-id      runs of letters: the empty one, one more letter, a run that is an identifier
 --     key-on, key-stop                            keys: a byte that is passed, and a byte that ends one
 -- Assumes nothing.
@@ -113,17 +114,22 @@ goes-on : Implies letterOf isIdContinue 128
 unfolding whiteSpace control isWhitespace isControl isIdContinue
 goes-on = tt
 
--- a space and "=", which end most identifiers, do not continue one
-ends : Implies (λ b. eqb b 0x20 || eqb b 0x3D) (λ b. not (isIdContinue b)) 128
+space-ends : isIdContinue 0x20 ≡ false
 unfolding whiteSpace control isWhitespace isControl isIdContinue
-ends = tt
+space-ends = refl
+
+pub equals-ends : isIdContinue 0x3D ≡ false
+unfolding whiteSpace control isWhitespace isControl isIdContinue
+equals-ends = refl
 
 module _ (s : List ℕ) (i : ℕ) (h : i < length s) where
-  pub id-stop : (eqb (getD s i 0) 0x20 || eqb (getD s i 0) 0x3D) ≡ true → skip isIdContinue s i ≡ i
-  id-stop t =
-      let a = one-of (getD s i 0) 0x20 0x3D (omega arith) (omega arith) t in
-      byte-stop isIdContinue s i h a {w = false}
-      (sym (not-true (isIdContinue (getD s i 0)) (implied (λ b. eqb b 0x20 || eqb b 0x3D) (λ b. not (isIdContinue b)) 128 ends (getD s i 0) a t))) refl
+  -- a space ends an identifier, and so does any byte x of ASCII that cannot be part of one
+  pub id-stop : (x : ℕ) → x < 0x80 → isIdContinue x ≡ false → (eqb (getD s i 0) 0x20 || eqb (getD s i 0) x) ≡ true → skip isIdContinue s i ≡ i
+  id-stop x p e t = byte-stop isIdContinue s i h (one-of (getD s i 0) 0x20 x (omega arith) p t) {w = false} (sym (go (eqb (getD s i 0) 0x20) refl)) refl
+    where
+      go : (u : Bool) → eqb (getD s i 0) 0x20 ≡ u → isIdContinue (getD s i 0) ≡ false
+      go true d = ap isIdContinue (eqb-true (getD s i 0) 0x20 d) ∙ space-ends
+      go false d = ap isIdContinue (eqb-true (getD s i 0) x (or-right (eqb (getD s i 0) 0x20) (eqb (getD s i 0) x) d t)) ∙ e
 
   pub letter-on : letterOf (getD s i 0) ≡ true → skip isIdContinue s i ≡ skip isIdContinue s (i + 1)
   letter-on e =
@@ -146,12 +152,12 @@ letters-more {s} {i} {j} a h e =
     go k p q true d = subst (λ (n : ℕ). letterOf (getD s n 0) ≡ true) (sym (eqb-true k j d)) e
     go k p q false d = a .letters k p (omega (arith, eqb-false k j d))
 
--- letters with a space or "=" behind them are a whole identifier
-pub letters-id : {s : List ℕ} {i r : ℕ} → Letters s i r → i < r → r < length s → (eqb (getD s r 0) 0x20 || eqb (getD s r 0) 0x3D) ≡ true →
-    (i + 1 ≡ pastOne isIdStart i (see s i)) × (r ≡ skip isIdContinue s (i + 1))
-letters-id {s} {i} {r} a l h t = (
+-- letters are a whole identifier where a space stands behind them, or another byte that cannot be part of one
+pub letters-id : {s : List ℕ} {i r x : ℕ} → Letters s i r → i < r → r < length s → x < 0x80 → isIdContinue x ≡ false →
+    (eqb (getD s r 0) 0x20 || eqb (getD s r 0) x) ≡ true → (i + 1 ≡ pastOne isIdStart i (see s i)) × (r ≡ skip isIdContinue s (i + 1))
+letters-id {s} {i} {r} {x} a l h p e t = (
   letter-start s i (omega arith) (a .letters i (omega arith) l) .0,
-  sym (skip-over isIdContinue s (omega arith) (omega arith) (λ k p q b. letter-on s k b (a .letters k (omega arith) q)) ∙ id-stop s r h t),
+  sym (skip-over isIdContinue s (omega arith) (omega arith) (λ k p q b. letter-on s k b (a .letters k (omega arith) q)) ∙ id-stop s r h x p e t),
 )
 
 -- ---- keys

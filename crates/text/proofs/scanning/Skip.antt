@@ -10,7 +10,7 @@
 --     passed, ran, bit-on, .. single-off      what the functions return: the place where the scan stops, and that it lies ahead
 -- Assumes nothing.
 use mathlib.Core.Path.{_≡_, refl, sym, ap, _∙_, subst}
-use mathlib.Core.Bool.{Bool, true, false, cond, not, Bool·beq}
+use mathlib.Core.Bool.{Bool, true, false, cond, Bool·beq}
 use mathlib.Core.List.{List, [], _∷_}
 use Prim.Native.Nat.{ℕ, zero, suc, _+_, _-_, _<_, _≤_, max}
 use native.Mathlib.Omega.{arith}
@@ -20,7 +20,7 @@ use lib.ListN.{length, getD, take, drop, length-drop}
 use lib.Seq.{length-take-le, getD-take}
 use lib.Dec.{eqb, ltb}
 use borrow.Author.Tests.{eq-eqb, ne-eqb, eqb-true, eqb-false, ltb-true, ltb-false, le-leb}
-use Rattle.text.specs.Walk.{Look, answer, pass, walkFrom, walk}
+use Rattle.text.specs.Walk.{answer, pass, walkFrom}
 use Rattle.text.specs.Range.{within}
 use Rattle.text.specs.Utf8.{tail, isChar, width, value, octets}
 use Rattle.text.specs.Class.{holdsOf}

@@ -4,16 +4,16 @@
 --     short-one, .. short-four        too little room for that many octets
 --     encode-one, .. encode-four      that many octets are written
 -- Assumes nothing.
-use mathlib.Core.Path.{_≡_, refl, sym, ap, _∙_, subst}
-use mathlib.Core.Bool.{Bool, true, false, cond, not, _&&_}
+use mathlib.Core.Path.{_≡_, refl, _∙_}
+use mathlib.Core.Bool.{true, false, not}
 use mathlib.Core.List.{List, [], _∷_, _++_}
-use Prim.Native.Nat.{ℕ, zero, suc, _+_, _-_, _*_, _/_, _%_, _<_, _≤_}
+use Prim.Native.Nat.{ℕ, _+_, _-_, _/_, _<_, _≤_}
 use native.Mathlib.Omega.{arith}
 use lib.ListN.{length, drop, set}
 use lib.Dec.{leb}
 use borrow.Author.Tests.{le-leb, lt-leb, leb-true}
 use Rattle.text.specs.Range.{_–_, within}
-use Rattle.text.specs.Utf8.{isScalar, further, octets, fits, Encode}
+use Rattle.text.specs.Utf8.{isScalar, further, octets, Encode}
 use Rattle.text.proofs.general.Tests.{both-true}
 use Rattle.text.specs.declared.utf8.Encoded.the-variants.{Wrote, NotScalar, NoRoom}
 

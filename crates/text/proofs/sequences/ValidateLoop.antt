@@ -2,22 +2,19 @@
 --     valid-on, valid-one      a sequence is passed; an octet of ASCII is passed
 --     valid-ascii, valid-stop  a run of ASCII is passed; the walk ends at any other octet
 -- Assumes nothing.
-use mathlib.Core.Path.{_≡_, refl, sym, ap, _∙_, subst}
-use mathlib.Core.Bool.{Bool, true, false, cond, _&&_}
+use mathlib.Core.Path.{_≡_, refl, sym, ap, _∙_}
 use mathlib.Core.List.{List}
-use mathlib.Core.Logic.{⊎-elim}
 use Prim.Native.Nat.{ℕ, zero, suc, _+_, _-_, _<_, _≤_}
 use native.Mathlib.Omega.{arith}
-use native.Mathlib.Nat.{not-suc-le-zero, eq-or-lt-of-le, add-zero, add-suc}
+use native.Mathlib.Nat.{add-zero, add-suc}
 use native.Mathlib.Numerals.{add-one}
 use lib.ListN.{length, getD, drop}
-use lib.Dec.{ltb, eqb}
-use borrow.Author.Tests.{ltb-true, ltb-false, eq-eqb, ne-eqb}
-use Rattle.text.specs.Walk.{Look, answer, pass, walk}
+use borrow.Author.Tests.{eq-eqb, ne-eqb}
+use Rattle.text.specs.Walk.{walk}
 use Rattle.text.specs.Utf8.{width, lookValid}
 use Rattle.text.specs.Block.{others, Clear}
 use Rattle.text.specs.declared.utf8.Validity.{Validity}
-use Rattle.text.specs.declared.utf8.Validity.the-variants.{Valid, IllFormed}
+use Rattle.text.specs.declared.utf8.Validity.the-variants.{IllFormed}
 use Rattle.text.proofs.sequences.Walk.{walk-pass, walk-answer}
 use Rattle.text.proofs.scanning.Blocks.{none-ascii}
 use Rattle.text.proofs.sequences.FirstOctet.{width-ascii}

@@ -6,28 +6,28 @@
 -- Assumes nothing.
 use Prim.Native.Nat.{ℕ, zero, suc, _+_, _≤_, _<_, max}
 use native.Mathlib.Omega.{arith}
-use mathlib.Core.Path.{_≡_, refl, sym, ap, subst, _∙_}
+use mathlib.Core.Path.{_≡_, refl, sym, ap, _∙_}
 use mathlib.Core.Bool.{Bool, true, false, cond, not, _&&_}
-use mathlib.Core.List.{List, [], _∷_, _++_}
-use lib.ListN.{length, take, drop, getD}
+use mathlib.Core.List.{List, [], _∷_}
+use lib.ListN.{length, take, drop}
 use lib.Dec.{eqb, ltb}
 use borrow.Author.Tests.{ltb-true}
 use Rattle.text.specs.Class.{isWhitespace, isIdContinue}
-use Rattle.text.specs.Scan.{see, nextOf, skip, fails, part, code, rest, Ahead}
+use Rattle.text.specs.Scan.{see, nextOf, skip, fails, part, code, rest}
 use Rattle.text.specs.declared.scanner.Seen.{Seen}
 use Rattle.text.specs.declared.scanner.Seen.the-variants.{End, Char}
 use Rattle.text.specs.declared.class.Test.the-variants as test
 use Rattle.text.proofs.Seeing.{seeing}
 use Rattle.row.specs.declared.fault.Reason.the-variants.{UnexpectedEof}
 use Rattle.row.specs.Fault.{faultAt}
-use Rattle.raw.specs.Reader.{OutOf, ok, again, bad, more, andThen, eaten, after, loop, many, turn, stop}
+use Rattle.raw.specs.Reader.{OutOf, ok, again, bad, more, andThen, eaten, after, loop, many, turn}
 use Rattle.raw.specs.Grammar.{is, any}
 use Rattle.raw.proofs.readers.Kept.{Advances}
 use Rattle.raw.proofs.readers.Loop.{advancing-turn}
 use Rattle.command.specs.Commands.{isSingleCharFunc}
 use Rattle.turn.specs.Content.{Part, put, cut, math, Reader, nameEnd, takesOne, opensAt, withName, command, braced, argumentEnd, endTurn, endsAt, ran}
 use Rattle.command.specs.Execute.{absent, executeCommand}
-use Rattle.turn.specs.Content.{backslash, backslashAt, isEscape, begins, maths, closing, turnaround, hyphens, copy, past, write, contentTurn}
+use Rattle.turn.specs.Content.{backslash, backslashAt, isEscape, begins, maths, closing, hyphens, copy, contentTurn}
 use Rattle.turn.specs.Turns.{turns, Ends}
 
 -- ---- what is seen

@@ -5,29 +5,28 @@
 --     turn-blank, turn-copy                   white space, and characters that stand for themselves
 --     slash-.., back-.., took-..              behind a backslash
 -- Assumes nothing.
-use Prim.Native.Nat.{ℕ, zero, suc, _+_, _-_, _≤_, _<_}
+use Prim.Native.Nat.{ℕ, suc, _+_, _-_, _≤_, _<_}
 use native.Mathlib.Omega.{arith}
-use mathlib.Core.Path.{_≡_, refl, sym, ap, subst, _∙_}
+use mathlib.Core.Path.{_≡_, refl, sym, ap, _∙_}
 use mathlib.Core.Bool.{Bool, true, false, cond, not, _&&_}
-use mathlib.Core.List.{List, [], _∷_, _++_}
+use mathlib.Core.List.{List, [], _∷_}
 use lib.ListN.{length, take, drop, getD}
 use lib.Dec.{eqb, ltb}
 use borrow.Author.Tests.{ne-eqb, ltb-true, ltb-false}
-use Rattle.text.specs.Class.{isWhitespace, isControl, mark, whiteSpace}
+use Rattle.text.specs.Class.{isWhitespace, whiteSpace}
 use Rattle.text.specs.Scan.{see, nextOf, skip, part, code, rest}
 use Rattle.text.specs.declared.scanner.Seen.{Seen}
 use Rattle.text.specs.declared.scanner.Seen.the-variants.{End, Char}
-use Rattle.text.specs.declared.class.Test.the-variants as test
 use Rattle.text.proofs.general.Places.{drop-next}
 use Rattle.text.proofs.Seeing.{seeing}
 use Rattle.row.specs.declared.fault.Fault.{Fault}
-use Rattle.row.specs.declared.fault.Reason.the-variants.{UnexpectedEof, UnexpectedClosingBrace}
+use Rattle.row.specs.declared.fault.Reason.the-variants.{UnexpectedEof}
 use Rattle.row.specs.Fault.{faultAt}
 use Rattle.raw.specs.Reader.{OutOf, ok, again, bad, more, andThen, after, turn}
 use Rattle.command.specs.Execute.{absent, given, executeCommand}
-use Rattle.turn.specs.Content.{Part, put, cut, math, Reader, refusedByte, nameEnd, takesOne, opensAt, withName, command, braced, argumentEnd}
-use Rattle.turn.specs.Content.{endsAt, ran, backslash, isEscape, begins, maths, closing, hyphens, contentTurn}
-use Rattle.turn.specs.Turns.{turns, opened, Behind}
+use Rattle.turn.specs.Content.{Part, put, cut, Reader, nameEnd, takesOne, opensAt, withName, command, braced, argumentEnd}
+use Rattle.turn.specs.Content.{ran, backslash, isEscape, begins, maths, closing, hyphens, contentTurn}
+use Rattle.turn.specs.Turns.{turns, opened}
 use Rattle.turn.proofs.contents.TurnsAdvance.{turns-on, char-parts}
 
 -- ---- characters of ASCII

@@ -4,8 +4,8 @@ use Prim.Native.Nat.{ℕ, zero, suc, _+_, _-_, _*_, _≤_, _<_, max}
 use native.Mathlib.Omega.{arith}
 use mathlib.Core.Path.{_≡_, refl, sym, ap, ap₂, subst, _∙_}
 use mathlib.Core.Bool.{Bool, true, false, cond, not, _&&_, _||_}
-use mathlib.Core.List.{List, [], _∷_, _++_}
-use lib.ListN.{length, take, drop, getD}
+use mathlib.Core.List.{List, [], _∷_}
+use lib.ListN.{length, getD}
 use lib.Dec.{eqb, ltb}
 use borrow.Author.Tests.{eqb-true, eqb-false, eq-eqb, ne-eqb, ltb-true, ltb-false}
 use Rattle.text.specs.Class.{isWhitespace, isControl}
@@ -28,7 +28,7 @@ use Rattle.command.proofs.stacks.LaysLaws.{lays-as, lays-over, both-second, bot
 use Rattle.turn.specs.Content.{Part, Reader, isEscape, begins, nameEnd, takesOne, opensAt, argumentEnd}
 use Rattle.turn.specs.declared.turn.Text.{Text}
 use Rattle.turn.specs.declared.turn.Text.the-variants as text
-use Rattle.turn.specs.Turns.{turns, opened, isSign, endsText, SaysText, Grows, Behind, Took, endOf, EndInside, Ordinary, Spans}
+use Rattle.turn.specs.Turns.{turns, opened, isSign, endsText, SaysText, Grows, Behind, Took, endOf, EndInside, Ordinary}
 use Rattle.turn.specs.Turns.{Ends}
 use Rattle.turn.proofs.contents.TurnsAdvance.{end-inside, opens-inside}
 use Rattle.turn.proofs.contents.TurnsSeen.{stopped, slash-end-verb, slash-end, slash-escape, slash-verb, took-one, took-none, took-endless, took-argument}

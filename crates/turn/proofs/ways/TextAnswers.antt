@@ -1,11 +1,11 @@
 -- What the functions of src/turn.rt answer, in the form of their proofs: the calls' answers in, `SaysText` and `GrowsText` out.
 -- Assumes nothing.
-use Prim.Native.Nat.{ℕ, suc, _+_, _-_, _*_, _≤_, _<_, max}
+use Prim.Native.Nat.{ℕ, _+_, _-_, _*_, _≤_, _<_}
 use native.Mathlib.Omega.{arith}
-use mathlib.Core.Path.{_≡_, refl, sym, ap, subst, _∙_}
-use mathlib.Core.Bool.{Bool, true, false, cond, not, _&&_}
-use mathlib.Core.List.{List, [], _∷_, _++_}
-use lib.ListN.{length, take, drop, getD}
+use mathlib.Core.Path.{_≡_, sym, subst, _∙_}
+use mathlib.Core.Bool.{Bool, true, false}
+use mathlib.Core.List.{List, [], _∷_}
+use lib.ListN.{length, getD}
 use Rattle.text.specs.Class.{isWhitespace, isControl}
 use Rattle.text.specs.Scan.{see, skip, part, Ahead}
 use Rattle.text.specs.declared.scanner.Seen.{Seen}
@@ -13,9 +13,8 @@ use Rattle.text.specs.declared.scanner.Seen.the-variants.{End, Char}
 use Rattle.text.specs.Scan.{Inside}
 use Rattle.text.proofs.Seeing.{seeing}
 use Rattle.command.specs.Stack.{Lays}
-use Rattle.command.proofs.stacks.LaysLaws.{lays-as, lays-on}
-use Rattle.turn.specs.Content.{Reader, begins}
-use Rattle.turn.specs.Turns.{Wrote, SaysText, Grows, Behind, Ordinary}
+use Rattle.command.proofs.stacks.LaysLaws.{lays-on}
+use Rattle.turn.specs.Turns.{SaysText, Grows, Behind, Ordinary}
 use Rattle.turn.specs.declared.turn.Text.the-variants as text
 use Rattle.turn.proofs.contents.TurnsAdvance.{white-on}
 use Rattle.turn.proofs.ways.TextTurns.{Turns, wrote-one, wrote-two}

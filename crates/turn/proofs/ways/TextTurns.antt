@@ -4,17 +4,17 @@
 --     runs-.., wrote-.., grows-on             many turns, one behind the other
 --     says-.., grows-..                       by what a function answers
 -- Assumes nothing.
-use Prim.Native.Nat.{ℕ, zero, suc, _+_, _-_, _*_, _≤_, _<_, max}
+use Prim.Native.Nat.{ℕ, _+_, _-_, _≤_, _<_, max}
 use native.Mathlib.Omega.{arith}
 use mathlib.Core.Path.{_≡_, refl, sym, ap, subst, _∙_}
 use mathlib.Core.Bool.{Bool, true, false, cond, not, _&&_}
 use mathlib.Core.List.{List, [], _∷_, _++_, map, append-assoc, append-nil, map-append}
 use lib.ListN.{length, take, drop, getD}
 use lib.Dec.{T, eqb, ltb}
-use borrow.Author.Tests.{ltb-true, eqb-true, eqb-false}
+use borrow.Author.Tests.{ltb-true}
 use Rattle.text.specs.Class.{isWhitespace, whiteSpace}
 use Rattle.text.specs.Scan.{see, skip, part, code, rest}
-use Rattle.text.specs.declared.scanner.Seen.the-variants.{End, Char}
+use Rattle.text.specs.declared.scanner.Seen.the-variants.{Char}
 use Rattle.text.proofs.general.Below.{each}
 use Rattle.raw.specs.Reader.{OutOf, ok, again, bad, more}
 use Rattle.text.proofs.Seeing.{seeing}

@@ -5,16 +5,16 @@
 --     skip-at                                    where a skip stops inside the text, the test fails
 --     end-off, end-open, end-close, end-found    `argument_end`
 -- Assumes nothing.
-use Prim.Native.Nat.{ℕ, zero, suc, _+_, _-_, _*_, _≤_, _<_, max}
+use Prim.Native.Nat.{ℕ, zero, suc, _+_, _-_, _≤_, _<_}
 use native.Mathlib.Omega.{arith}
 use native.Mathlib.Numerals.{sub-one}
 use mathlib.Core.Path.{_≡_, refl, sym, ap, subst, _∙_}
 use mathlib.Core.Bool.{Bool, true, false, cond, not, _&&_}
-use mathlib.Core.List.{List, [], _∷_, _++_}
-use lib.ListN.{length, take, drop, getD}
+use mathlib.Core.List.{List, [], _∷_}
+use lib.ListN.{length, drop, getD}
 use lib.Dec.{eqb, leb}
 use borrow.Author.Tests.{eqb-true, ne-eqb, leb-true, leb-false}
-use Rattle.text.specs.Class.{isWhitespace, isControl, whiteSpace, control, holdsOf}
+use Rattle.text.specs.Class.{isWhitespace, isControl, control, holdsOf}
 use Rattle.text.specs.Scan.{see, skip, fails, part, pastOne, single, code, rest}
 use Rattle.text.specs.declared.scanner.Seen.{Seen}
 use Rattle.text.specs.declared.scanner.Seen.the-variants.{End, Char}
@@ -29,7 +29,7 @@ use Rattle.raw.specs.Grammar.{is}
 use Rattle.raw.proofs.readers.Kept.{Advances}
 use Rattle.raw.proofs.readers.Loop.{advancing-turn}
 use Rattle.text.proofs.general.Parts.{part-head}
-use Rattle.turn.specs.Content.{Part, put, Reader, begins, hyphens, endTurn, argumentEnd, contentTurn}
+use Rattle.turn.specs.Content.{Part, put, begins, hyphens, endTurn}
 use Rattle.turn.specs.Turns.{Behind, Ordinary, endOf}
 use Rattle.turn.proofs.contents.TurnsAdvance.{end-sound}
 use Rattle.turn.proofs.contents.TurnsSeen.{at-byte, byte-of, turn-hyphens, turn-blank, turn-copy, Itself, slash-back}

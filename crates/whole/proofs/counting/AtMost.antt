@@ -6,12 +6,12 @@
 --     summed-none, summed-on, summed-end        `most_of`: the beginning, one literal more, and the end
 --     field-under                   a value comes to no more than its elements
 -- Assumes nothing.
-use Prim.Native.Nat.{ℕ, suc, _+_, _-_, _*_, _/_, _≤_, _<_, min}
+use Prim.Native.Nat.{ℕ, suc, _+_, _-_, _*_, _≤_, min}
 use native.Mathlib.Omega.{arith}
 use native.Mathlib.Numerals.{add-one}
 use mathlib.Core.Path.{_≡_, refl, sym, ap, subst, _∙_}
 use mathlib.Core.Bool.{Bool, true, false, cond, _||_}
-use mathlib.Core.List.{List, [], _∷_, _++_}
+use mathlib.Core.List.{List, [], _∷_}
 use lib.ListN.{length, drop, length-append, length-take}
 use lib.Dec.{leb, ltb}
 use borrow.Author.Tests.{leb-true, leb-false, ltb-false}
@@ -37,7 +37,6 @@ use Rattle.values.specs.declared.elements.Element.the-variants as element
 use Rattle.values.specs.Field.{behind, onward, walk, elements, ofRun, flattened, name, mostOpen, fieldOf}
 use Rattle.values.specs.Field as field
 use Rattle.values.specs.Uses.{firstElement}
-use Rattle.whole.specs.WholeFile.{chunksIn}
 use Rattle.whole.specs.Bounds.{Within, AtMost, Under}
 use Rattle.whole.proofs.counting.CountWays.{either-false}
 

@@ -19,14 +19,14 @@ use Rattle.literal.specs.Rows.{textsOf}
 use Rattle.lookup.specs.Names.{rowNo}
 use Rattle.resolve.specs.declared.progress.Went.{Went}
 use Rattle.resolve.specs.declared.progress.Went.the-variants as went
-use Rattle.resolve.specs.Resolves.{Value, resolved, refused, mostWritten}
+use Rattle.resolve.specs.Resolves.{Value, resolved, refused}
 use Rattle.resolve.specs.Checks.{Lent}
 use Rattle.resolve.specs.Progress.{Counted}
 use Rattle.values.specs.Field.{fieldOf}
 use Rattle.whole.specs.declared.file.Totals.{Totals}
-use Rattle.whole.specs.WholeFile.{isValueRow, flag, values, results, texts, countRows, fitsAll}
+use Rattle.whole.specs.WholeFile.{isValueRow, flag, values, results, fitsAll}
 use Rattle.whole.specs.Filing.{Bounded, CountsAll}
-use Rattle.whole.specs.Bounds.{AtMost, Under, CoversAll, CoversTo, CoversCounted, exactly, Covered}
+use Rattle.whole.specs.Bounds.{AtMost, CoversAll, CoversTo, CoversCounted, exactly, Covered}
 use Rattle.whole.proofs.values.Appended.{rows-one, text-more}
 use Rattle.whole.proofs.values.Fitting.{room-fits}
 use Rattle.whole.proofs.values.RowByRow.{valueOf, so-start, so-other, so-value, so-flag, so-end}

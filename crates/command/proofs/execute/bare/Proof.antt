@@ -3,8 +3,6 @@ use borrow.Author.Tests.{ne-eqb}
 use Rattle.command.specs.Execute.{bare}
 use Rattle.command.proofs.execute.bare.Statement.{statement}
 use Rattle.command.proofs.execute.bare.Tie as tie
-use Rattle.command.proofs.execute.bare.Reads as reads
-use Rattle.command.proofs.execute.bare.Lts as lts
 
 returns : tie.Need-returns
 unfolding bare

@@ -3,8 +3,6 @@ use borrow.Author.Tests.{ne-eqb}
 use Rattle.command.specs.Execute.{dotted}
 use Rattle.command.proofs.execute.dotted.Statement.{statement}
 use Rattle.command.proofs.execute.dotted.Tie as tie
-use Rattle.command.proofs.execute.dotted.Reads as reads
-use Rattle.command.proofs.execute.dotted.Lts as lts
 
 returns : tie.Need-returns
 unfolding dotted

@@ -1,22 +1,16 @@
 -- `command::execute::execute_bare` meets its contract. Assumes nothing.
 use native.Mathlib.Omega.{arith}
 use borrow.Author.Needs.{needs}
-use mathlib.Core.Path.{_≡_, refl, sym, ap, subst, _∙_}
-use mathlib.Core.List.{List, [], append-nil}
+use mathlib.Core.Path.{refl, sym, subst}
+use mathlib.Core.List.{[], append-nil}
 use Rattle.text.specs.Utf8.{octets, isScalar}
 use Rattle.text.specs.Scan.{part}
 use Rattle.command.proofs.stacks.LaysLaws.{lays-none, octets-three, octets-two}
-use Rattle.command.specs.declared.meaning.Meaning.the-variants.{Itself, Letter, Accent, Slash, Copyright, Hyphenation, Unknown}
+use Rattle.command.specs.declared.meaning.Meaning.the-variants.{Itself, Slash, Copyright, Hyphenation}
 use Rattle.command.specs.Execute.{Sane}
-use Rattle.command.proofs.ways.LastCharacterWays as edit
 use Rattle.command.proofs.ways.ExecuteWays as laws
 use Rattle.command.proofs.execute.execute_bare.Statement.{statement}
 use Rattle.command.proofs.execute.execute_bare.Tie as tie
-use Rattle.command.proofs.execute.execute_bare.Reads as reads
-use Rattle.command.proofs.execute.execute_bare.Lts as lts
-use Rattle.command.proofs.stack.put_code.Reads as put-code-reads
-use Rattle.command.proofs.stack.copy.Reads as copy-reads
-use Rattle.command.proofs.stack.push.Reads as push-reads
 
 put-code-requires : tie.Need-put-code-requires
 put-code-requires c κs =

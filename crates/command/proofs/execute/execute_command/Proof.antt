@@ -1,23 +1,16 @@
 -- `command::execute::execute_command` meets its contract. Assumes nothing.
 use native.Mathlib.Omega.{arith}
 use borrow.Author.Needs.{needs}
-use mathlib.Core.Path.{_≡_, refl, sym, ap, subst, _∙_}
-use mathlib.Core.List.{List, []}
-use Rattle.text.specs.Utf8.{octets, isScalar}
+use mathlib.Core.Path.{refl, subst}
+use mathlib.Core.List.{[]}
+use Rattle.text.specs.Utf8.{isScalar}
 use Rattle.text.specs.Scan.{part}
 use Rattle.command.proofs.stacks.LaysLaws.{lays-none, octets-three}
-use Rattle.command.specs.declared.meaning.Meaning.the-variants.{Itself, Letter, Accent, Slash, Copyright, Hyphenation, Unknown}
+use Rattle.command.specs.declared.meaning.Meaning.the-variants.{Itself, Slash, Hyphenation}
 use Rattle.command.specs.Execute.{Sane}
-use Rattle.command.proofs.ways.LastCharacterWays as edit
 use Rattle.command.proofs.ways.ExecuteWays as laws
 use Rattle.command.proofs.execute.execute_command.Statement.{statement}
 use Rattle.command.proofs.execute.execute_command.Tie as tie
-use Rattle.command.proofs.execute.execute_command.Reads as reads
-use Rattle.command.proofs.execute.execute_command.Lts as lts
-use Rattle.command.proofs.execute.last_char_combine.Reads as last-char-combine-reads
-use Rattle.command.proofs.stack.put_code.Reads as put-code-reads
-use Rattle.command.proofs.stack.copy.Reads as copy-reads
-use Rattle.command.proofs.stack.push.Reads as push-reads
 
 put-code-requires : tie.Need-put-code-requires
 put-code-requires c κs =

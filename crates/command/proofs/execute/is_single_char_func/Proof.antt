@@ -3,8 +3,6 @@ use Rattle.command.proofs.ways.SingleCharTests.{singles}
 use Rattle.command.specs.Commands.{isSingleCharFunc}
 use Rattle.command.proofs.execute.is_single_char_func.Statement.{statement}
 use Rattle.command.proofs.execute.is_single_char_func.Tie as tie
-use Rattle.command.proofs.execute.is_single_char_func.Reads as reads
-use Rattle.command.proofs.execute.is_single_char_func.Lts as lts
 
 returns : tie.Need-returns
 unfolding isSingleCharFunc

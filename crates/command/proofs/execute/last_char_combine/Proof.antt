@@ -1,23 +1,15 @@
 -- `command::execute::last_char_combine` meets its contract. Assumes nothing.
-use Prim.Native.Nat.{ℕ, _+_, _-_, _≤_, _<_}
+use Prim.Native.Nat.{_-_, _≤_}
 use native.Mathlib.Omega.{arith}
 use borrow.Author.Needs.{needs}
-use mathlib.Core.Path.{_≡_, refl, sym, ap, subst, _∙_}
-use lib.ListN.{length, take, drop}
+use mathlib.Core.Path.{sym, ap, _∙_}
+use lib.ListN.{length}
 use Rattle.text.specs.Utf8.{octets}
 use Rattle.command.proofs.stacks.LaysLaws.{lays-as, octets-two}
 use Rattle.chunk.proofs.texts.LastCharacter.{last-less}
 use Rattle.command.proofs.ways.LastCharacterWays as laws
 use Rattle.command.proofs.execute.last_char_combine.Statement.{statement}
 use Rattle.command.proofs.execute.last_char_combine.Tie as tie
-use Rattle.command.proofs.execute.last_char_combine.Reads as reads
-use Rattle.command.proofs.execute.last_char_combine.Lts as lts
-use Rattle.compose.proofs.find.Reads as find-reads
-use Rattle.chunk.proofs.ending.code_at.Reads as code-at-reads
-use Rattle.command.proofs.execute.bare.Reads as bare-reads
-use Rattle.command.proofs.execute.dotted.Reads as dotted-reads
-use Rattle.command.proofs.stack.put_code.Reads as put-code-reads
-use Rattle.chunk.proofs.ending.last_at.Reads as last-at-reads
 
 put-code-requires : tie.Need-put-code-requires
 put-code-requires c κs =

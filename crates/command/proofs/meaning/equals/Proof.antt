@@ -1,15 +1,12 @@
 -- `command::meaning::equals` meets its contract. Assumes nothing.
-use Prim.Native.Nat.{ℕ, _+_, _-_, _≤_, _<_}
+use Prim.Native.Nat.{ℕ, _+_, _-_}
 use borrow.Author.Needs.{needs}
-use mathlib.Core.Path.{_≡_, refl, sym, ap, _∙_}
+use mathlib.Core.Path.{sym, ap, _∙_}
 use Rattle.text.specs.Scan.{part}
-use Rattle.command.specs.Commands.{same, meaningOf}
+use Rattle.command.specs.Commands.{same}
 use Rattle.command.proofs.ways.MeaningRows as laws
 use Rattle.command.proofs.meaning.equals.Statement.{statement}
 use Rattle.command.proofs.meaning.equals.Tie as tie
-use Rattle.command.proofs.meaning.equals.Reads as reads
-use Rattle.command.proofs.meaning.equals.Lts as lts
-use Rattle.command.proofs.meaning.matches.Reads as matches-reads
 
 returns : tie.Need-returns
 returns c =

@@ -1,5 +1,5 @@
 -- `command::meaning::matches` meets its contract. Assumes nothing.
-use Prim.Native.Nat.{ℕ, _+_, _-_, _≤_}
+use Prim.Native.Nat.{_+_, _-_, _≤_}
 use native.Mathlib.Omega.{arith}
 use borrow.Author.Needs.{needs}
 use mathlib.Core.Path.{_≡_, sym, _∙_}
@@ -8,8 +8,6 @@ use Rattle.command.specs.Commands.{same}
 use Rattle.command.proofs.ways.MeaningRows as laws
 use Rattle.command.proofs.meaning.matches.Statement.{statement}
 use Rattle.command.proofs.meaning.matches.Tie as tie
-use Rattle.command.proofs.meaning.matches.Reads as reads
-use Rattle.command.proofs.meaning.matches.Lts as lts
 
 abbrev Inv-loop : tie.InvT-loop
 Inv-loop names i s a n k₀ k = (k ≤ n) × (same (part names i (i + n)) (part s a (a + n)) ≡ same (part names (i + k) (i + n)) (part s (a + k) (a + n)))

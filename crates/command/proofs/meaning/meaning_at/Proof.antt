@@ -5,9 +5,6 @@ use Rattle.command.specs.Names.{codeOf, decoded}
 use borrow.Author.Needs.{needs}
 use Rattle.command.proofs.meaning.meaning_at.Statement.{statement}
 use Rattle.command.proofs.meaning.meaning_at.Tie as tie
-use Rattle.command.proofs.meaning.meaning_at.Reads as reads
-use Rattle.command.proofs.meaning.meaning_at.Lts as lts
-use Rattle.command.proofs.meaning.code.Reads as code-reads
 
 returns : tie.Need-returns
 unfolding codeOf decoded

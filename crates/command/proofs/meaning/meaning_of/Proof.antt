@@ -1,20 +1,14 @@
 -- `command::meaning::meaning_of` meets its contract. Assumes nothing.
-use Prim.Native.Nat.{ℕ, _+_, _-_, _≤_, _<_}
+use Prim.Native.Nat.{_-_}
 use native.Mathlib.Omega.{arith}
 use borrow.Author.Needs.{needs}
-use mathlib.Core.Path.{_≡_, refl, sym, ap, _∙_}
-use lib.ListN.{length, getD}
+use mathlib.Core.Path.{refl, ap, _∙_}
+use lib.ListN.{length}
 use Rattle.text.specs.Scan.{part}
-use Rattle.command.specs.Commands.{same, meaningOf}
+use Rattle.command.specs.Commands.{meaningOf}
 use Rattle.command.proofs.ways.MeaningRows as laws
 use Rattle.command.proofs.meaning.meaning_of.Statement.{statement}
 use Rattle.command.proofs.meaning.meaning_of.Tie as tie
-use Rattle.command.proofs.meaning.meaning_of.Reads as reads
-use Rattle.command.proofs.meaning.meaning_of.Lts as lts
-use Rattle.command.proofs.meaning.equals.Reads as equals-reads
-use Rattle.command.proofs.meaning.meaning_at.Reads as meaning-at-reads
-use Rattle.command.proofs.meaning.meaning_one.Reads as meaning-one-reads
-use Rattle.command.proofs.meaning.wide.Reads as wide-reads
 
 abbrev Inv-loop : tie.InvT-loop
 Inv-loop names s a e n i₀ i = laws.Going names (part s a e) i

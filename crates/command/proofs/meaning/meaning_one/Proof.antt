@@ -7,8 +7,6 @@ use Rattle.command.specs.Commands.{commands, meaningIn, same}
 use Rattle.command.proofs.ways.MeaningRows as laws
 use Rattle.command.proofs.meaning.meaning_one.Statement.{statement}
 use Rattle.command.proofs.meaning.meaning_one.Tie as tie
-use Rattle.command.proofs.meaning.meaning_one.Reads as reads
-use Rattle.command.proofs.meaning.meaning_one.Lts as lts
 
 returns : tie.Need-returns
 unfolding meaningIn commands same utf8 octets laws.only

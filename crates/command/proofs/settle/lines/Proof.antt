@@ -1,18 +1,13 @@
 -- `command::settle::lines` meets its contract. Assumes nothing.
-use Prim.Native.Nat.{ℕ, _+_, _-_, _≤_, _<_}
+use Prim.Native.Nat.{ℕ, _-_}
 use native.Mathlib.Omega.{arith}
-use mathlib.Core.Path.{_≡_, refl, sym, ap, subst, _∙_}
-use mathlib.Core.Bool.{true, false}
+use mathlib.Core.Path.{_≡_, subst}
+use mathlib.Core.Bool.{true}
 use Rattle.text.specs.Scan.{part}
 use Rattle.chunk.specs.Inner.{stops}
 use Rattle.command.proofs.ways.SettleWays as laws
 use Rattle.command.proofs.settle.lines.Statement.{statement}
 use Rattle.command.proofs.settle.lines.Tie as tie
-use Rattle.command.proofs.settle.lines.Reads as reads
-use Rattle.command.proofs.settle.lines.Lts as lts
-use Rattle.chunk.proofs.ending.ends_white.Reads as ends-white-reads
-use Rattle.chunk.proofs.ending.line_end.Reads as line-end-reads
-use Rattle.command.proofs.settle.shift.Reads as shift-reads
 
 abbrev Inv-loop : tie.InvT-loop
 Inv-loop t₀ from to white w₀ i₀ j₀ t w i j = laws.Lining t₀ from to white t w i j

@@ -1,17 +1,13 @@
 -- `command::settle::settle` meets its contract. Assumes nothing.
 use native.Mathlib.Omega.{arith}
 use borrow.Author.Needs.{needs}
-use mathlib.Core.Path.{_≡_, refl, sym, ap, subst, _∙_}
+use mathlib.Core.Path.{ap, _∙_}
 use Rattle.text.specs.Scan.{part}
 use Rattle.chunk.specs.Format.{Written}
 use Rattle.command.proofs.stacks.LaysLaws.{lays-as, lays-still}
 use Rattle.command.proofs.ways.SettleWays as laws
 use Rattle.command.proofs.settle.settle.Statement.{statement}
 use Rattle.command.proofs.settle.settle.Tie as tie
-use Rattle.command.proofs.settle.settle.Reads as reads
-use Rattle.command.proofs.settle.settle.Lts as lts
-use Rattle.chunk.proofs.ending.ends_white.Reads as ends-white-reads
-use Rattle.command.proofs.settle.lines.Reads as lines-reads
 
 returns : tie.Need-returns
 returns c =

@@ -1,12 +1,10 @@
 -- `command::settle::shift` meets its contract. Assumes nothing.
-use Prim.Native.Nat.{ℕ, _+_, _-_, _≤_, _<_}
+use Prim.Native.Nat.{_-_, _≤_}
 use native.Mathlib.Omega.{arith}
-use mathlib.Core.Path.{_≡_, refl, sym, ap, _∙_}
+use mathlib.Core.Path.{refl}
 use Rattle.command.proofs.ways.SettleWays as laws
 use Rattle.command.proofs.settle.shift.Statement.{statement}
 use Rattle.command.proofs.settle.shift.Tie as tie
-use Rattle.command.proofs.settle.shift.Reads as reads
-use Rattle.command.proofs.settle.shift.Lts as lts
 
 abbrev Inv-loop : tie.InvT-loop
 Inv-loop t₀ from to at i₀ j₀ t i j = laws.Moving t₀ from at t i j × (i ≤ to)

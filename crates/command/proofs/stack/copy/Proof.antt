@@ -1,17 +1,15 @@
 -- `command::stack::copy` meets its contract. Assumes nothing.
-use Prim.Native.Nat.{ℕ, _+_, _-_, _≤_, _<_}
+use Prim.Native.Nat.{ℕ, _+_, _-_, _≤_}
 use native.Mathlib.Omega.{arith}
 use borrow.Author.Needs.{needs}
 use mathlib.Core.Path.{_≡_, refl, sym, ap, _∙_}
 use mathlib.Core.List.{List, _++_, append-nil}
-use lib.ListN.{length, take, replicate, length-set}
+use lib.ListN.{length, take, length-set}
 use Rattle.text.specs.Scan.{part}
 use Rattle.text.proofs.general.Parts.{part-none}
 use Rattle.command.proofs.stacks.LaysLaws as laws
 use Rattle.command.proofs.stack.copy.Statement.{statement}
 use Rattle.command.proofs.stack.copy.Tie as tie
-use Rattle.command.proofs.stack.copy.Reads as reads
-use Rattle.command.proofs.stack.copy.Lts as lts
 
 abbrev Inv-loop : tie.InvT-loop
 Inv-loop s from to out₀ at i₀ j₀ out i j = (from ≤ i) × (i ≤ to) × (j + from ≡ at + i) × (length out ≡ length out₀) ×

@@ -4,8 +4,6 @@ use Rattle.command.proofs.stacks.LaysLaws as laws
 use borrow.Author.Needs.{needs}
 use Rattle.command.proofs.stack.push.Statement.{statement}
 use Rattle.command.proofs.stack.push.Tie as tie
-use Rattle.command.proofs.stack.push.Reads as reads
-use Rattle.command.proofs.stack.push.Lts as lts
 
 returns : tie.Need-returns
 returns c = (laws.pushed (c .args .out .now) (c .args .at) (c .args .b) (c .pre), refl)

@@ -1,13 +1,10 @@
 -- `command::stack::put_code` meets its contract. Assumes nothing.
 use native.Mathlib.Omega.{arith}
-use mathlib.Core.Path.{_≡_, refl, sym, ap, _∙_}
+use mathlib.Core.Path.{ap}
 use Rattle.command.proofs.stacks.LaysLaws as laws
 use borrow.Author.Needs.{needs}
 use Rattle.command.proofs.stack.put_code.Statement.{statement}
 use Rattle.command.proofs.stack.put_code.Tie as tie
-use Rattle.command.proofs.stack.put_code.Reads as reads
-use Rattle.command.proofs.stack.put_code.Lts as lts
-use Rattle.text.proofs.utf8.encode.Reads as encode-reads
 
 add-result : tie.Need-add-result
 add-result c =

@@ -1,14 +1,12 @@
 -- `command::stack::wipe` meets its contract. Assumes nothing.
-use Prim.Native.Nat.{ℕ, _+_, _-_, _≤_, _<_}
+use Prim.Native.Nat.{_-_, _≤_}
 use native.Mathlib.Omega.{arith}
 use borrow.Author.Needs.{needs}
-use mathlib.Core.Path.{_≡_, refl, sym, ap, _∙_}
+use mathlib.Core.Path.{_≡_, _∙_}
 use lib.ListN.{length, take, replicate, length-set}
 use Rattle.command.proofs.stacks.LaysLaws as laws
 use Rattle.command.proofs.stack.wipe.Statement.{statement}
 use Rattle.command.proofs.stack.wipe.Tie as tie
-use Rattle.command.proofs.stack.wipe.Reads as reads
-use Rattle.command.proofs.stack.wipe.Lts as lts
 
 abbrev Inv-loop : tie.InvT-loop
 Inv-loop out₀ i₀ out i = (i ≤ length out) × (length out ≡ length out₀) × (take i out ≡ replicate i 0)

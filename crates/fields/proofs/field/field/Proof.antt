@@ -1,5 +1,4 @@
 -- `fields::field::field` meets its contract. Assumes nothing.
-use native.Mathlib.Omega.{arith}
 use mathlib.Core.Path.{refl}
 use mathlib.Core.Bool.{_&&_}
 use mathlib.Core.List.{[]}

@@ -1,9 +1,5 @@
 -- `literal::content::math` meets its contract. Assumes nothing.
-use Prim.Native.Nat.{ℕ, _+_, _*_, _≤_, _<_}
 use native.Mathlib.Omega.{arith}
-use mathlib.Core.Path.{_≡_, refl, sym, ap, _∙_}
-use mathlib.Core.Bool.{false}
-use lib.ListN.{length, getD}
 use borrow.Author.Needs.{needs}
 use Rattle.literal.proofs.ways.StepWays.{math-refused, math-again}
 use Rattle.literal.proofs.content.math.Statement.{statement}

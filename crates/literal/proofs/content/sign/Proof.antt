@@ -1,7 +1,6 @@
 -- `literal::content::sign` meets its contract. Assumes nothing.
-use Prim.Native.Nat.{ℕ, _+_, _-_, _*_, _≤_, _<_}
+use Prim.Native.Nat.{_+_, _-_}
 use native.Mathlib.Omega.{arith}
-use mathlib.Core.Path.{_≡_, sym, _∙_}
 use lib.ListN.{length, getD}
 use borrow.Author.Needs.{needs}
 use Rattle.turn.proofs.Turning.{turning}

@@ -1,6 +1,4 @@
 -- `literal::making::default_chunk` meets its contract. Assumes nothing.
-use Prim.Native.Nat.{ℕ, zero, suc}
-use mathlib.Core.Path.{_≡_, refl}
 use borrow.Author.Needs.{needs}
 use Rattle.literal.proofs.ways.MakingWays.{verbatim-some}
 use Rattle.literal.proofs.making.default_chunk.Statement.{statement}

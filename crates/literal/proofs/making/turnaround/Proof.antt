@@ -1,8 +1,6 @@
 -- `literal::making::turnaround` meets its contract. Assumes nothing.
-use Prim.Native.Nat.{ℕ, _+_, _≤_, _<_}
 use native.Mathlib.Omega.{arith}
-use mathlib.Core.Path.{_≡_, refl, sym, ap, _∙_}
-use lib.ListN.{length}
+use mathlib.Core.Path.{refl}
 use borrow.Author.Needs.{needs}
 use Rattle.literal.proofs.ways.MakingWays.{argument-holds, literal-holds}
 use Rattle.literal.proofs.making.turnaround.Statement.{statement}

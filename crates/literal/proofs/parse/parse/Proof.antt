@@ -1,6 +1,6 @@
 -- `literal::parse::parse` meets its contract. Assumes nothing.
 use native.Mathlib.Omega.{arith}
-use mathlib.Core.Path.{_≡_, refl, sym, subst, _∙_}
+use mathlib.Core.Path.{sym, subst}
 use lib.ListN.{length}
 use borrow.Author.Needs.{needs}
 use Rattle.literal.specs.Inner.{AheadMade}

@@ -1,5 +1,4 @@
 -- `literal::rows::push` meets its contract. Assumes nothing.
-use Prim.Native.Nat.{_+_, _≤_, _<_}
 use native.Mathlib.Omega.{arith}
 use Rattle.literal.proofs.ways.PushWays.{pushed-new, pushed-join, pushed-some}
 use borrow.Author.Needs.{needs}

@@ -5,8 +5,7 @@ use native.Mathlib.Omega.{arith}
 use mathlib.Core.Path.{_≡_, refl, sym, _∙_}
 use mathlib.Core.Bool.{Bool, true, false, true≢false}
 use mathlib.Core.Logic.{inl, inr}
-use Prim.Native.Nat.{_+_, _/_, _≤_}
-use lib.ListN.{length}
+use Prim.Native.Nat.{_+_, _≤_}
 use Rattle.lookup.proofs.links.TwoForms.{still-fits, built}
 use Rattle.lookup.proofs.index.build.Statement.{statement}
 use Rattle.lookup.proofs.index.build.Tie as tie

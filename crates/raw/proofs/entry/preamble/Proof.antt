@@ -15,15 +15,6 @@ returns c =
     let a = asked .args in
     preamble-off (a .s .now) (a .at) (string .string .ensures .0) (enum-told .enum-told .given .1) (c .refused .ensures)
 
-add-put-row-2 : tie.Need-add-put-row-2
-add-put-row-2 c =
-    let r1 = c .before .before in
-    let string = r1 .before .before in
-    let asked = string .before .before .before in
-    let a = asked .args in
-    let k = step-place (length (a .s .now)) 2 (a .at) (r1 .r1 .given .1) (string .string .ensures .1) (asked .pre .place) in
-    omega arith
-
 put-row-requires : tie.Need-put-row-requires
 put-row-requires c κs =
     let r1 = c .before .before in
@@ -51,8 +42,6 @@ preamble-spec =
     (λ c. search needs)
     (λ c κs. search needs)
     returns
-    (λ c. search needs)
-    add-put-row-2
     put-row-requires
     (λ c. search needs)
     (λ c. search needs)

@@ -4,7 +4,7 @@ use native.Mathlib.Omega.{arith}
 use lib.ListN.{length}
 use borrow.Author.Needs.{needs}
 use Rattle.raw.proofs.contracts.SaysLaws.{says-at}
-use Rattle.raw.proofs.contracts.Bounds.{file-place, place-fits, step-place, answer-place}
+use Rattle.raw.proofs.contracts.Bounds.{file-place, step-place, answer-place}
 use Rattle.raw.proofs.contracts.BoundsAfter.{within-later, ready-later}
 use Rattle.raw.proofs.ways.EntryWays.{rest-off, rest-strings, rest-preamble, rest-comment, rest-other-off, rest-other}
 use Rattle.raw.proofs.entry.rest.Statement.{statement}
@@ -52,18 +52,6 @@ returns-2 c =
 -- an entry begins in the text, as its type ends there
 start-place : {start at end len : ℕ} → start ≤ at → at ≤ end → end ≤ len → start ≤ len
 start-place h k l = omega arith
-
-add-put-row-5 : tie.Need-add-put-row-5
-add-put-row-5 c =
-    let r2 = c .before .before in
-    let body = r2 .before .before .before .before in
-    let r1 = body .before .before .before .before .before .before .before .before .before in
-    let lead = r1 .before .before in
-    let asked = lead .before .before .before in
-    let a = asked .args in
-    let k = step-place (length (a .s .now)) 1 (a .end) (r1 .r1 .given .1) (lead .lead .ensures .1) (asked .pre .0 .place) in
-    let q = answer-place (length (a .s .now)) 1 _ (a .n + 2) (r2 .r2 .given .1) (body .body .ensures .1) (k .1) in
-    record { fits = place-fits (file-place (asked .pre .0) (q .1)) }
 
 put-row-requires-2 : tie.Need-put-row-requires-2
 put-row-requires-2 c κs =
@@ -151,8 +139,6 @@ rest-spec =
     (λ c κs. search needs)
     (λ c. search needs)
     (λ c. search needs)
-    (λ c. search needs)
-    (λ c. search needs)
     (λ c κs. search needs)
     (λ c. search needs)
     body-requires
@@ -160,8 +146,6 @@ rest-spec =
     (λ c. search needs)
     (λ c. search needs)
     returns-2
-    (λ c. search needs)
-    add-put-row-5
     put-row-requires-2
     (λ c. search needs)
     returns-3

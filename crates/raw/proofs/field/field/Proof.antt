@@ -3,8 +3,9 @@ use Prim.Native.Nat.{_+_}
 use native.Mathlib.Omega.{arith}
 use lib.ListN.{length}
 use borrow.Author.Needs.{needs}
-use Rattle.raw.proofs.contracts.Bounds.{ahead-place, file-place, place-fits, step-place, answer-place, off-step, off-within}
+use Rattle.raw.proofs.contracts.Bounds.{ahead-place, file-place, step-place, answer-place, off-step, off-within}
 use Rattle.raw.proofs.contracts.BoundsAfter.{ready-later}
+use Rattle.raw.proofs.ways.TokenWays.{equals-ends}
 use Rattle.raw.proofs.ways.FieldWays.{name-off, equals-off, value-off, value-on, value-within}
 use Rattle.raw.proofs.field.field.Statement.{statement}
 use Rattle.raw.proofs.field.field.Tie as tie
@@ -30,15 +31,6 @@ returns-2 c =
     off-step (length (a .s .now)) 3 (a .at)
     (equals-off (a .kind) (a .s .now) (a .at) (name .name .ensures .0) (r1 .r1 .given .1) (eat-whitespace .eat-whitespace .ensures .0) (equals .equals .ensures .0)
     (enum-told2 .enum-told2 .given .1)) (enum-told2 .enum-told2 .given .1) (c .refused2 .ensures)
-
-add-put-row-2 : tie.Need-add-put-row-2
-add-put-row-2 c =
-    let r1 = c .before .before .before .before .before .before .before .before in
-    let name = r1 .before .before in
-    let asked = name .before .before .before in
-    let a = asked .args in
-    let k = step-place (length (a .s .now)) 1 (a .at) (r1 .r1 .given .1) (name .name .ensures .1) (asked .pre .place) in
-    record { fits = place-fits (file-place (asked .pre) (k .1)) }
 
 put-row-requires : tie.Need-put-row-requires
 put-row-requires c κs =
@@ -112,7 +104,7 @@ pub field-spec : {M : Type 1} → statement M
 field-spec =
     tie.close
     (tie.spec
-    (λ c κs. search needs)
+    (λ c κs. equals-ends)
     (λ c. search needs)
     (λ c. search needs)
     (λ c κs. search needs)
@@ -124,8 +116,6 @@ field-spec =
     (λ c κs. search needs)
     returns-2
     (λ c κs. search needs)
-    (λ c. search needs)
-    add-put-row-2
     put-row-requires
     (λ c. search needs)
     abbr-field-requires

@@ -66,24 +66,6 @@ loop-again c =
       loop-on abbrTurn (a .s .now) (l .loop .p) (λ a s p. refl) (l .loop .inv .4) (omega arith) (k .1) t,
     )
 
-add-put-row : tie.Need-add-put-row Inv-loop μ-loop
-add-put-row c =
-    let asked = c .before .before .before .before .before .before .before .before .before .before .before .pre in
-    let k = asked .file in
-    let h = asked .place in
-    omega arith
-
-add-put-row-2 : tie.Need-add-put-row-2 Inv-loop μ-loop
-add-put-row-2 c =
-    let q2 = c .before .before in
-    let abbr-turn = q2 .before .before .before .before in
-    let l = abbr-turn .before .before in
-    let asked = l .before .before .before in
-    let a = asked .args in
-    let len = length (a .s .now) in
-    let k = done-place len 1 (l .loop .p) (l .loop .m) 1 (q2 .q2 .given .1) (abbr-turn .abbr-turn .ensures .1) (l .loop .inv .1) in
-    omega (arith, asked .pre .file)
-
 put-row-requires : tie.Need-put-row-requires Inv-loop μ-loop
 put-row-requires c κs =
     let q2 = c .before .before in
@@ -146,8 +128,6 @@ abbr-field-spec =
     loop-less
     loop-again
     (λ c. search needs)
-    add-put-row
-    add-put-row-2
     put-row-requires
     same-length
     returns

@@ -27,16 +27,6 @@ returns c =
     (element-number (a .s .now) (a .at) (eat-if .eat-if .ensures .0) (if1 .if1 .taken) ∙ ap (under (row kind.Literal (a .at)))
     (rowless-off (number (a .s .now) (a .at)) (the-number .number .ensures .0) (enum-told .enum-told .given .1))) (enum-told .enum-told .given .1) (c .refused .ensures)
 
-add-put-row-2 : tie.Need-add-put-row-2
-add-put-row-2 c =
-    let r1 = c .before .before in
-    let number = r1 .before .before in
-    let asked = number .before .before .before .before .before in
-    let a = asked .args in
-    let len = length (a .s .now) in
-    let k = step-place len 0 (a .at) (r1 .r1 .given .1) (number .number .ensures .1) (asked .pre .0 .place) in
-    omega (arith, asked .pre .0 .file)
-
 put-row-requires : tie.Need-put-row-requires
 put-row-requires c κs =
     let r1 = c .before .before in
@@ -79,16 +69,6 @@ returns-3 c =
     off-step (length (a .s .now)) 1 (a .at)
     (element-name (a .s .now) (a .at) (eat-if .eat-if .ensures .0) (if1 .if1 .left) (eat-if2 .eat-if2 .ensures .0) (if2 .if2 .taken) ∙ ap (under (row kind.Name (a .at)))
     (rowless-off (ident (a .s .now) (a .at)) (the-ident .ident .ensures .0) (enum-told2 .enum-told2 .given .1))) (enum-told2 .enum-told2 .given .1) (c .refused2 .ensures)
-
-add-put-row-4 : tie.Need-add-put-row-4
-add-put-row-4 c =
-    let r2 = c .before .before in
-    let ident = r2 .before .before in
-    let asked = ident .before .before .before .before .before .before .before in
-    let a = asked .args in
-    let len = length (a .s .now) in
-    let k = step-place len 1 (a .at) (r2 .r2 .given .1) (ident .ident .ensures .1) (asked .pre .0 .place) in
-    omega (arith, asked .pre .0 .file)
 
 put-row-requires-2 : tie.Need-put-row-requires-2
 put-row-requires-2 c κs =
@@ -141,8 +121,6 @@ bare-element-spec =
     (λ c. search needs)
     (λ c κs. search needs)
     returns
-    (λ c. search needs)
-    add-put-row-2
     put-row-requires
     (λ c. search needs)
     (λ c. search needs)
@@ -153,8 +131,6 @@ bare-element-spec =
     (λ c. search needs)
     (λ c κs. search needs)
     returns-3
-    (λ c. search needs)
-    add-put-row-4
     put-row-requires-2
     (λ c. search needs)
     (λ c. search needs)

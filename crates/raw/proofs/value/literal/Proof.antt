@@ -15,12 +15,6 @@ returns c =
     let asked = c .before .before .before .before .args in
     says-at (sym (c .refused .ensures ∙ ap refusedOf told)) (says-off (ap (literalOf (asked .from) (asked .to)) told))
 
-add-put-row : tie.Need-add-put-row
-add-put-row c = let asked = c .before .before .before .before .before .pre in omega (arith, asked .1 .file)
-
-add-put-row-2 : tie.Need-add-put-row-2
-add-put-row-2 c = let asked = c .before .before .before .before .before .pre in omega (arith, asked .1 .file)
-
 put-row-requires : tie.Need-put-row-requires
 put-row-requires c κs =
     let asked = c .before .before .before .before .before .pre in
@@ -42,8 +36,6 @@ literal-spec =
     (λ c. search needs)
     (λ c κs. search needs)
     returns
-    add-put-row
-    add-put-row-2
     put-row-requires
     (λ c. search needs)
     (λ c. search needs)

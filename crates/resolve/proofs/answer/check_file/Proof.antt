@@ -1,5 +1,5 @@
 -- `resolve::answer::check_file` meets its contract. Assumes nothing.
-use mathlib.Core.Path.{_≡_, sym, _∙_}
+use mathlib.Core.Path.{sym, _∙_}
 use borrow.Author.Needs.{needs}
 use Rattle.text.specs.declared.utf8.Validity.the-variants as validity
 use Rattle.resolve.proofs.ways.AskedWays.{file-long, file-utf8}

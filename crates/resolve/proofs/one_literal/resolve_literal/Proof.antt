@@ -1,6 +1,6 @@
 -- `resolve::one_literal::resolve_literal` meets its contract. Assumes nothing.
 use Prim.Native.Nat.{ℕ}
-use mathlib.Core.Path.{_≡_, ap, _∙_}
+use mathlib.Core.Path.{ap, _∙_}
 use lib.ListN.{replicate}
 use borrow.Author.Needs.{needs}
 use Rattle.resolve.proofs.one_literal.resolve_literal.Statement.{statement}

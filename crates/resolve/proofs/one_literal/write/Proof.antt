@@ -1,11 +1,7 @@
 -- `resolve::one_literal::write` meets its contract. Assumes nothing.
-use Prim.Native.Nat.{_≤_}
 use native.Mathlib.Omega.{arith}
-use mathlib.Core.Path.{_≡_, sym, _∙_}
-use lib.ListN.{length}
 use borrow.Author.Needs.{needs}
 use Rattle.literal.specs.Literal.{resolveLiteral}
-use Rattle.literal.specs.Inner.{ReadyLiteral}
 use Rattle.resolve.proofs.ways.WriteWays.{write-few, write-room, write-refused, write-full, write-held, write-done}
 use Rattle.resolve.proofs.one_literal.write.Statement.{statement}
 use Rattle.resolve.proofs.one_literal.write.Tie as tie

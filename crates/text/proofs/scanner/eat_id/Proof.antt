@@ -8,7 +8,7 @@ use borrow.Author.Tests.{not-false}
 use Rattle.text.specs.Class.{isIdContinue, holdsOf}
 use Rattle.text.specs.Scan.{skip}
 use Rattle.text.proofs.scanning.Skip.{skip-end, ran}
-use Rattle.text.proofs.scanning.AsciiLoops.{letter-on, id-stop}
+use Rattle.text.proofs.scanning.AsciiLoops.{letter-on, id-stop, equals-ends}
 use Rattle.text.proofs.scanner.eat_id.Statement.{statement}
 use Rattle.text.proofs.scanner.eat_id.Tie as tie
 
@@ -30,7 +30,7 @@ returns c =
     let turn = test .before in
     let asked = turn .before .before in
     let a = asked .args in
-    ran isIdContinue (a .s .now) (a .at) (sym (turn .loop .inv ∙ id-stop (a .s .now) _ (test .loop-test .taken) (c .if2 .taken)))
+    ran isIdContinue (a .s .now) (a .at) (sym (turn .loop .inv ∙ id-stop (a .s .now) _ (test .loop-test .taken) 0x3D (omega arith) equals-ends (c .if2 .taken)))
 
 returns-2 : tie.Need-returns-2 Inv-loop μ-loop
 unfolding holdsOf

@@ -1,6 +1,6 @@
 -- `text::scanner::eat_start` meets its contract. Assumes nothing.
 use mathlib.Core.Path.{sym, _∙_}
-use Rattle.text.specs.Class.{isIdStart, holdsOf}
+use Rattle.text.specs.Class.{holdsOf}
 use Rattle.text.specs.declared.class.Test.the-variants.{IdStart}
 use Rattle.text.proofs.scanning.Skip.{bit-end}
 use Rattle.text.proofs.scanning.AsciiLoops.{letter-start}

@@ -1,10 +1,7 @@
 -- `text::utf8::is_two` meets its contract. Assumes nothing.
 use Prim.Native.Nat.{ℕ}
-use mathlib.Core.Bool.{_&&_}
 use mathlib.Core.Path.{_≡_, sym, _∙_}
 use native.Mathlib.Omega.{arith}
-use lib.Dec.{leb}
-use lib.ListN.{getD}
 use borrow.Author.Needs.{needs}
 use Rattle.text.proofs.sequences.FirstOctet.{width-two}
 use Rattle.text.proofs.general.Tests.{both-true}

@@ -1,10 +1,10 @@
 -- `turn::turn::argument_end` meets its contract. The invariant: the search from `i` on finds what the search from the start finds.
 -- Assumes nothing.
-use Prim.Native.Nat.{ℕ, suc, _+_, _-_, _≤_, _<_}
+use Prim.Native.Nat.{ℕ, _+_, _-_, _≤_}
 use native.Mathlib.Omega.{arith}
 use native.Mathlib.Numerals.{add-one}
 use mathlib.Core.Path.{_≡_, refl, sym, ap, _∙_}
-use lib.ListN.{length, getD}
+use lib.ListN.{length}
 use borrow.Author.Needs.{needs}
 use Rattle.raw.specs.Reader.{many}
 use Rattle.turn.specs.Content.{endTurn, argumentEnd}

@@ -1,13 +1,8 @@
 -- `turn::turn::backslash` meets its contract. Assumes nothing.
-use Prim.Native.Nat.{ℕ, _+_, _*_, _≤_, _<_}
 use native.Mathlib.Omega.{arith}
-use mathlib.Core.Path.{_≡_, refl, sym, ap, subst, _∙_}
-use mathlib.Core.Bool.{Bool, true, false, not, _&&_}
-use mathlib.Core.List.{List, _∷_, []}
-use lib.ListN.{length, getD}
-use lib.Dec.{eqb}
+use mathlib.Core.Path.{sym, _∙_}
+use mathlib.Core.Bool.{false}
 use borrow.Author.Needs.{needs}
-use borrow.Author.Tests.{not-true, not-false}
 use Rattle.turn.proofs.ways.TextTurns.{says-as}
 use Rattle.turn.proofs.ways.CommandAnswers.{ends-verb, ends-refused, char-next, escapes, stands, behind, begins-so}
 use Rattle.turn.proofs.turn.backslash.Statement.{statement}

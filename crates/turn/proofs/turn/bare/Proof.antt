@@ -1,13 +1,8 @@
 -- `turn::turn::bare` meets its contract. Assumes nothing.
-use Prim.Native.Nat.{ℕ, _+_, _*_, _≤_, _<_}
+use Prim.Native.Nat.{_+_}
 use native.Mathlib.Omega.{arith}
-use mathlib.Core.Path.{_≡_, refl, sym, ap, subst, _∙_}
-use mathlib.Core.Bool.{Bool, true, false, not, _&&_}
-use mathlib.Core.List.{List, _∷_, []}
-use lib.ListN.{length, getD}
-use lib.Dec.{eqb}
+use mathlib.Core.Path.{refl, sym, subst}
 use borrow.Author.Needs.{needs}
-use borrow.Author.Tests.{not-true, not-false}
 use Rattle.text.specs.Scan.{part}
 use Rattle.command.specs.Execute.{Sane}
 use Rattle.command.proofs.ways.ExecuteWays.{meaning-sane}

@@ -1,12 +1,9 @@
 -- `turn::turn::command` meets its contract. Assumes nothing.
-use Prim.Native.Nat.{ℕ, _+_, _*_, _≤_, _<_}
+use Prim.Native.Nat.{ℕ, _+_}
 use native.Mathlib.Omega.{arith}
-use mathlib.Core.Path.{_≡_, refl, sym, ap, subst, _∙_}
-use mathlib.Core.Bool.{Bool, true, false, not, _&&_}
-use mathlib.Core.List.{List, _∷_, []}
-use lib.ListN.{length, getD}
+use mathlib.Core.Path.{ap, subst}
+use lib.ListN.{length}
 use Rattle.turn.specs.Turns.{EndInside}
-use lib.Dec.{eqb}
 use borrow.Author.Needs.{needs}
 use borrow.Author.Tests.{not-true, not-false}
 use Rattle.turn.proofs.ways.CommandAnswers.{command-one, command-bare, brace-inside, brace-next, command-argument, command-endless, ends-by}

@@ -1,10 +1,9 @@
 -- `turn::turn::hyphens` meets its contract. Assumes nothing.
-use Prim.Native.Nat.{ℕ, _+_, _*_, _≤_, _<_}
+use Prim.Native.Nat.{_+_}
 use native.Mathlib.Omega.{arith}
-use mathlib.Core.Path.{_≡_, refl, sym, ap, _∙_}
+use mathlib.Core.Path.{refl}
 use mathlib.Core.Bool.{false}
 use mathlib.Core.List.{_∷_, []}
-use lib.ListN.{length, getD}
 use Rattle.text.specs.Utf8.{isScalar, octets}
 use Rattle.command.proofs.stacks.LaysLaws.{octets-three}
 use borrow.Author.Needs.{needs}

@@ -1,13 +1,7 @@
 -- `turn::turn::is_escape` meets its contract. Assumes nothing.
-use Prim.Native.Nat.{ℕ, _+_, _*_, _≤_, _<_}
-use native.Mathlib.Omega.{arith}
-use mathlib.Core.Path.{_≡_, refl, sym, ap, subst, _∙_}
-use mathlib.Core.Bool.{Bool, true, false, not, _&&_}
-use mathlib.Core.List.{List, _∷_, []}
-use lib.ListN.{length, getD}
+use mathlib.Core.Bool.{true}
 use lib.Dec.{eqb}
 use borrow.Author.Needs.{needs}
-use borrow.Author.Tests.{not-true, not-false}
 use Rattle.chunk.specs.Format.{isEscapable}
 use Rattle.turn.proofs.ways.TestChains.{escape-tests}
 use Rattle.turn.proofs.turn.is_escape.Statement.{statement}

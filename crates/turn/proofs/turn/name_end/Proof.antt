@@ -1,10 +1,7 @@
 -- `turn::turn::name_end` meets its contract. Assumes nothing.
 use native.Mathlib.Omega.{arith}
-use mathlib.Core.Path.{_≡_, refl, sym, ap, _∙_}
-use mathlib.Core.Bool.{Bool, cond}
+use mathlib.Core.Path.{refl, sym}
 use borrow.Author.Needs.{needs}
-use Rattle.text.specs.Class.{isIdContinue}
-use Rattle.text.specs.Scan.{skip}
 use Rattle.turn.proofs.turn.name_end.Statement.{statement}
 use Rattle.turn.proofs.turn.name_end.Tie as tie
 

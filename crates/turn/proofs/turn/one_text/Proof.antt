@@ -1,9 +1,7 @@
 -- `turn::turn::one_text` meets its contract. Assumes nothing.
-use Prim.Native.Nat.{ℕ, _+_, _*_, _≤_, _<_}
-use native.Mathlib.Omega.{arith}
-use mathlib.Core.Path.{_≡_, sym, _∙_}
+use mathlib.Core.Path.{sym}
 use mathlib.Core.Bool.{false}
-use lib.ListN.{length, getD}
+use lib.ListN.{getD}
 use borrow.Author.Needs.{needs}
 use Rattle.turn.proofs.ways.TextTurns.{wrote-as}
 use Rattle.turn.proofs.ways.CommandAnswers.{sign-tests, no-sign}

@@ -1,5 +1,5 @@
 -- `turn::turn::opens_at` meets its contract. Assumes nothing.
-use mathlib.Core.Path.{_≡_, refl, sym, _∙_}
+use mathlib.Core.Path.{refl, sym}
 use borrow.Author.Needs.{needs}
 use Rattle.turn.proofs.turn.opens_at.Statement.{statement}
 use Rattle.turn.proofs.turn.opens_at.Tie as tie

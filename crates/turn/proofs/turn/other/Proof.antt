@@ -1,8 +1,5 @@
 -- `turn::turn::other` meets its contract. Assumes nothing.
-use Prim.Native.Nat.{ℕ, _+_, _*_, _≤_, _<_}
 use native.Mathlib.Omega.{arith}
-use mathlib.Core.Path.{_≡_, refl, sym, ap, _∙_}
-use lib.ListN.{length, getD}
 use borrow.Author.Needs.{needs}
 use Rattle.turn.proofs.ways.TextAnswers as answers
 use Rattle.turn.proofs.turn.other.Statement.{statement}

@@ -1,8 +1,5 @@
 -- `turn::turn::past_rare` meets its contract. Assumes nothing.
-use Prim.Native.Nat.{ℕ, _+_, _≤_, _<_}
-use native.Mathlib.Omega.{arith}
-use mathlib.Core.Path.{_≡_, sym, _∙_}
-use lib.ListN.{length, getD}
+use mathlib.Core.Path.{sym, _∙_}
 use borrow.Author.Needs.{needs}
 use Rattle.turn.proofs.ways.TextTurns.{steps-none, steps-blank, steps-wide}
 use Rattle.turn.proofs.turn.past_rare.Statement.{statement}

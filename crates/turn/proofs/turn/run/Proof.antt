@@ -1,8 +1,8 @@
 -- `turn::turn::run` meets its contract. The invariant: every turn before `i` copies what stands there. Assumes nothing.
-use Prim.Native.Nat.{ℕ, _+_, _-_, _≤_, _<_}
+use Prim.Native.Nat.{_+_, _-_}
 use native.Mathlib.Omega.{arith}
-use mathlib.Core.Path.{_≡_, sym, ap, _∙_}
-use lib.ListN.{length, getD}
+use mathlib.Core.Path.{sym, _∙_}
+use lib.ListN.{length}
 use borrow.Author.Needs.{needs}
 use Rattle.turn.specs.Turns.{Runs}
 use Rattle.turn.proofs.ways.TextTurns.{runs-none, runs-on, plain-copies}

@@ -1,5 +1,5 @@
 -- `turn::turn::takes_one` meets its contract. Assumes nothing.
-use mathlib.Core.Path.{_≡_, refl, sym, _∙_}
+use mathlib.Core.Path.{refl}
 use borrow.Author.Needs.{needs}
 use Rattle.turn.proofs.turn.takes_one.Statement.{statement}
 use Rattle.turn.proofs.turn.takes_one.Tie as tie

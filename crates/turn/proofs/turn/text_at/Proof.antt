@@ -1,8 +1,7 @@
 -- `turn::turn::text_at` meets its contract. Assumes nothing.
-use Prim.Native.Nat.{ℕ, _+_, _*_, _≤_, _<_}
 use native.Mathlib.Omega.{arith}
-use mathlib.Core.Path.{_≡_, refl, sym, ap, _∙_}
-use lib.ListN.{length, getD}
+use mathlib.Core.Path.{refl}
+use lib.ListN.{length}
 use borrow.Author.Needs.{needs}
 use Rattle.turn.proofs.contents.TurnsSeen.{ended}
 use Rattle.turn.proofs.ways.TextTurns.{put-says, put-grows, wrote-on, grows-on}

@@ -1,8 +1,8 @@
 -- `turn::turn::texts` meets its contract. The invariant: the turns before `i` wrote text, which ends at `l`. Assumes nothing.
-use Prim.Native.Nat.{ℕ, _+_, _-_, _*_, _≤_, _<_}
+use Prim.Native.Nat.{_-_}
 use native.Mathlib.Omega.{arith}
-use mathlib.Core.Path.{_≡_, refl, sym, ap, _∙_}
-use lib.ListN.{length, getD}
+use mathlib.Core.Path.{_≡_, refl, sym, _∙_}
+use lib.ListN.{length}
 use borrow.Author.Needs.{needs}
 use Rattle.turn.specs.Turns.{Wrote, Grows}
 use Rattle.turn.proofs.ways.TextTurns.{wrote-none, wrote-more, grows-more, wrote-on, grows-on}

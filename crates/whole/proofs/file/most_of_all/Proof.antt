@@ -1,5 +1,5 @@
 -- `whole::file::most_of_all` meets its contract. Assumes nothing.
-use Prim.Native.Nat.{_-_, _/_, _≤_}
+use Prim.Native.Nat.{_-_, _/_}
 use native.Mathlib.Omega.{arith}
 use mathlib.Core.Path.{_≡_, refl, _∙_}
 use lib.ListN.{length}

@@ -1,8 +1,8 @@
--- `raw::field::name` meets its contract. Assumes nothing.
+-- `raw::token::name` meets its contract. Assumes nothing.
 use borrow.Author.Needs.{needs}
 use Rattle.raw.proofs.ways.TokenWays.{ident-letters}
-use Rattle.raw.proofs.field.name.Statement.{statement}
-use Rattle.raw.proofs.field.name.Tie as tie
+use Rattle.raw.proofs.token.name.Statement.{statement}
+use Rattle.raw.proofs.token.name.Tie as tie
 
 returns : tie.Need-returns
 returns c =
@@ -11,7 +11,7 @@ returns c =
     let eat-letters = if1 .before in
     let asked = eat-letters .before .before in
     let a = asked .args in
-    ident-letters (a .s .now) (a .at) (eat-letters .eat-letters .ensures) (if1 .if1 .taken) (if2 .if2 .taken) (c .if3 .taken)
+    ident-letters (a .s .now) (a .at) (eat-letters .eat-letters .ensures) (if1 .if1 .taken) (if2 .if2 .taken) (asked .pre) (c .if3 .taken)
 
 returns-2 : tie.Need-returns-2
 returns-2 c = c .ident .ensures

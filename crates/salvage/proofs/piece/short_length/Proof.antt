@@ -1,10 +1,10 @@
--- `salvage::piece::near_end` meets its contract: the bytes looked at so far belong to the piece from `at` on. Assumes nothing.
+-- `salvage::piece::short_length` meets its contract: the bytes looked at so far belong to the piece from `at` on. Assumes nothing.
 use Prim.Native.Nat.{ℕ, _+_, _-_, _≤_, _<_}
 use native.Mathlib.Omega.{arith}
 use Rattle.salvage.specs.Inner.{Ends}
-use Rattle.salvage.proofs.ways.PieceEnd.{near-found, near-on, ends-place}
-use Rattle.salvage.proofs.piece.near_end.Statement.{statement}
-use Rattle.salvage.proofs.piece.near_end.Tie as tie
+use Rattle.salvage.proofs.ways.PieceEnd.{short-found, short-on, ends-place}
+use Rattle.salvage.proofs.piece.short_length.Statement.{statement}
+use Rattle.salvage.proofs.piece.short_length.Tie as tie
 
 abbrev Inv-loop : tie.InvT-loop
 Inv-loop s at k₀ k = (0 < k) × (k ≤ 8) × ((e : ℕ) → Ends s (at + k - 1) e → Ends s at e)
@@ -15,8 +15,8 @@ abbrev μ-loop : tie.MeasureT-loop
 loop-holds : tie.Need-loop-holds Inv-loop μ-loop
 loop-holds c = let a = c .before .args in (omega arith, omega arith, λ e x. ends-place (a .s .now) e (a .at + 1 - 1) (a .at) (omega arith) x)
 
-add-i : tie.Need-add-i Inv-loop μ-loop
-add-i c = omega arith
+add-begins : tie.Need-add-begins Inv-loop μ-loop
+add-begins c = omega arith
 
 begins-requires : tie.Need-begins-requires Inv-loop μ-loop
 begins-requires c κs = (omega arith, omega arith)
@@ -26,7 +26,7 @@ returns c =
     let l = c .before .before .before in
     let a = l .before .before .args in
     let i = a .at + l .loop .k in
-    λ h. l .loop .inv .2 i (near-found (a .s .now) i (omega arith) (omega arith) (c .before .begins .ensures) (c .if1 .taken))
+    λ h. l .loop .inv .2 i (short-found (a .s .now) i (omega arith) (omega arith) (c .before .begins .ensures) (c .if1 .taken))
 
 add-k : tie.Need-add-k Inv-loop μ-loop
 add-k c = omega arith
@@ -44,21 +44,21 @@ loop-again c =
       omega arith,
       omega arith,
       λ e x. l .loop .inv .2 e
-          (near-on s i (omega arith) (omega arith) (begins .ensures) (c .if1 .left) e
+          (short-on s i (omega arith) (omega arith) (begins .ensures) (c .if1 .left) e
           (ends-place s e (a .at + (l .loop .k + 1) - 1) i (omega arith) x)),
     )
 
 returns-2 : tie.Need-returns-2 Inv-loop μ-loop
 returns-2 c = λ h. absurd (omega arith)
 
-pub near-end-spec : {M : Type 1} → statement M
-near-end-spec =
+pub short-length-spec : {M : Type 1} → statement M
+short-length-spec =
     tie.close
     (tie.spec
     Inv-loop
     μ-loop
     loop-holds
-    add-i
+    add-begins
     begins-requires
     returns
     add-k
