@@ -20,7 +20,8 @@ use Rattle.raw.specs.Read.{strict}
 use Rattle.chunk.specs.Format.{lastFrom, lines, formatFrom, isEscapable}
 use Rattle.compose.specs.Composites.{composites}
 use Rattle.compose.specs.Lookup.{lookup}
-use Rattle.command.specs.Commands.{isSingleCharFunc, commands, same, meaningIn}
+use Rattle.text.specs.Same.{sameBytes}
+use Rattle.command.specs.Commands.{isSingleCharFunc, commands, meaningIn}
 use Rattle.command.specs.Execute.{dotted, bare, executeCommand}
 use Rattle.turn.specs.Content.{steps, endTurn, argumentEnd, withName, command, backslash, maths, hyphens, contentTurn, contentBy, inside, flattenFrom}
 use Rattle.turn.specs.Content as content
@@ -41,7 +42,7 @@ unfolding
     grammar.braced ident singleField abbrElement abbrTurn abbrField comment field fieldEnd fieldsTurn fields key spells formOf lead rest atSign
     strings preamble commented body entry fileTurn file strict
     -- literals
-    composites lookup lastFrom lines formatFrom isEscapable flattenFrom isSingleCharFunc commands same meaningIn dotted bare executeCommand steps
+    composites lookup lastFrom lines formatFrom isEscapable flattenFrom isSingleCharFunc commands sameBytes meaningIn dotted bare executeCommand steps
     endTurn argumentEnd content.braced withName command backslash maths content.closing hyphens contentTurn contentBy inside resolveLiteral
     -- salvage and packing
     moved head cut pieces salvageOf isPackable areRows isRows run next every rowsOf packing digits table

@@ -11,7 +11,8 @@ use Rattle.row.specs.Rules.{next, run, isRows}
 use Rattle.row.specs.Numbers.{rowsOf, areRows}
 use Rattle.raw.specs.Reader.{loop, many}
 use Rattle.text.specs.Strings.{utf8}
-use Rattle.lookup.specs.Names.{sameBytes, isNamed, later, lastNamed}
+use Rattle.text.specs.Same.{sameBytes}
+use Rattle.lookup.specs.Names.{isNamed, later, lastNamed}
 use Rattle.turn.specs.Content.{steps, endTurn, braced, closing, contentTurn, contentBy, inside, flattenFrom}
 use Rattle.literal.specs.Literal.{resolveLiteral}
 use Rattle.resolve.specs.Resolves.{checkedFile}

@@ -11,7 +11,8 @@ use Rattle.text.specs.Strings.{utf8}
 use Rattle.chunk.specs.Format.{lastFrom, lines, formatFrom, isEscapable}
 use Rattle.compose.specs.Composites.{composites}
 use Rattle.compose.specs.Lookup.{lookup}
-use Rattle.command.specs.Commands.{isSingleCharFunc, commands, same, meaningIn}
+use Rattle.text.specs.Same.{sameBytes}
+use Rattle.command.specs.Commands.{isSingleCharFunc, commands, meaningIn}
 use Rattle.command.specs.Execute.{dotted, bare, executeCommand}
 use Rattle.turn.specs.Content.{steps, endTurn, argumentEnd, braced, withName, command, backslash, maths, closing, hyphens}
 use Rattle.turn.specs.Content.{contentTurn, contentBy, inside, flattenFrom}
@@ -21,13 +22,13 @@ use Rattle.cases.specs.LiteralCases.{table, LiteralCases, opened, closer
 pub literal-cases : LiteralCases
 unfolding walkFrom alternatives begins widthBy gather value octets whiteSpace control isWhitespace isControl isIdContinue holdsOf scan.code
     scan.rest seeFrom lookPast skip composites lookup loop many lastFrom lines formatFrom isEscapable flattenFrom utf8 isSingleCharFunc commands
-    same meaningIn dotted bare executeCommand steps endTurn argumentEnd braced withName command backslash maths closing hyphens contentTurn
+    sameBytes meaningIn dotted bare executeCommand steps endTurn argumentEnd braced withName command backslash maths closing hyphens contentTurn
     contentBy inside resolveLiteral table
 literal-cases = refl
 
 pub deep : Deep
 unfolding walkFrom alternatives begins widthBy gather value octets whiteSpace control isWhitespace isControl isIdContinue holdsOf scan.code
     scan.rest seeFrom lookPast skip composites lookup loop many lastFrom lines formatFrom isEscapable flattenFrom utf8 isSingleCharFunc commands
-    same meaningIn dotted bare executeCommand steps endTurn argumentEnd braced withName command backslash maths closing hyphens contentTurn
+    sameBytes meaningIn dotted bare executeCommand steps endTurn argumentEnd braced withName command backslash maths closing hyphens contentTurn
     contentBy inside resolveLiteral opened closers
 deep = record { sixty-four = refl; sixty-five = refl; left-open = refl }

@@ -4,11 +4,11 @@
 -- Assumes nothing.
 use Prim.Native.Nat.{ℕ}
 use Prim.Native.String.{String}
-use mathlib.Core.Bool.{Bool, true, false, cond, _&&_, _||_}
+use mathlib.Core.Bool.{Bool, cond, _&&_, _||_}
 use mathlib.Core.List.{List, [], _∷_}
-use lib.Dec.{eqb}
 use Rattle.text.specs.Class.{mark}
 use Rattle.text.specs.Strings.{utf8}
+use Rattle.text.specs.Same.{sameBytes}
 use Rattle.command.specs.declared.meaning.Meaning.{Meaning}
 use Rattle.command.specs.declared.meaning.Meaning.the-variants.{Itself, Letter, Accent, Slash, Copyright, Hyphenation, Unknown}
 
@@ -121,17 +121,10 @@ commands =
     "-" means Hyphenation ∷
     []
 
--- whether two texts have the same octets
-unfoldable pub same : List ℕ → List ℕ → Bool
-same [] [] = true
-same [] (b ∷ t) = false
-same (a ∷ s) [] = false
-same (a ∷ s) (b ∷ t) = eqb a b && same s t
-
 -- what the first row with this name says; a name that no row has is `Unknown`
 unfoldable pub meaningIn : List Named → List ℕ → Meaning
 meaningIn [] name = Unknown
-meaningIn (r ∷ rows) name = cond (same (utf8 (r .name)) name) (r .means) (meaningIn rows name)
+meaningIn (r ∷ rows) name = cond (sameBytes (utf8 (r .name)) name) (r .means) (meaningIn rows name)
 
 abbrev pub meaningOf : List ℕ → Meaning
 meaningOf name = meaningIn commands name

@@ -10,7 +10,8 @@ use lib.Dec.{eqb}
 use Rattle.command.specs.declared.meaning.Meaning.{Meaning}
 use Rattle.command.specs.declared.meaning.Meaning.the-variants.{Itself, Letter, Accent, Slash, Copyright, Hyphenation, Unknown}
 use Rattle.text.specs.Strings.{utf8}
-use Rattle.command.specs.Commands.{Named, same, commands}
+use Rattle.text.specs.Same.{sameBytes}
+use Rattle.command.specs.Commands.{Named, commands}
 
 -- a row of the constant
 pub record Row : Type 0 where
@@ -68,4 +69,4 @@ names = flat (rowsOf (long commands))
 -- what the first row with this name stands for
 unfoldable pub meaningBy : List Row → List ℕ → Meaning
 meaningBy [] name = Unknown
-meaningBy (r ∷ rs) name = cond (same (r .key) name) (decoded (codeOf (r .x) (r .y) (r .z))) (meaningBy rs name)
+meaningBy (r ∷ rs) name = cond (sameBytes (r .key) name) (decoded (codeOf (r .x) (r .y) (r .z))) (meaningBy rs name)

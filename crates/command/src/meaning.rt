@@ -4,7 +4,8 @@ ghost use mathlib.Core.List.{[], _∷_};
 ghost use Prim.Native.Nat.{_+_, _≤_};
 ghost use lib.ListN.{length};
 ghost use Rattle.text.specs.Scan.{part};
-ghost use Rattle.command.specs.Commands.{meaningOf, same};
+ghost use Rattle.text.specs.Same.{sameBytes};
+ghost use Rattle.command.specs.Commands.{meaningOf};
 ghost use Rattle.command.specs.Names.{codeOf, decoded, names as allNames};
 
 pub enum Meaning {
@@ -71,7 +72,7 @@ fn code(b: u8) -> u32
 // Whether the n bytes of the names from i on are those of s from a on.
 fn matches(names: &[u8], i: usize, s: &[u8], a: usize, n: usize) -> bool
     requires { ⌜ (i + n ≤ length (now names)) × (a + n ≤ length (now s)) ⌝ }
-    ensures { λ r. ⌜ r ≡ same (part (now (names .entry)) i (i + n)) (part (now (s .entry)) a (a + n)) ⌝ }
+    ensures { λ r. ⌜ r ≡ sameBytes (part (now (names .entry)) i (i + n)) (part (now (s .entry)) a (a + n)) ⌝ }
 {
     let mut k = 0;
     while k < n {
@@ -86,7 +87,7 @@ fn matches(names: &[u8], i: usize, s: &[u8], a: usize, n: usize) -> bool
 // Whether the m bytes of the names from i on are the n bytes of s from a on.
 fn equals(names: &[u8], i: usize, m: usize, s: &[u8], a: usize, n: usize) -> bool
     requires { ⌜ (i + m ≤ length (now names)) × (a + n ≤ length (now s)) ⌝ }
-    ensures { λ r. ⌜ r ≡ same (part (now (names .entry)) i (i + m)) (part (now (s .entry)) a (a + n)) ⌝ }
+    ensures { λ r. ⌜ r ≡ sameBytes (part (now (names .entry)) i (i + m)) (part (now (s .entry)) a (a + n)) ⌝ }
 {
     if m != n {
         return false;

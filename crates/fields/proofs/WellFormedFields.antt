@@ -24,7 +24,8 @@ use Rattle.row.specs.Rules.{isKind}
 use Rattle.row.specs.Numbers.{rowsOf, areRows}
 use Rattle.lookup.specs.declared.plain.Found.{Found}
 use Rattle.lookup.specs.declared.plain.Found.the-variants as found
-use Rattle.lookup.specs.Names.{sameBytes, lastNamed}
+use Rattle.text.specs.Same.{sameBytes}
+use Rattle.lookup.specs.Names.{lastNamed}
 use Rattle.chunk.specs.Chunk.{Chunk}
 use Rattle.chunk.specs.declared.answer.Checked.{Checked}
 use Rattle.chunk.specs.declared.answer.Checked.the-variants as checked

@@ -2,7 +2,8 @@
 -- Assumes nothing.
 use mathlib.Core.Path.{refl}
 use Rattle.lookup.specs.Fnv.{hashFrom}
-use Rattle.lookup.specs.Names.{sameBytes, isNamed, later, lastNamed}
+use Rattle.text.specs.Same.{sameBytes}
+use Rattle.lookup.specs.Names.{isNamed, later, lastNamed}
 use Rattle.lookup.specs.RowIndex.{counts}
 use Rattle.lookup.specs.Worked.{Worked}
 

@@ -1,28 +1,21 @@
 -- Which definition row has a name [01:Resolving and writing]: "the last definition of a name counts, names compared byte by byte". No index
 -- is in it.
---     sameBytes       two texts have the same bytes
 --     nameOf          the bytes of a row's span, as far as the file goes
 --     isNamed         the row is a definition of the name
 --     lastNamed       the number, from 0, of the last such row
 --     rowNo           row i
 -- Assumes nothing.
 use Prim.Native.Nat.{ℕ, suc}
-use mathlib.Core.Bool.{Bool, true, false, cond, _&&_}
+use mathlib.Core.Bool.{Bool, cond, _&&_}
 use mathlib.Core.List.{List, [], _∷_}
 use lib.ListN.{getD}
-use lib.Dec.{eqb}
 use Rattle.text.specs.Scan.{part}
+use Rattle.text.specs.Same.{sameBytes}
 use Rattle.row.specs.declared.form.Kind.the-variants.{DefinitionName}
 use Rattle.row.specs.Row.{Row, rowOf}
 use Rattle.row.specs.Rules.{isKind}
 use Rattle.lookup.specs.declared.plain.Found.{Found}
 use Rattle.lookup.specs.declared.plain.Found.the-variants as found
-
-unfoldable pub sameBytes : List ℕ → List ℕ → Bool
-sameBytes [] [] = true
-sameBytes [] (b ∷ t) = false
-sameBytes (a ∷ s) [] = false
-sameBytes (a ∷ s) (b ∷ t) = eqb a b && sameBytes s t
 
 abbrev pub nameOf : List ℕ → Row → List ℕ
 nameOf file r = part file (r .start) (r .end)

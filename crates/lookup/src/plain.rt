@@ -4,7 +4,8 @@ ghost use mathlib.Core.Path.{_≡_};
 ghost use Prim.Native.Nat.{_/_, _<_};
 ghost use lib.ListN.{length};
 ghost use Rattle.row.specs.Numbers.{rowsOf};
-ghost use Rattle.lookup.specs.Names.{sameBytes, isNamed, rowNo, lastNamed};
+ghost use Rattle.text.specs.Same.{sameBytes};
+ghost use Rattle.lookup.specs.Names.{isNamed, rowNo, lastNamed};
 
 pub enum Found {
     Row(usize),

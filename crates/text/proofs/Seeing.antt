@@ -5,6 +5,7 @@ use Rattle.text.specs.Seeing.{Seeing}
 use Rattle.text.proofs.scanning.Seen as seen
 use Rattle.text.proofs.scanning.LongerText as longer
 use Rattle.text.proofs.scanning.Skip as skip
+use Rattle.text.proofs.scanning.Characters as characters
 use Rattle.text.proofs.scanning.AsciiLoops as loops
 
 pub seeing : Seeing
@@ -22,5 +23,12 @@ seeing = record {
   skip-on = skip.skip-on;
   skip-stop = skip.skip-stop;
   skip-ahead = skip.skip-ahead;
+  char-parts = characters.char-parts;
+  next-inside = characters.next-inside;
+  at-byte = characters.at-byte;
+  byte-of = characters.byte-of;
+  white-on = characters.white-on;
+  skip-inside = characters.skip-inside;
+  skip-at = characters.skip-at;
   letters-id = loops.letters-id;
 }

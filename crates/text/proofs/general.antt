@@ -8,5 +8,7 @@ pub mod Below
 pub mod Places
 -- a part of a text, from one place to another
 pub mod Parts
+-- texts compared byte by byte
+pub mod Same
 -- what it means that a contract allows one outcome only
 pub mod Outcomes

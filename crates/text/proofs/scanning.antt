@@ -8,6 +8,8 @@ pub mod Seen
 pub mod LongerText
 -- how far a scanner goes, character by character and, where only ASCII decides, byte by byte
 pub mod Skip
+-- a character that is seen, and where a scan stops
+pub mod Characters
 -- stretches of text without a byte of a set, and the first place of a byte
 pub mod Blocks
 -- the loops that go over bytes of ASCII by comparisons

@@ -4,6 +4,7 @@ pub mod Utf8
 pub mod Strings
 pub mod Class
 pub mod Scan
+pub mod Same
 pub mod Rfc3629
 pub mod Boundaries
 pub mod Block

@@ -8,8 +8,8 @@ use lib.ListN.{length, getD, drop}
 use lib.Dec.{eqb}
 use Rattle.text.specs.Range.{within}
 use Rattle.text.specs.Utf8.{tail}
-use Rattle.text.specs.Class.{isIdStart, isIdContinue}
-use Rattle.text.specs.Scan.{code, rest, see, pastOne, skip, Ahead, Inside}
+use Rattle.text.specs.Class.{isWhitespace, isIdStart, isIdContinue}
+use Rattle.text.specs.Scan.{code, rest, see, nextOf, pastOne, skip, Ahead, Inside}
 use Rattle.text.specs.Inner.{Letters}
 use Rattle.text.specs.declared.scanner.Seen.{Seen}
 use Rattle.text.specs.declared.scanner.Seen.the-variants.{End, Char}
@@ -38,6 +38,16 @@ pub record Seeing : Type 0 where
   pub skip-on : (p : ℕ → Bool) (s : List ℕ) (i : ℕ) → i < length s → p (code (drop i s)) ≡ true →
       skip p s i ≡ skip p s (i + 1 + rest (drop i s))
   pub skip-stop : (p : ℕ → Bool) (s : List ℕ) (i : ℕ) → i < length s → p (code (drop i s)) ≡ false → skip p s i ≡ i
+  -- a character that is seen: its parts, the place after it, and the byte that it is where it is ASCII
+  pub char-parts : (s : List ℕ) (p c n : ℕ) → see s p ≡ Char c n → (p < length s) × (c ≡ code (drop p s)) × (n ≡ p + 1 + rest (drop p s))
+  pub next-inside : (s : List ℕ) (p : ℕ) → p ≤ length s → (p ≤ nextOf p (see s p)) × (nextOf p (see s p) ≤ length s)
+  pub at-byte : (s : List ℕ) (p b : ℕ) → p < length s → getD s p 0 ≡ b → b < 0x80 → see s p ≡ Char b (p + 1)
+  pub byte-of : (s : List ℕ) (p c n : ℕ) → see s p ≡ Char c n → c < 0x80 → getD s p 0 ≡ c
+  -- white space goes on behind a character of it
+  pub white-on : (s : List ℕ) (p c n : ℕ) → see s p ≡ Char c n → isWhitespace c ≡ true → skip isWhitespace s p ≡ skip isWhitespace s n
+  -- a scan that begins in the text stops in it or at its end, and where it stops inside, the test fails
+  pub skip-inside : (t : ℕ → Bool) (s : List ℕ) (p : ℕ) → p ≤ length s → (p ≤ skip t s p) × (skip t s p ≤ length s)
+  pub skip-at : (t : ℕ → Bool) (s : List ℕ) (n i : ℕ) → length s ≤ i + n → skip t s i < length s → t (code (drop (skip t s i) s)) ≡ false
   -- it never goes back, and not past the end
   pub skip-ahead : (p : ℕ → Bool) (s : List ℕ) (i : ℕ) → Ahead s i (skip p s i)
   -- letters of ASCII before a space, or before another byte that cannot be part of an identifier, are a whole one

@@ -113,6 +113,35 @@ fn past(s: &[u8], at: usize, x: Set) -> usize
     i
 }
 
+// Whether none of the sixty-four bytes from a place on is one of the set.
+fn is_clear(s: &[u8], at: usize, x: Set) -> bool
+    requires { ⌜ at + 64 ≤ length (now s) ⌝ }
+    ensures { λ r. ⌜ (r ≡ true → Clear x (now (s .entry)) at (at + 64)) ⌝ }
+{
+    let mut m: u8 = 255;
+    let mut k = 0;
+    while k < 64 {
+        let i = at + k;
+        m = lesser(m, distance(x, s[i]));
+        k += 1;
+    }
+    0 < m
+}
+
+// `past`, where the set is far away mostly: by sixty-four bytes, as long as all of them are clear of it.
+fn past_long(s: &[u8], at: usize, x: Set) -> usize
+    ensures { λ r. ⌜ Clear x (now (s .entry)) at r ⌝ }
+{
+    let mut i = at;
+    while has(s, i, 64) {
+        if !is_clear(s, i, x) {
+            return i;
+        }
+        i += 64;
+    }
+    i
+}
+
 pub fn past_braces(s: &[u8], at: usize) -> usize
     ensures { λ r. ⌜ Clear braces (now (s .entry)) at r ⌝ }
 {
@@ -175,7 +204,8 @@ pub fn past_ascii(s: &[u8], at: usize) -> usize
 pub fn find(s: &[u8], at: usize, x: u8) -> usize
     ensures { λ r. ⌜ Found x (now (s .entry)) at r ⌝ }
 {
-    let mut i = past(s, at, intervals(x, x, x, x, x, x));
+    let it = intervals(x, x, x, x, x, x);
+    let mut i = past(s, past_long(s, at, it), it);
     while i < s.len() {
         if s[i] == x {
             return i;

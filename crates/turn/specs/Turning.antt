@@ -1,29 +1,17 @@
--- What the crate above needs of turns and of what they see. The proof is `turning` of proofs/Turning.antt.
+-- What the crate above needs of turns. The proof is `turning` of proofs/Turning.antt.
 -- Assumes nothing.
 use Prim.Native.Nat.{ℕ, suc, _+_, _≤_, _<_}
 use mathlib.Core.Path.{_≡_}
 use mathlib.Core.Bool.{Bool, true, false}
 use mathlib.Core.List.{List, [], _∷_}
-use lib.ListN.{length, drop, getD}
-use Rattle.text.specs.Class.{isWhitespace}
-use Rattle.text.specs.Scan.{see, nextOf, skip, code, rest}
-use Rattle.text.specs.declared.scanner.Seen.the-variants.{Char}
+use lib.ListN.{length, getD}
+use Rattle.text.specs.Scan.{see}
 use Rattle.row.specs.declared.fault.Fault.{Fault}
 use Rattle.raw.specs.Reader.{again, bad, more, andThen, turn}
 use Rattle.turn.specs.Content.{Part, cut, Reader, argumentEnd, opensAt, maths, closing, contentTurn}
 use Rattle.turn.specs.Turns.{isSign, Ordinary, turns, Ends}
 
 pub record Turning : Type 0 where
-  -- a character that is seen: its parts; white space; the place after it
-  pub char-parts : (s : List ℕ) (p c n : ℕ) → see s p ≡ Char c n → (p < length s) × (c ≡ code (drop p s)) × (n ≡ p + 1 + rest (drop p s))
-  pub white-on : (s : List ℕ) (p c n : ℕ) → see s p ≡ Char c n → isWhitespace c ≡ true → skip isWhitespace s p ≡ skip isWhitespace s n
-  pub next-inside : (s : List ℕ) (p : ℕ) → p ≤ length s → (p ≤ nextOf p (see s p)) × (nextOf p (see s p) ≤ length s)
-  -- where a skip stops
-  pub skip-inside : (t : ℕ → Bool) (s : List ℕ) (p : ℕ) → p ≤ length s → (p ≤ skip t s p) × (skip t s p ≤ length s)
-  pub skip-at : (t : ℕ → Bool) (s : List ℕ) (n i : ℕ) → length s ≤ i + n → skip t s i < length s → t (code (drop (skip t s i) s)) ≡ false
-  -- a byte of ASCII and the character that it is
-  pub at-byte : (s : List ℕ) (p b : ℕ) → p < length s → getD s p 0 ≡ b → b < 0x80 → see s p ≡ Char b (p + 1)
-  pub byte-of : (s : List ℕ) (p c n : ℕ) → see s p ≡ Char c n → c < 0x80 → getD s p 0 ≡ c
   -- an argument that is opened ends inside the text
   pub opens-inside : (s : List ℕ) (w : ℕ) → opensAt (see s w) ≡ true → w + 1 ≤ length s
   pub end-inside : (s : List ℕ) (p : ℕ) → p ≤ length s → Ends (length s) p (argumentEnd s p)

@@ -17,7 +17,8 @@ use Rattle.row.specs.Row.{Row}
 use Rattle.row.specs.Rules.{isKind}
 use Rattle.lookup.specs.declared.plain.Found.{Found}
 use Rattle.lookup.specs.declared.plain.Found.the-variants as found
-use Rattle.lookup.specs.Names.{sameBytes, lastNamed}
+use Rattle.text.specs.Same.{sameBytes}
+use Rattle.lookup.specs.Names.{lastNamed}
 use Rattle.chunk.specs.declared.form.Kind.the-variants.{Normal}
 use Rattle.chunk.specs.Chunk.{Chunk, chunk}
 use Rattle.turn.specs.Content.{flatten}

@@ -20,7 +20,8 @@ use Rattle.command.specs.declared.meaning.Meaning.the-variants.{Itself, 
 use Rattle.command.specs.Stack.{Lays}
 use Rattle.text.specs.Strings.{utf8}
 use Rattle.text.proofs.general.Parts.{length-part}
-use Rattle.command.specs.Commands.{Named, commands, meaningIn, meaningOf, same}
+use Rattle.text.specs.Same.{sameBytes}
+use Rattle.command.specs.Commands.{Named, commands, meaningIn, meaningOf}
 use Rattle.command.specs.Execute.{executed, given, absent, leading, Sane}
 use Rattle.command.proofs.stacks.LaysLaws.{lays-as, lays-on, lays-still}
 
@@ -115,7 +116,7 @@ unfolding meaningIn
 in-sane [] name t = tt
 in-sane (r ∷ rs) name t =
     let h = both-true (sane (r .means)) (allSane rs) t in
-    by (same (utf8 (r .name)) name) (is-sane (r .means) (h .0)) (in-sane rs name (h .1))
+    by (sameBytes (utf8 (r .name)) name) (is-sane (r .means) (h .0)) (in-sane rs name (h .1))
   where
     by : (w : Bool) → Sane (r .means) → Sane (meaningIn rs name) → Sane (cond w (r .means) (meaningIn rs name))
     by true a b = a

@@ -6,7 +6,7 @@
 use Prim.Native.Nat.{ℕ, suc, _+_, _-_, _≤_, _<_, min}
 use native.Mathlib.Omega.{arith}
 use mathlib.Core.Path.{_≡_, refl, sym, ap, ap₂, _∙_}
-use mathlib.Core.Bool.{Bool, true, false, cond, _||_, and-false}
+use mathlib.Core.Bool.{Bool, true, false, cond, _||_}
 use mathlib.Core.List.{List, [], _∷_, _++_}
 use lib.ListN.{length, getD, take, drop, length-drop, length-append}
 use lib.Seq.{getD-drop, drop-drop, take-append-seam, drop-append-seam}
@@ -19,17 +19,11 @@ use Rattle.command.specs.declared.meaning.Meaning.{Meaning}
 use Rattle.command.specs.declared.meaning.Meaning.the-variants.{Unknown}
 use Rattle.text.specs.Strings.{utf8}
 use Rattle.text.proofs.general.Parts.{part-head, length-part}
-use Rattle.command.specs.Commands.{Named, same, commands, meaningIn, meaningOf}
+use Rattle.text.specs.Same.{sameBytes}
+use Rattle.text.proofs.general.Same.{same-length}
+use Rattle.command.specs.Commands.{Named, commands, meaningIn, meaningOf}
 use Rattle.command.specs.Names.{Row, codeOf, decoded, flat, meaningBy, rowOf, rowsOf, long, names}
 use Rattle.command.proofs.stacks.MoreParts.{part-empty}
-
--- texts of different lengths are not the same
-same-long : (s t : List ℕ) → (length s ≡ length t → ⊥) → same s t ≡ false
-unfolding same
-same-long [] [] h = absurd (h refl)
-same-long [] (b ∷ t) h = refl
-same-long (a ∷ s) [] h = refl
-same-long (a ∷ s) (b ∷ t) h = rw (same-long s t (λ e. h (ap suc e))) (and-false (eqb a b))
 
 -- ---- names of one octet
 
@@ -45,8 +39,8 @@ only-says (r ∷ cs) name n h = by (eqb (length (utf8 (r .name))) n) refl (only-
   where
     by : (b : Bool) → eqb (length (utf8 (r .name))) n ≡ b → meaningIn cs name ≡ meaningIn (only n cs) name
         → meaningIn (r ∷ cs) name ≡ meaningIn (cond b (r ∷ only n cs) (only n cs)) name
-    by true e ih = ap (cond (same (utf8 (r .name)) name) (r .means)) ih
-    by false e ih = rw (same-long (utf8 (r .name)) name (λ k. eqb-false _ _ e (k ∙ h))) ih
+    by true e ih = ap (cond (sameBytes (utf8 (r .name)) name) (r .means)) ih
+    by false e ih = rw (same-length (utf8 (r .name)) name (λ k. eqb-false _ _ e (k ∙ h))) ih
 
 one-says : (b : ℕ) → meaningOf (b ∷ []) ≡ meaningIn (only 1 commands) (b ∷ [])
 one-says b = only-says commands (b ∷ []) 1 refl
@@ -61,13 +55,13 @@ neither true b h = let z : _≡_ {A = ℕ} 0 1 = cc in absurd (omega arith)
 neither false b h = (refl, h)
 
 none : (rs : List Named) (b : ℕ) → mark (firsts rs) b ≡ false → Unknown ≡ meaningIn rs (b ∷ [])
-unfolding meaningIn firsts same
+unfolding meaningIn firsts sameBytes
 none [] b h = refl
 none (r ∷ rs) b h =
     let n = neither (eqb b (getD (utf8 (r .name)) 0 0)) (mark (firsts rs) b) h in
     rw (differs (utf8 (r .name)) (n .0)) (none rs b (n .1))
   where
-    differs : (t : List ℕ) → eqb b (getD t 0 0) ≡ false → same t (b ∷ []) ≡ false
+    differs : (t : List ℕ) → eqb b (getD t 0 0) ≡ false → sameBytes t (b ∷ []) ≡ false
     differs [] e = refl
     differs (a ∷ t) e = rw (ne-eqb a b (λ k. eqb-false b a e (sym k)))
 
@@ -90,31 +84,31 @@ at-key b k m e h = h ∙ ap (λ (n : ℕ). meaningIn (only 1 commands) (n ∷ []
 module _ (t : List ℕ) (i : ℕ) (s : List ℕ) (a n : ℕ) (ht : i + n ≤ length t) (hs : a + n ≤ length s) where
   -- whether they are the same from their octet k on
   abbrev pub left : ℕ → Bool
-  left k = same (part t (i + k) (i + n)) (part s (a + k) (a + n))
+  left k = sameBytes (part t (i + k) (i + n)) (part s (a + k) (a + n))
 
-  pub left-start : same (part t i (i + n)) (part s a (a + n)) ≡ left 0
-  left-start = ap₂ (λ (p q : ℕ). same (part t p (i + n)) (part s q (a + n))) (omega arith) (omega arith)
+  pub left-start : sameBytes (part t i (i + n)) (part s a (a + n)) ≡ left 0
+  left-start = ap₂ (λ (p q : ℕ). sameBytes (part t p (i + n)) (part s q (a + n))) (omega arith) (omega arith)
 
   module _ (k : ℕ) (h : k < n) where
-    heads : left k ≡ same (getD t (i + k) 0 ∷ part t (i + k + 1) (i + n)) (getD s (a + k) 0 ∷ part s (a + k + 1) (a + n))
-    heads = ap₂ same (part-head t (i + k) (i + n) (omega arith) ht) (part-head s (a + k) (a + n) (omega arith) hs)
+    heads : left k ≡ sameBytes (getD t (i + k) 0 ∷ part t (i + k + 1) (i + n)) (getD s (a + k) 0 ∷ part s (a + k + 1) (a + n))
+    heads = ap₂ sameBytes (part-head t (i + k) (i + n) (omega arith) ht) (part-head s (a + k) (a + n) (omega arith) hs)
 
     pub left-off : (getD t (i + k) 0 ≡ getD s (a + k) 0 → ⊥) → false ≡ left k
-    unfolding same
+    unfolding sameBytes
     left-off e = sym (heads ∙ rw (ne-eqb _ _ e))
 
     pub left-on : getD t (i + k) 0 ≡ getD s (a + k) 0 → left k ≡ left (k + 1)
-    unfolding same
-    left-on e = heads ∙ rw (eq-eqb _ _ e) (ap₂ (λ (p q : ℕ). same (part t p (i + n)) (part s q (a + n))) (omega arith) (omega arith))
+    unfolding sameBytes
+    left-on e = heads ∙ rw (eq-eqb _ _ e) (ap₂ (λ (p q : ℕ). sameBytes (part t p (i + n)) (part s q (a + n))) (omega arith) (omega arith))
 
   pub left-end : (k : ℕ) → n ≤ k → true ≡ left k
-  unfolding same
-  left-end k h = sym (ap₂ same (part-empty t (i + k) (i + n) (omega arith)) (part-empty s (a + k) (a + n) (omega arith)))
+  unfolding sameBytes
+  left-end k h = sym (ap₂ sameBytes (part-empty t (i + k) (i + n) (omega arith)) (part-empty s (a + k) (a + n) (omega arith)))
 
 pub other-length : (t : List ℕ) (i m : ℕ) (s : List ℕ) (a n : ℕ) → i + m ≤ length t → a + n ≤ length s → (m ≡ n → ⊥)
-    → false ≡ same (part t i (i + m)) (part s a (a + n))
+    → false ≡ sameBytes (part t i (i + m)) (part s a (a + n))
 other-length t i m s a n p q h =
-    sym (same-long _ _ (λ e. h (sum m n (i + m - i) (a + n - a) (omega arith) (omega arith)
+    sym (same-length _ _ (λ e. h (sum m n (i + m - i) (a + n - a) (omega arith) (omega arith)
     (sym (length-part t i (i + m) (omega arith) p) ∙ e ∙ length-part s a (a + n) (omega arith) q))))
   where
     sum : (m n p q : ℕ) → p ≡ m → q ≡ n → p ≡ q → m ≡ n
@@ -152,7 +146,7 @@ meant (r ∷ rs) = r .means ∷ meant rs
 rows-say : (cs : List Named) (name : List ℕ) → told cs ≡ meant cs → meaningBy (rowsOf cs) name ≡ meaningIn cs name
 unfolding told meant meaningBy rowsOf meaningIn
 rows-say [] name h = refl
-rows-say (r ∷ cs) name h = ap₂ (cond (same (utf8 (r .name)) name)) (ap head h) (rows-say cs name (ap rest h))
+rows-say (r ∷ cs) name h = ap₂ (cond (sameBytes (utf8 (r .name)) name)) (ap head h) (rows-say cs name (ap rest h))
 
 long-says : (cs : List Named) (name : List ℕ) → (length name ≡ 1 → ⊥) → meaningIn (long cs) name ≡ meaningIn cs name
 unfolding meaningIn long
@@ -161,8 +155,8 @@ long-says (r ∷ cs) name h = by (eqb (length (utf8 (r .name))) 1) refl (long-sa
   where
     by : (b : Bool) → eqb (length (utf8 (r .name))) 1 ≡ b → meaningIn (long cs) name ≡ meaningIn cs name
         → meaningIn (cond b (long cs) (r ∷ long cs)) name ≡ meaningIn (r ∷ cs) name
-    by true e ih = rw (same-long (utf8 (r .name)) name (λ k. h (sym k ∙ eqb-true _ _ e))) ih
-    by false e ih = ap (cond (same (utf8 (r .name)) name) (r .means)) ih
+    by true e ih = rw (same-length (utf8 (r .name)) name (λ k. h (sym k ∙ eqb-true _ _ e))) ih
+    by false e ih = ap (cond (sameBytes (utf8 (r .name)) name) (r .means)) ih
 
 -- the one computed test: each row's three bytes stand for its meaning
 all-told : told (long commands) ≡ meant (long commands)
@@ -243,7 +237,7 @@ module _ (t name : List ℕ) (i : ℕ) (l : i < length t) (g : Here t name i) wh
       least : (i k n : ℕ) → i + 4 + k ≤ n → min (i + 4 + k) n - (i + 4) ≡ k
       least i k n h = omega arith
 
-  miss : same (g .row .key) name ≡ false → Going t name (i + (4 + k))
+  miss : sameBytes (g .row .key) name ≡ false → Going t name (i + (4 + k))
   unfolding meaningBy
   miss e = record {
     rows = g .rows;
@@ -257,11 +251,11 @@ module _ (t name : List ℕ) (i : ℕ) (l : i < length t) (g : Here t name i) wh
       regroup i k = omega arith
 
   -- the first byte m is the key's length, and b says whether the key is the name
-  module _ (m : ℕ) (b : Bool) (s : List ℕ) (e : m ≡ getD t i 0) (h : b ≡ same (part t (i + 4) (i + 4 + m)) s) (v : s ≡ name) where
-    key-same : same (g .row .key) name ≡ b
+  module _ (m : ℕ) (b : Bool) (s : List ℕ) (e : m ≡ getD t i 0) (h : b ≡ sameBytes (part t (i + 4) (i + 4 + m)) s) (v : s ≡ name) where
+    key-same : sameBytes (g .row .key) name ≡ b
     key-same =
-        sym (h ∙ ap₂ (λ (p : ℕ) (w : List ℕ). same (part t (i + 4) (i + 4 + p)) w) (e ∙ first) v
-        ∙ ap (λ (p : List ℕ). same p name) key-at)
+        sym (h ∙ ap₂ (λ (p : ℕ) (w : List ℕ). sameBytes (part t (i + 4) (i + 4 + p)) w) (e ∙ first) v
+        ∙ ap (λ (p : List ℕ). sameBytes p name) key-at)
 
     pub missed : b ≡ false → Going t name (i + (4 + m))
     missed f = rw (e ∙ first) (miss (key-same ∙ f))

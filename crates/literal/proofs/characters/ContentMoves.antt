@@ -18,6 +18,7 @@ use Rattle.text.specs.declared.scanner.Seen.{Seen}
 use Rattle.text.specs.declared.scanner.Seen.the-variants.{End, Char}
 use Rattle.text.specs.declared.class.Test.the-variants as test
 use Rattle.text.proofs.general.Tests.{both-true}
+use Rattle.text.proofs.Seeing.{seeing}
 use Rattle.row.specs.declared.fault.Reason.the-variants.{UnexpectedEof}
 use Rattle.row.specs.Fault.{faultAt}
 use Rattle.raw.specs.Reader.{OutOf, ok, again, bad, more, andThen, after, loop, many, turn}
@@ -112,7 +113,7 @@ module _ (argument : Reader) (A : Reads argument) (s : List ℕ) (p n e : ℕ) (
   w = skip isWhitespace s e
 
   w-in : (e ≤ w) × (w ≤ length s)
-  w-in = turning .skip-inside isWhitespace s e k
+  w-in = seeing .skip-inside isWhitespace s e k
 
   to-w : To s p w
   to-w = skip-place isWhitespace s p e to-e
@@ -149,7 +150,7 @@ module _ (argument : Reader) (A : Reads argument) (s : List ℕ) (p n e : ℕ) (
   named : (c m : ℕ) → Leads s p (withName argument c n m e w s n)
   unfolding withName
   named c m =
-      let r = turning .next-inside s w (w-in .1) in
+      let r = seeing .next-inside s w (w-in .1) in
       cond-by (Leads s p) (takesOne c m e w s) _ _
       (one-move s p n e at free l k to-n to-e (nextOf w (see s w)) (r .0) (r .1) (λ o b. next-place s w o (to-w o b)))
       (two (opensAt (see s w)) refl (eqb e w))
@@ -168,7 +169,7 @@ module _ (argument : Reader) (A : Reads argument) (s : List ℕ) (p c n : ℕ) (
       inside-name : (x : Bool) → m ≤ length s → (m ≤ cond x m (skip isIdContinue s m)) × (cond x m (skip isIdContinue s m) ≤ length s)
           × To s m (cond x m (skip isIdContinue s m))
       inside-name true h = (omega arith, h, λ o b. b)
-      inside-name false h = let k = turning .skip-inside isIdContinue s m h in (k .0, k .1, skip-place isIdContinue s m m (λ o b. b))
+      inside-name false h = let k = seeing .skip-inside isIdContinue s m h in (k .0, k .1, skip-place isIdContinue s m m (λ o b. b))
 
   backslash-leads : (verb : Bool) → Leads s p (backslash argument verb s n)
   unfolding backslash

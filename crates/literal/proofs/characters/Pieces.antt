@@ -20,12 +20,12 @@ use Rattle.text.specs.declared.scanner.Seen.the-variants.{End, Char}
 use Rattle.text.proofs.general.Parts.{drop-take}
 use Rattle.text.proofs.Rfc3629.{rfc3629}
 use Rattle.text.proofs.Shapes.{shapes}
+use Rattle.text.proofs.Seeing.{seeing}
 use Rattle.chunk.specs.Chunk.{Chunk, chunkRows, everyChunk, areChunks}
 use Rattle.chunk.specs.Write.{checkedOf}
 use Rattle.chunk.specs.WellFormed.{Texts}
 use Rattle.chunk.specs.WellFormed as texts
 use Rattle.chunk.proofs.WellFormed.{well-formed}
-use Rattle.turn.proofs.Turning.{turning}
 
 pub ascii-text : (b : ℕ) → b ≤ 0x7F → Octets (b ∷ [])
 ascii-text b h = shapes .octets-char (b ∷ []) (shapes .shape-char (one h))
@@ -67,4 +67,4 @@ placeOf End = 0
 placeOf (Char c n) = n
 
 pub ascii-next : (s : List ℕ) (p c n : ℕ) → see s p ≡ Char c n → c < 0x80 → n ≡ p + 1
-ascii-next s p c n e h = ap placeOf (sym e ∙ turning .at-byte s p c (turning .char-parts s p c n e .0) (turning .byte-of s p c n e h) h)
+ascii-next s p c n e h = ap placeOf (sym e ∙ seeing .at-byte s p c (seeing .char-parts s p c n e .0) (seeing .byte-of s p c n e h) h)

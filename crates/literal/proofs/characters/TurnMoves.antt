@@ -27,7 +27,6 @@ use Rattle.chunk.proofs.WellFormed.{well-formed}
 use Rattle.command.specs.Execute.{absent, given, executeCommand}
 use Rattle.command.proofs.WellFormed as commands
 use Rattle.turn.specs.Content.{Part, put, cut, math, chunksOf, begins}
-use Rattle.turn.proofs.Turning.{turning}
 use Rattle.literal.proofs.characters.Pieces.{ascii-text, part-text, take-text, take-place, ascii-next}
 use Rattle.literal.proofs.characters.PartsToChunks.{chunks-texts, chunks-formatted}
 use Rattle.literal.proofs.characters.Moves.{owed, owed-most, owed-odd, owed-inside, Move, move-put}
@@ -63,7 +62,7 @@ ascii-place s p c n e l o b = subst (λ (k : ℕ). isBoundary s k ≡ true) (asc
 dollar-place : (s : List ℕ) (i r : ℕ) → r ≡ skip (fails test.Dollar) s i → r < length s → To s r (r + 1)
 unfolding holdsOf
 dollar-place s i r q k =
-    let x = ap (λ (j : ℕ). fails test.Dollar (code (drop j s))) q ∙ turning .skip-at (fails test.Dollar) s (length s) i (omega arith) (omega (arith, k, q)) in
+    let x = ap (λ (j : ℕ). fails test.Dollar (code (drop j s))) q ∙ seeing .skip-at (fails test.Dollar) s (length s) i (omega arith) (omega (arith, k, q)) in
     let c = eqb-true (code (drop r s)) 0x24 (not-false (eqb (code (drop r s)) 0x24) x) in
     ascii-place s r _ _ (seeing .see-at s r k) (omega (arith, c))
 
@@ -82,8 +81,8 @@ module _ (s : List ℕ) (p c n : ℕ) (e : see s p ≡ Char c n) where
 
   pub blank-move : isWhitespace c ≡ true → Move s p (skip isWhitespace s p) (put (0x20 ∷ []) ∷ [])
   blank-move w =
-      let a = turning .skip-inside isWhitespace s n (past .1) in
-      let k = turning .white-on s p c n e w in
+      let a = seeing .skip-inside isWhitespace s n (past .1) in
+      let k = seeing .white-on s p c n e w in
       move-put s p (skip isWhitespace s p) (0x20 ∷ []) (omega (arith, past .0, a .0, k)) (omega (arith, a .1, k))
       (omega (arith, past .0, a .0, k, owed-most s p c n e))
       (λ o b. (boundaries .skips isWhitespace s p o b, ascii-text 0x20 (omega arith)))
@@ -112,7 +111,7 @@ module _ (s : List ℕ) (p c n : ℕ) (e : see s p ≡ Char c n) where
     pub math-move : (d e₁ : ℕ) → e₁ ≡ skip (fails test.Dollar) s (p + 1) → e₁ < length s
         → Move s p (e₁ + 1) (cut d p (e₁ + 1) ∷ math (part s (p + 1) e₁) (p + 1) e₁ ∷ [])
     math-move d e₁ q k =
-        let a = turning .skip-inside (fails test.Dollar) s (p + 1) (omega (arith, past .1, one)) in
+        let a = seeing .skip-inside (fails test.Dollar) s (p + 1) (omega (arith, past .1, one)) in
         let i : p + 1 ≤ e₁ = omega (arith, a .0, q) in
         record {
           from = omega (arith, i);
@@ -206,7 +205,7 @@ module _ (s : List ℕ) (p n e : ℕ) (at : n ≡ p + 1) (free : owed s p ≡ 0)
   w = skip isWhitespace s e
 
   w-in : (e ≤ w) × (w ≤ length s)
-  w-in = turning .skip-inside isWhitespace s e k
+  w-in = seeing .skip-inside isWhitespace s e k
 
   to-w : To s p w
   to-w = skip-place isWhitespace s p e to-e

@@ -18,9 +18,10 @@ use Rattle.row.specs.Row.{Row, rowOf}
 use Rattle.lookup.specs.declared.plain.Found.{Found}
 use Rattle.lookup.specs.declared.plain.Found.the-variants as found
 use Rattle.lookup.specs.Fnv.{hashOf}
-use Rattle.lookup.specs.Names.{sameBytes, nameOf, isNamed, rowNo, lastNamed}
+use Rattle.text.specs.Same.{sameBytes}
+use Rattle.lookup.specs.Names.{nameOf, isNamed, rowNo, lastNamed}
 use Rattle.lookup.specs.RowIndex.{isNothing, counts, rowIn, fits}
-use Rattle.lookup.proofs.bytes.Compared.{same-true, same-self}
+use Rattle.text.proofs.general.Same.{same-true, same-self}
 
 -- ---- the room
 

@@ -2,6 +2,7 @@
 --     distance-none                       a byte at a distance from each interval of a set is not in the set
 --     clear-none, clear-join, clear-block, clear-as   stretches: the empty one, two that meet, one with a block behind it, of an equal set
 --     Before, part-more, part-done        the loop of `part`
+--     Away, away-more, away-done          the loop of `is_clear`
 --     Least, least-more, least-done, none-ascii    the loop of `is_ascii`, and that a byte which is not of `others` is ASCII
 --     Lacking, lacking, lacking-more, found-at     the loop of `find`
 --     found-once                          a byte has only one first place
@@ -84,6 +85,22 @@ part-done x s i m {k} l h b = record { from = omega arith; to = omega arith; cle
     go n p q =
         let e : i + (n - i) ≡ n = omega arith in
         subst (λ (a : ℕ). (getD s a 0 < 256) × (inSet x (getD s a 0) ≡ false)) e (b (n - i) (omega arith) (omega arith))
+
+-- ---- the loop of `is_clear`: if the least distance m is not 0, none of the first k bytes is in the set
+
+abbrev pub Away : Set → List ℕ → ℕ → ℕ → ℕ → Type 0
+Away x s i k m = 0 < m → (j : ℕ) → j < k → (getD s (i + j) 0 < 256) × (inSet x (getD s (i + j) 0) ≡ false)
+
+pub away-more : (x : Set) (s : List ℕ) (i k m d : ℕ) {r : ℕ} → r ≡ min m d → Away x s i k m → getD s (i + k) 0 < 256 →
+    (0 < d → inSet x (getD s (i + k) 0) ≡ false) → Away x s i (k + 1) r
+away-more x s i k m d e h b one z j l = go (eqb j k) refl
+  where
+    go : (t : Bool) → eqb j k ≡ t → (getD s (i + j) 0 < 256) × (inSet x (getD s (i + j) 0) ≡ false)
+    go true q = let y : j ≡ k = eqb-true j k q in rw y (b, one (omega arith))
+    go false q = h (omega arith) j (omega (arith, eqb-false j k q))
+
+pub away-done : (x : Set) (s : List ℕ) (i k m : ℕ) → i + k ≤ length s → Away x s i k m → 0 < m → Clear x s i (i + k)
+away-done x s i k m l h z = part-done x s i k (omega arith) l (λ j p q. h z j p)
 
 -- ---- the loop of `is_ascii`: none of the first k bytes of the block is above m
 

@@ -2,18 +2,17 @@
 --     end-inside          an argument ends before the text's end
 --     content-sound       of `contentTurn`
 --     turns-on            content is its first turn and then content
---     char-parts, white-on, next-inside, skip-inside       of what is seen
 -- Assumes nothing.
 use Prim.Native.Nat.{ℕ, zero, suc, _+_, _≤_, _<_, max}
 use native.Mathlib.Omega.{arith}
-use mathlib.Core.Path.{_≡_, refl, sym, ap, _∙_}
+use mathlib.Core.Path.{_≡_, refl}
 use mathlib.Core.Bool.{Bool, true, false, cond, not, _&&_}
 use mathlib.Core.List.{List, [], _∷_}
-use lib.ListN.{length, take, drop}
+use lib.ListN.{length, take}
 use lib.Dec.{eqb, ltb}
 use borrow.Author.Tests.{ltb-true}
 use Rattle.text.specs.Class.{isWhitespace, isIdContinue}
-use Rattle.text.specs.Scan.{see, nextOf, skip, fails, part, code, rest}
+use Rattle.text.specs.Scan.{see, nextOf, skip, fails, part}
 use Rattle.text.specs.declared.scanner.Seen.{Seen}
 use Rattle.text.specs.declared.scanner.Seen.the-variants.{End, Char}
 use Rattle.text.specs.declared.class.Test.the-variants as test
@@ -30,43 +29,6 @@ use Rattle.command.specs.Execute.{absent, executeCommand}
 use Rattle.turn.specs.Content.{backslash, backslashAt, isEscape, begins, maths, closing, hyphens, copy, contentTurn}
 use Rattle.turn.specs.Turns.{turns, Ends}
 
--- ---- what is seen
-
-abbrev placeOf : Seen → ℕ
-placeOf End = 0
-placeOf (Char c n) = n
-
-abbrev codeIn : Seen → ℕ
-codeIn End = 0
-codeIn (Char c n) = c
-
-abbrev some : Seen → ℕ
-some End = 0
-some (Char c n) = 1
-
-pub char-parts : (s : List ℕ) (p c n : ℕ) → see s p ≡ Char c n → (p < length s) × (c ≡ code (drop p s)) × (n ≡ p + 1 + rest (drop p s))
-char-parts s p c n e =
-    let h = seeing .see-ahead s p c n e in
-    let l : p < length s = omega (arith, h .0, h .1) in
-    let q = sym e ∙ seeing .see-at s p l in
-    (l, ap codeIn q, ap placeOf q)
-
--- white space goes on behind a character of it
-pub white-on : (s : List ℕ) (p c n : ℕ) → see s p ≡ Char c n → isWhitespace c ≡ true → skip isWhitespace s p ≡ skip isWhitespace s n
-white-on s p c n e w =
-    let h = char-parts s p c n e in
-    seeing .skip-on isWhitespace s p (h .0) (ap isWhitespace (sym (h .1)) ∙ w) ∙ ap (skip isWhitespace s) (sym (h .2))
-
-pub next-inside : (s : List ℕ) (p : ℕ) → p ≤ length s → (p ≤ nextOf p (see s p)) × (nextOf p (see s p) ≤ length s)
-next-inside s p h = by (see s p) refl
-  where
-    by : (v : Seen) → see s p ≡ v → (p ≤ nextOf p v) × (nextOf p v ≤ length s)
-    by End e = (omega arith, h)
-    by (Char c n) e = let a = seeing .see-ahead s p c n e in (omega (arith, a .0), a .1)
-
-pub skip-inside : (t : ℕ → Bool) (s : List ℕ) (p : ℕ) → p ≤ length s → (p ≤ skip t s p) × (skip t s p ≤ length s)
-skip-inside t s p h = let a = seeing .skip-ahead t s p in (a .from, omega (arith, a .to, h))
-
 -- ---- where an argument ends
 
 -- a turn that is done is inside; one that goes on goes on
@@ -80,7 +42,7 @@ module _ (s : List ℕ) (p : ℕ) (h : p ≤ length s) where
   j = skip (fails test.Brace) s p
 
   j-from : p ≤ j
-  j-from = skip-inside (fails test.Brace) s p h .0
+  j-from = seeing .skip-inside (fails test.Brace) s p h .0
 
   end-turn : (d : ℕ) → EndsTurn (length s) p (endTurn d s p)
   unfolding endTurn
@@ -174,14 +136,14 @@ opens-inside s w = by (see s w) refl
 module _ (argument : Reader) (c n : ℕ) (s : List ℕ) (q : ℕ) (h : q ≤ n) (k : n ≤ length s) where
   name-inside : (x : Bool) → (n ≤ cond x n (skip isIdContinue s n)) × (cond x n (skip isIdContinue s n) ≤ length s)
   name-inside true = (omega arith, k)
-  name-inside false = skip-inside isIdContinue s n k
+  name-inside false = seeing .skip-inside isIdContinue s n k
 
   module _ (e : ℕ) (a : n ≤ e) (b : e ≤ length s) where
     abbrev w : ℕ
     w = skip isWhitespace s e
 
     w-in : (e ≤ w) × (w ≤ length s)
-    w-in = skip-inside isWhitespace s e b
+    w-in = seeing .skip-inside isWhitespace s e b
 
     abbrev last : OutOf Part
     last = ok w (put (executeCommand (part s q e) absent) ∷ [])
@@ -198,7 +160,7 @@ module _ (argument : Reader) (c n : ℕ) (s : List ℕ) (q : ℕ) (h : q ≤ n) 
     named : Fine s q (withName argument c q n e w s q)
     unfolding withName
     named =
-        let m = next-inside s w (w-in .1) in
+        let m = seeing .next-inside s w (w-in .1) in
         fine-cond s q (takesOne c n e w s) _ _ (fine-ok s q (nextOf w (see s w)) (omega (arith, h, a, w-in .0, m .0)) (m .1))
         (two (opensAt (see s w)) refl (eqb e w))
 
@@ -245,7 +207,7 @@ eaten-sound t s p f o h k = by (see s p) refl
 
 maths-sound : (d : ℕ) (s : List ℕ) (p : ℕ) → p < length s → Advances 1 0 p (length s) (andThen (maths d s p) (turn d s))
 unfolding maths
-maths-sound d s p h = by (skip (fails test.Dollar) s (p + 1)) (skip-inside (fails test.Dollar) s (p + 1) (omega (arith, h)))
+maths-sound d s p h = by (skip (fails test.Dollar) s (p + 1)) (seeing .skip-inside (fails test.Dollar) s (p + 1) (omega (arith, h)))
   where
     by : (e : ℕ) → (p + 1 ≤ e) × (e ≤ length s)
         → Advances 1 0 p (length s) (andThen (cond (ltb e (length s)) (ok (e + 1) (cut d p (e + 1) ∷ math (part s (p + 1) e) (p + 1) e ∷ []))
@@ -309,7 +271,7 @@ content-sound argument verb d s p =
 
     blank : (c n : ℕ) → see s p ≡ Char c n → p < n → n ≤ length s → isWhitespace c ≡ true
         → Advances 1 0 p (length s) (again (skip isWhitespace s p) (put (0x20 ∷ []) ∷ []) d)
-    blank c n e h k t = let a = skip-inside isWhitespace s n k in let b = white-on s p c n e t in (omega (arith, h, a .0, b), omega (arith, a .1, b))
+    blank c n e h k t = let a = seeing .skip-inside isWhitespace s n k in let b = seeing .white-on s p c n e t in (omega (arith, h, a .0, b), omega (arith, a .1, b))
 
     one : (c n : ℕ) → see s p ≡ Char c n → p < n → n ≤ length s → Advances 1 0 p (length s) (andThen (copy s p) (turn d s))
     one c n e h k = rw e (omega (arith, h), omega (arith, k))

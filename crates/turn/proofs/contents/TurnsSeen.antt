@@ -1,5 +1,4 @@
 -- What a turn of content comes to, by what is seen.
---     byte-of, at-byte                        a byte of ASCII and the character that it is
 --     leads, ended, stopped                   from a turn to content
 --     turn-open, turn-close, turn-math        braces and math
 --     turn-blank, turn-copy                   white space, and characters that stand for themselves
@@ -10,14 +9,12 @@ use native.Mathlib.Omega.{arith}
 use mathlib.Core.Path.{_≡_, refl, sym, ap, _∙_}
 use mathlib.Core.Bool.{Bool, true, false, cond, not, _&&_}
 use mathlib.Core.List.{List, [], _∷_}
-use lib.ListN.{length, take, drop, getD}
-use lib.Dec.{eqb, ltb}
-use borrow.Author.Tests.{ne-eqb, ltb-true, ltb-false}
+use lib.ListN.{length, take, getD}
+use lib.Dec.{eqb}
+use borrow.Author.Tests.{ne-eqb}
 use Rattle.text.specs.Class.{isWhitespace, whiteSpace}
-use Rattle.text.specs.Scan.{see, nextOf, skip, part, code, rest}
-use Rattle.text.specs.declared.scanner.Seen.{Seen}
-use Rattle.text.specs.declared.scanner.Seen.the-variants.{End, Char}
-use Rattle.text.proofs.general.Places.{drop-next}
+use Rattle.text.specs.Scan.{see, nextOf, skip, part}
+use Rattle.text.specs.declared.scanner.Seen.the-variants.{Char}
 use Rattle.text.proofs.Seeing.{seeing}
 use Rattle.row.specs.declared.fault.Fault.{Fault}
 use Rattle.row.specs.declared.fault.Reason.the-variants.{UnexpectedEof}
@@ -27,25 +24,7 @@ use Rattle.command.specs.Execute.{absent, given, executeCommand}
 use Rattle.turn.specs.Content.{Part, put, cut, Reader, nameEnd, takesOne, opensAt, withName, command, braced, argumentEnd}
 use Rattle.turn.specs.Content.{ran, backslash, isEscape, begins, maths, closing, hyphens, contentTurn}
 use Rattle.turn.specs.Turns.{turns, opened}
-use Rattle.turn.proofs.contents.TurnsAdvance.{turns-on, char-parts}
-
--- ---- characters of ASCII
-
-pub at-byte : (s : List ℕ) (p b : ℕ) → p < length s → getD s p 0 ≡ b → b < 0x80 → see s p ≡ Char b (p + 1)
-at-byte s p b l e h = seeing .see-ascii s p l (omega (arith, e, h)) ∙ ap (λ (x : ℕ). Char x (p + 1)) e
-
-abbrev codeIn : Seen → ℕ
-codeIn End = 0
-codeIn (Char c n) = c
-
-pub byte-of : (s : List ℕ) (p c n : ℕ) → see s p ≡ Char c n → c < 0x80 → getD s p 0 ≡ c
-byte-of s p c n e h = let k = char-parts s p c n e in by k (ltb (getD s p 0) 0x80) refl
-  where
-    by : (p < length s) × (c ≡ code (drop p s)) × (n ≡ p + 1 + rest (drop p s)) → (w : Bool) → ltb (getD s p 0) 0x80 ≡ w → getD s p 0 ≡ c
-    by k true q = ap codeIn (sym (seeing .see-ascii s p (k .0) (ltb-true _ _ q)) ∙ e)
-    by k false q =
-        let wide = seeing .code-wide (getD s p 0) (drop (p + 1) s) (ltb-false _ _ q) in
-        absurd (omega (arith, h, k .1, wide, ap code (drop-next s p (k .0))))
+use Rattle.turn.proofs.contents.TurnsAdvance.{turns-on}
 
 -- ---- a turn by the character c at p, which ends at n
 
@@ -85,7 +64,7 @@ module _ (argument : Reader) (verb : Bool) (d : ℕ) (s : List ℕ) (p : ℕ) wh
 
 module _ (argument : Reader) (verb : Bool) (d : ℕ) (s : List ℕ) (p : ℕ) (l : p < length s) where
   at-ascii : (b : ℕ) → getD s p 0 ≡ b → b < 0x80 → contentTurn argument verb d s p ≡ byChar argument verb d s p b (p + 1)
-  at-ascii b e h = turn-char argument verb d s p b (p + 1) (at-byte s p b l e h)
+  at-ascii b e h = turn-char argument verb d s p b (p + 1) (seeing .at-byte s p b l e h)
 
   pub turn-open : getD s p 0 ≡ 0x7B → contentTurn argument verb d s p ≡ again (p + 1) (cut (suc d) p (p + 1) ∷ []) (suc d)
   turn-open e = at-ascii 0x7B e (omega arith)

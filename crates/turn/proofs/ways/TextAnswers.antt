@@ -16,7 +16,6 @@ use Rattle.command.specs.Stack.{Lays}
 use Rattle.command.proofs.stacks.LaysLaws.{lays-on}
 use Rattle.turn.specs.Turns.{SaysText, Grows, Behind, Ordinary}
 use Rattle.turn.specs.declared.turn.Text.the-variants as text
-use Rattle.turn.proofs.contents.TurnsAdvance.{white-on}
 use Rattle.turn.proofs.ways.TextTurns.{Turns, wrote-one, wrote-two}
 use Rattle.turn.proofs.ways.TextWays.{itself-of, copy-turn, blank-turn, control-turn, back-turn, white-begins, control-begins}
 
@@ -26,7 +25,7 @@ past-white : (s : List ℕ) (p c n q : ℕ) → see s p ≡ Char c n → isWhite
 past-white s p c n q e w h a =
     let x = seeing .see-ahead s p c n e in
     let y = skip-from s n in
-    let z = white-on s p c n e w in
+    let z = seeing .white-on s p c n e w in
     (omega (arith, x .0, y, z, h), omega (arith, a .to, x .0, x .1), omega (arith, y, z, h))
   where
     skip-from : (s : List ℕ) (n : ℕ) → n ≤ skip isWhitespace s n

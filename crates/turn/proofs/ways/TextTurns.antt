@@ -27,8 +27,7 @@ use Rattle.turn.specs.declared.turn.Text.{Text}
 use Rattle.turn.specs.declared.turn.Text.the-variants as text
 use Rattle.turn.specs.Content.{Part, put, Reader, contentTurn}
 use Rattle.turn.specs.Turns.{turns, concat, Copies, Steps, Runs, Wrote, SaysText, isPlain, GrowsText, Grows}
-use Rattle.turn.proofs.contents.TurnsSeen.{leads, at-byte, Itself, turn-copy, turn-blank}
-use Rattle.turn.proofs.contents.TurnsAdvance.{char-parts}
+use Rattle.turn.proofs.contents.TurnsSeen.{leads, Itself, turn-copy, turn-blank}
 
 pub more-more : (xs ys : List Part) (o : OutOf Part) → more xs (more ys o) ≡ more (xs ++ ys) o
 more-more xs ys (ok q zs) = ap (λ (l : List Part). ok q l) (sym (append-assoc xs ys zs))
@@ -117,13 +116,13 @@ wide-itself verb c h w = record {
 pub plain-copies : (s : List ℕ) (p : ℕ) → p < length s → isPlain (getD s p 0) ≡ true → Copies s p (p + 1)
 plain-copies s p l h argument verb d =
     let b = getD s p 0 in
-    turn-copy argument verb d s p b (p + 1) (at-byte s p b l refl (omega (arith, plain-ascii b h))) (plain-itself verb b h)
+    turn-copy argument verb d s p b (p + 1) (seeing .at-byte s p b l refl (omega (arith, plain-ascii b h))) (plain-itself verb b h)
 
 pub wide-copies : (s : List ℕ) (p c n : ℕ) → 0x80 ≤ getD s p 0 → see s p ≡ Char c n → isWhitespace c ≡ false → Copies s p n
 wide-copies s p c n h e w argument verb d = turn-copy argument verb d s p c n e (wide-itself verb c wide w)
   where
     k : (p < length s) × (c ≡ code (drop p s)) × (n ≡ p + 1 + rest (drop p s))
-    k = char-parts s p c n e
+    k = seeing .char-parts s p c n e
 
     wide : 0x80 ≤ c
     wide = omega (arith, k .1, ap code (drop-next s p (k .0)), seeing .code-wide (getD s p 0) (drop (p + 1) s) h)
@@ -132,7 +131,7 @@ wide-copies s p c n h e w argument verb d = turn-copy argument verb d s p c n e 
 pub blank-copies : (s : List ℕ) (p q : ℕ) → p < length s → getD s p 0 ≡ 0x20 → q ≡ skip isWhitespace s p → q ≡ p + 1 → Copies s p q
 unfolding isWhitespace whiteSpace
 blank-copies s p q l b h e argument verb d =
-    turn-blank argument verb d s p 0x20 (p + 1) (at-byte s p 0x20 l b (omega arith)) refl
+    turn-blank argument verb d s p 0x20 (p + 1) (seeing .at-byte s p 0x20 l b (omega arith)) refl
     ∙ ap (λ (r : ℕ). again r (put (0x20 ∷ []) ∷ []) d) (sym h) ∙ ap (λ (w : List ℕ). again q (put w ∷ []) d) same
   where
     same : 0x20 ∷ [] ≡ part s p q

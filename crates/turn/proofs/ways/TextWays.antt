@@ -2,13 +2,12 @@
 --     hyphen-one, hyphen-two, hyphen-three       `hyphens`
 --     itself-of                                  `other`
 --     back-blank, back-control                   a backslash before white space or a control character
---     skip-at                                    where a skip stops inside the text, the test fails
 --     end-off, end-open, end-close, end-found    `argument_end`
 -- Assumes nothing.
 use Prim.Native.Nat.{ℕ, zero, suc, _+_, _-_, _≤_, _<_}
 use native.Mathlib.Omega.{arith}
 use native.Mathlib.Numerals.{sub-one}
-use mathlib.Core.Path.{_≡_, refl, sym, ap, subst, _∙_}
+use mathlib.Core.Path.{_≡_, refl, sym, ap, _∙_}
 use mathlib.Core.Bool.{Bool, true, false, cond, not, _&&_}
 use mathlib.Core.List.{List, [], _∷_}
 use lib.ListN.{length, drop, getD}
@@ -32,7 +31,7 @@ use Rattle.text.proofs.general.Parts.{part-head}
 use Rattle.turn.specs.Content.{Part, put, begins, hyphens, endTurn}
 use Rattle.turn.specs.Turns.{Behind, Ordinary, endOf}
 use Rattle.turn.proofs.contents.TurnsAdvance.{end-sound}
-use Rattle.turn.proofs.contents.TurnsSeen.{at-byte, byte-of, turn-hyphens, turn-blank, turn-copy, Itself, slash-back}
+use Rattle.turn.proofs.contents.TurnsSeen.{turn-hyphens, turn-blank, turn-copy, Itself, slash-back}
 use Rattle.turn.proofs.ways.TextTurns.{Turns}
 
 no-loop : {A : Type 0} (b : Bool) → b ≡ true → b ≡ false → A
@@ -56,7 +55,7 @@ module _ (s : List ℕ) (p : ℕ) (l : p < length s) (b : getD s p 0 ≡ 0x2D) w
 
   first : hyphens s p ≡ second (see s (p + 1))
   unfolding hyphens
-  first = rw (at-byte s p 0x2D l b (omega arith)) refl
+  first = rw (seeing .at-byte s p 0x2D l b (omega arith)) refl
 
   turned : (q : ℕ) (w : List ℕ) → second (see s (p + 1)) ≡ ok q (put w ∷ []) → Turns false s p w q
   turned q w e argument d = turn-hyphens argument false d s p l b refl ∙ ap (λ (o : OutOf Part). andThen o (turn d s)) (first ∙ e)
@@ -113,13 +112,13 @@ module _ (s : List ℕ) (p : ℕ) (l : p < length s) (b : getD s p 0 ≡ 0x2D) w
 -- ---- `other`
 
 apart : (s : List ℕ) (p c n x : ℕ) → see s p ≡ Char c n → x < 0x80 → (getD s p 0 ≡ x → ⊥) → eqb c x ≡ false
-apart s p c n x e h k = ne-eqb c x (λ q. k (byte-of s p c n e (omega (arith, h, q)) ∙ q))
+apart s p c n x e h k = ne-eqb c x (λ q. k (seeing .byte-of s p c n e (omega (arith, h, q)) ∙ q))
 
 apart-verb : (s : List ℕ) (p c n x : ℕ) (verb : Bool) → see s p ≡ Char c n → x < 0x80 → (getD s p 0 ≡ x → verb ≡ true) → (eqb c x && not verb) ≡ false
 apart-verb s p c n x verb e h k = by (eqb c x) refl
   where
     by : (w : Bool) → eqb c x ≡ w → (w && not verb) ≡ false
-    by true q = let z = eqb-true c x q in rw (k (byte-of s p c n e (omega (arith, h, z)) ∙ z)) refl
+    by true q = let z = eqb-true c x q in rw (k (seeing .byte-of s p c n e (omega (arith, h, z)) ∙ z)) refl
     by false q = refl
 
 pub itself-of : (verb : Bool) (s : List ℕ) (p c n : ℕ) → see s p ≡ Char c n → Ordinary verb (getD s p 0) → (getD s p 0 ≡ 0x5C → ⊥)
@@ -178,22 +177,6 @@ copy-turn verb s p c n e k argument d = turn-copy argument verb d s p c n e k
 
 -- ---- `argument_end`
 
--- where a skip stops inside the text, the test fails
-pub skip-at : (t : ℕ → Bool) (s : List ℕ) (n i : ℕ) → length s ≤ i + n → skip t s i < length s → t (code (drop (skip t s i) s)) ≡ false
-skip-at t s zero i h l = absurd (omega (arith, h, l, seeing .skip-ahead t s i .from))
-skip-at t s (suc n) i h l = by (t (code (drop i s))) refl (λ k. skip-at t s n (i + 1 + rest (drop i s)) (omega (arith, h)) k)
-  where
-    inside : i < length s
-    inside = omega (arith, l, seeing .skip-ahead t s i .from)
-
-    by : (w : Bool) → t (code (drop i s)) ≡ w
-        → (skip t s (i + 1 + rest (drop i s)) < length s → t (code (drop (skip t s (i + 1 + rest (drop i s))) s)) ≡ false)
-        → t (code (drop (skip t s i) s)) ≡ false
-    by true e ih =
-        let q = seeing .skip-on t s i inside e in
-        subst (λ (j : ℕ). t (code (drop j s)) ≡ false) (sym q) (ih (omega (arith, l, q)))
-    by false e ih = subst (λ (j : ℕ). t (code (drop j s)) ≡ false) (sym (seeing .skip-stop t s i inside e)) e
-
 sound-any : (d : ℕ) (s : List ℕ) (p : ℕ) → Advances 1 0 p (length s) (endTurn d s p)
 unfolding endTurn
 sound-any d s p = by (leb p (length s)) refl
@@ -233,7 +216,7 @@ module _ (d : ℕ) (s : List ℕ) (i j : ℕ) (h : j ≡ skip (fails test.Brace)
   module _ (l : j < length s) where
     -- it is a brace
     brace : getD s j 0 ≡ 0x7B → see s j ≡ Char 0x7B (j + 1)
-    brace e = at-byte s j 0x7B l e (omega arith)
+    brace e = seeing .at-byte s j 0x7B l e (omega arith)
 
     pub end-open : getD s j 0 ≡ 0x7B → left d i ≡ left (suc d) (j + 1)
     unfolding endTurn
@@ -247,15 +230,15 @@ module _ (d : ℕ) (s : List ℕ) (i j : ℕ) (h : j ≡ skip (fails test.Brace)
     closes : (getD s j 0 ≡ 0x7B → ⊥) → see s j ≡ Char 0x7D (j + 1)
     unfolding holdsOf
     closes n = by (eqb (code (drop j s)) 0x7B) (eqb (code (drop j s)) 0x7D) refl refl
-        (skip-at (fails test.Brace) s (length s) i (omega arith) (omega (arith, l, h)))
+        (seeing .skip-at (fails test.Brace) s (length s) i (omega arith) (omega (arith, l, h)))
       where
         seen : see s j ≡ Char (code (drop j s)) (j + 1 + rest (drop j s))
         seen = seeing .see-at s j l
 
         by : (x y : Bool) → eqb (code (drop j s)) 0x7B ≡ x → eqb (code (drop j s)) 0x7D ≡ y
             → fails test.Brace (code (drop (skip (fails test.Brace) s i) s)) ≡ false → see s j ≡ Char 0x7D (j + 1)
-        by true y p q f = absurd (n (byte-of s j _ _ (seen ∙ ap (λ (c : ℕ). Char c (j + 1 + rest (drop j s))) (eqb-true _ _ p)) (omega arith)))
-        by false true p q f = at-byte s j 0x7D l (byte-of s j _ _ (seen ∙ ap (λ (c : ℕ). Char c (j + 1 + rest (drop j s))) (eqb-true _ _ q))
+        by true y p q f = absurd (n (seeing .byte-of s j _ _ (seen ∙ ap (λ (c : ℕ). Char c (j + 1 + rest (drop j s))) (eqb-true _ _ p)) (omega arith)))
+        by false true p q f = seeing .at-byte s j 0x7D l (seeing .byte-of s j _ _ (seen ∙ ap (λ (c : ℕ). Char c (j + 1 + rest (drop j s))) (eqb-true _ _ q))
             (omega arith)) (omega arith)
         by false false p q f = no-loop (fails test.Brace (code (drop j s))) (rw (p, q) refl)
             (ap (λ (j : ℕ). fails test.Brace (code (drop j s))) h ∙ f)

@@ -18,7 +18,7 @@ use Rattle.text.proofs.general.Tests.{both-true}
 use Rattle.row.specs.Numbers.{rowsOf}
 use Rattle.row.specs.Laid.{rowAt}
 use Rattle.row.proofs.Laid.{laid}
-use Rattle.lookup.specs.Names.{sameBytes}
+use Rattle.text.specs.Same.{sameBytes}
 use Rattle.resolve.specs.Checks.{monthIn, monthsOf, isValid, isText, isMonth, everyMonth, areMonths}
 use Rattle.values.specs.declared.months.Month.the-variants as found
 use Rattle.values.specs.Field.{monthOf}

@@ -3,7 +3,7 @@ use Prim.Native.Nat.{ℕ, _+_, _-_}
 use borrow.Author.Needs.{needs}
 use mathlib.Core.Path.{sym, ap, _∙_}
 use Rattle.text.specs.Scan.{part}
-use Rattle.command.specs.Commands.{same}
+use Rattle.text.specs.Same.{sameBytes}
 use Rattle.command.proofs.ways.MeaningRows as laws
 use Rattle.command.proofs.meaning.equals.Statement.{statement}
 use Rattle.command.proofs.meaning.equals.Tie as tie
@@ -17,7 +17,7 @@ returns c =
 returns-2 : tie.Need-returns-2
 returns-2 c =
     let a = c .before .before .before .before .args in
-    c .matches .ensures ∙ ap (λ (n : ℕ). same (part (a .names .now) (a .i) (a .i + n)) (part (a .s .now) (a .a) (a .a + a .n)))
+    c .matches .ensures ∙ ap (λ (n : ℕ). sameBytes (part (a .names .now) (a .i) (a .i + n)) (part (a .s .now) (a .a) (a .a + a .n)))
     (sym (c .before .if1 .left))
 
 pub equals-spec : {M : Type 1} → statement M

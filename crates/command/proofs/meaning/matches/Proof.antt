@@ -4,13 +4,13 @@ use native.Mathlib.Omega.{arith}
 use borrow.Author.Needs.{needs}
 use mathlib.Core.Path.{_≡_, sym, _∙_}
 use Rattle.text.specs.Scan.{part}
-use Rattle.command.specs.Commands.{same}
+use Rattle.text.specs.Same.{sameBytes}
 use Rattle.command.proofs.ways.MeaningRows as laws
 use Rattle.command.proofs.meaning.matches.Statement.{statement}
 use Rattle.command.proofs.meaning.matches.Tie as tie
 
 abbrev Inv-loop : tie.InvT-loop
-Inv-loop names i s a n k₀ k = (k ≤ n) × (same (part names i (i + n)) (part s a (a + n)) ≡ same (part names (i + k) (i + n)) (part s (a + k) (a + n)))
+Inv-loop names i s a n k₀ k = (k ≤ n) × (sameBytes (part names i (i + n)) (part s a (a + n)) ≡ sameBytes (part names (i + k) (i + n)) (part s (a + k) (a + n)))
 
 abbrev μ-loop : tie.MeasureT-loop
 μ-loop names i s a n k₀ k = n - k

@@ -3,7 +3,7 @@ use Prim.Native.Nat.{_-_}
 use native.Mathlib.Omega.{arith}
 use lib.ListN.{length}
 use borrow.Author.Needs.{needs}
-use Rattle.text.proofs.scanning.Blocks.{clear-as, Lacking, lacking, lacking-more, found-at}
+use Rattle.text.proofs.scanning.Blocks.{clear-join, clear-as, Lacking, lacking, lacking-more, found-at}
 use Rattle.text.proofs.block.find.Statement.{statement}
 use Rattle.text.proofs.block.find.Tie as tie
 
@@ -14,7 +14,7 @@ abbrev μ-loop : tie.MeasureT-loop
 μ-loop s at x i₀ i = length s - i
 
 loop-holds : tie.Need-loop-holds Inv-loop μ-loop
-loop-holds c = lacking (clear-as (c .before .intervals .ensures) (c .past .ensures))
+loop-holds c = lacking (clear-as (c .before .before .intervals .ensures) (clear-join (c .before .past-long .ensures) (c .past .ensures)))
 
 shared-slice-read-if1 : tie.Need-shared-slice-read-if1 Inv-loop μ-loop
 shared-slice-read-if1 c = omega arith
@@ -40,6 +40,7 @@ find-spec =
     (tie.spec
     Inv-loop
     μ-loop
+    (λ c κs. search needs)
     (λ c κs. search needs)
     (λ c κs. search needs)
     loop-holds
