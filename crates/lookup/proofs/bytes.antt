@@ -2,5 +2,5 @@
 
 -- the hash of bytes: one turn of its loop, and the end
 pub mod HashTurns
--- texts compared byte by byte: one turn of the loop, and that the test is equality
+-- texts compared byte by byte: one turn of the loop
 pub mod Compared
