@@ -1,9 +1,11 @@
-//! The choice of cases and the form in which they are written.
+//! The choice of files.
 
 use std::collections::HashSet;
 
 use cases::symbols::{AROUND, HEADS, PARTS, SEQUENCES, WIDER};
 use cases::{damage, Bytes, Grammar, Random};
+
+use crate::case::{Case, List};
 
 const SEED: u64 = 3;
 
@@ -57,76 +59,29 @@ const NAMED: [&[u8]; 40] = [
 /// Repeats of a part, from none to as many as the length allows.
 const REPEATS: [usize; 9] = [0, 1, 2, 15, 16, 17, 127, 128, 180];
 
-/// The list, and the number that each case is answered with.
-pub fn make() -> (Vec<u8>, Vec<usize>) {
-    let mut list = List {
-        bytes: Vec::new(),
-        numbers: Vec::new(),
-        seen: HashSet::new(),
-    };
-    NAMED.iter().for_each(|file| list.add(file));
-    list.tails();
-    list.characters();
-    list.sequences();
-    list.values(&mut b"@a{k,t=".to_vec(), 5);
-    list.repeats();
-    list.drawn();
-    (list.bytes, list.numbers)
+/// Adds the files to a list.
+pub fn add_to(list: &mut List) {
+    let seen = HashSet::new();
+    let mut files = Files { list, seen };
+    NAMED.iter().for_each(|file| files.add(file));
+    files.tails();
+    files.characters();
+    files.sequences();
+    files.values(&mut b"@a{k,t=".to_vec(), 5);
+    files.repeats();
+    files.drawn();
 }
 
-/// Writes one case: the file and what the Rust answers. Gives the number.
-pub fn put(bytes: &mut Vec<u8>, file: &[u8]) -> u32 {
-    let wide = |n: u32| (n as u16).to_be_bytes();
-    bytes.extend(wide(file.len() as u32));
-    bytes.extend(file);
-    match oracle::read(file) {
-        Ok(rows) => {
-            bytes.extend([0, rows.len() as u8]);
-            for row in rows {
-                bytes.extend([row.kind as u8, row.detail as u8]);
-                bytes.extend(wide(row.start));
-                bytes.extend(wide(row.end));
-            }
-            0
-        }
-        Err(refusal) => {
-            bytes.push(refusal.number as u8);
-            bytes.extend(wide(refusal.start));
-            bytes.extend(wide(refusal.end));
-            refusal.number
-        }
-    }
-}
-
-/// The file of the case that starts at a place of a list.
-pub fn file_at(list: &[u8], at: usize) -> Option<&[u8]> {
-    let length = list.get(at..at + 2)?;
-    let length = usize::from(u16::from_be_bytes([length[0], length[1]]));
-    list.get(at + 2..at + 2 + length)
-}
-
-/// The length of the case that starts at a place of a list.
-pub fn length_at(list: &[u8], at: usize) -> Option<usize> {
-    let answer = 2 + file_at(list, at)?.len();
-    let length = match list.get(at + answer)? {
-        0 => answer + 2 + 6 * usize::from(*list.get(at + answer + 1)?),
-        _ => answer + 5,
-    };
-    (at + length <= list.len()).then_some(length)
-}
-
-struct List {
-    bytes: Vec<u8>,
-    numbers: Vec<usize>,
+struct Files<'a> {
+    list: &'a mut List,
     seen: HashSet<Vec<u8>>,
 }
 
-impl List {
+impl Files<'_> {
     /// Adds a file that is short enough and not there yet.
     fn add(&mut self, file: &[u8]) {
         if file.len() < LONGEST && self.seen.insert(file.to_vec()) {
-            let number = put(&mut self.bytes, file);
-            self.numbers.push(number as usize);
+            self.list.add(&Case::File(file));
         }
     }
 
