@@ -257,6 +257,15 @@ impl Measured {
             self.resolving.speed(bytes)
         );
     }
+
+    /// Prints how the times grew to those of a longer file.
+    fn grown(&self, longer: &Self) {
+        let times = [
+            ("Rust", &self.rust, &longer.rust),
+            ("one call", &self.whole, &longer.whole),
+        ];
+        growth(self.bytes, longer.bytes, &times);
+    }
 }
 
 /// The rows that reading gives, as numbers.
@@ -268,12 +277,7 @@ pub fn rows(text: &[u8]) -> Vec<u32> {
 
 fn at_two_sizes(shape: &Shape, rounds: usize) {
     println!("all fields of {}", shape.name);
-    let (small, full) = (measure(&shape.small, rounds), measure(&shape.full, rounds));
-    let times = [
-        ("Rust", &small.rust, &full.rust),
-        ("one call", &small.whole, &full.whole),
-    ];
-    growth(small.bytes, full.bytes, &times);
+    measure(&shape.small, rounds).grown(&measure(&shape.full, rounds));
 }
 
 pub fn run(folders: &[PathBuf], rounds: usize) {
@@ -292,11 +296,7 @@ pub fn growing(name: &str, texts: impl IntoIterator<Item = Vec<u8>>, rounds: usi
         println!("all fields of {name}");
         let measured = measure(&text, rounds);
         if let Some(before) = &before {
-            let times = [
-                ("Rust", &before.rust, &measured.rust),
-                ("one call", &before.whole, &measured.whole),
-            ];
-            growth(before.bytes, measured.bytes, &times);
+            before.grown(&measured);
         }
         before = Some(measured);
     }

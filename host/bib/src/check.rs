@@ -246,8 +246,7 @@ impl<'a, E, S: FnMut(&Finding, &Lines) -> Result<(), E>> Checker<'a, S> {
                 self.cuts(&item)?;
             }
             match item.what {
-                What::Entry => self.entry(&item)?,
-                What::Definitions => self.definitions(&item)?,
+                What::Entry | What::Definitions => self.rows_of(&item)?,
                 What::Outside => self.outside(&item, before)?,
                 What::Damage => self.damage(&item)?,
                 What::Preamble | What::Comment => {}

@@ -4,7 +4,7 @@ use proved::{File, LentForFile, ANSWER_NUMBERS};
 
 use crate::room::Room;
 use crate::row::NUMBERS;
-use crate::{chunk, memory, Kind, Reason, Refusal};
+use crate::{chunk, memory, Kind, Refusal};
 
 /// What the values of a file are resolved to, in the order of their rows.
 #[derive(Debug, Clone, PartialEq, Eq)]
@@ -63,7 +63,7 @@ impl ResolvedFile {
 /// Lends more until it is enough. What does not depend on the room is lent once.
 pub(crate) fn resolve(file: File, flags: &[bool]) -> Result<ResolvedFile, Refusal> {
     let mut index = Index::of(file.rows)?;
-    let mut numbers = memory::zeros(flags.len()).ok_or(Refusal::NO_MEMORY)?;
+    let mut numbers = memory::zeros(flags.len())?;
     for (number, flag) in numbers.iter_mut().zip(flags) {
         *number = u8::from(*flag);
     }
@@ -95,12 +95,11 @@ impl Index {
         let value = Kind::Value.number();
         let rows = rows.chunks_exact(NUMBERS);
         let length = rows.len();
-        let numbers = |count| memory::zeros(count).ok_or(Refusal::NO_MEMORY);
         Ok(Self {
             values: rows.filter(|row| row[0] == value).count(),
-            scratch: memory::zeros(proved::LEAST_SCRATCH).ok_or(Refusal::NO_MEMORY)?,
-            heads: numbers(length / 2 + 1)?,
-            next: numbers(length)?,
+            scratch: memory::zeros(proved::LEAST_SCRATCH)?,
+            heads: memory::zeros(length / 2 + 1)?,
+            next: memory::zeros(length)?,
         })
     }
 
@@ -111,10 +110,9 @@ impl Index {
         flags: &[u8],
         room: &Room,
     ) -> Result<Option<ResolvedFile>, Refusal> {
-        let numbers = |count| memory::zeros(count).ok_or(Refusal::NO_MEMORY);
-        let mut answers = numbers(self.values * ANSWER_NUMBERS)?;
-        let mut chunks = numbers(room.chunks * chunk::NUMBERS)?;
-        let mut text = memory::zeros(room.text).ok_or(Refusal::NO_MEMORY)?;
+        let mut answers = memory::zeros(self.values * ANSWER_NUMBERS)?;
+        let mut chunks = memory::zeros(room.chunks * chunk::NUMBERS)?;
+        let mut text = memory::zeros(room.text)?;
         let mut lent = LentForFile {
             scratch: &mut self.scratch,
             heads: &mut self.heads,
@@ -125,11 +123,7 @@ impl Index {
         };
         let answer = proved::resolve_file(file, flags, &mut lent);
         if answer.number != 0 {
-            let refusal = Refusal::of(answer.number, answer.start, answer.end);
-            return match refusal.reason {
-                Reason::NoRoom => Ok(None),
-                _ => Err(refusal),
-            };
+            return Refusal::of(answer.number, answer.start, answer.end).unless_room();
         }
         let rows = answer.chunk_rows as usize * chunk::NUMBERS;
         Ok(Some(ResolvedFile {

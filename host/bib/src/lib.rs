@@ -31,7 +31,9 @@ pub use row::{Kind, Row, Rows};
 use std::ops::Range;
 
 use memory::Number;
-use proved::{Answer, File, Lent};
+use months::Months;
+use proved::Answer;
+use room::Room;
 use row::{BYTES, NUMBERS};
 
 /// The most bytes that a file may have; a longer one is refused.
@@ -101,22 +103,12 @@ pub fn resolve_literal(
     span: Range<usize>,
     is_verbatim: bool,
 ) -> Result<Resolved, Refusal> {
-    // A literal of n bytes has at most n + 1 chunks and 2 * n bytes of text. A longer one is refused.
-    let length = span.len().min(MOST_LITERAL);
-    let zeros = |count| memory::zeros(count).ok_or(Refusal::NO_MEMORY);
-    let (mut scratch, mut text) = (zeros(proved::LEAST_SCRATCH)?, zeros(2 * length)?);
-    let rows = memory::zeros((length + 1) * chunk::NUMBERS);
-    let mut rows = rows.ok_or(Refusal::NO_MEMORY)?;
-    let mut lent = Lent {
-        scratch: &mut scratch,
-        chunks: &mut rows,
-        text: &mut text,
-    };
-    let answer = proved::resolve_literal(file, span.start, span.end, is_verbatim.into(), &mut lent);
-    if answer.number != 0 {
-        return Err(Refusal::of(answer.number, answer.start, answer.end));
-    }
-    Ok(Resolved::new(rows, text, answer))
+    // A longer literal is refused in any room.
+    let room = Room::of_literal(span.len().min(MOST_LITERAL));
+    let flag = is_verbatim.into();
+    let resolved =
+        room.resolve(|lent| proved::resolve_literal(file, span.start, span.end, flag, lent))?;
+    resolved.ok_or(Refusal::NO_MEMORY)
 }
 
 /// Resolves the value of a field, of a verbatim one (as `file` or `url`) or another: its literals, and
@@ -139,17 +131,11 @@ pub fn resolve_field(
     is_verbatim: bool,
     months: &[(&str, &str)],
 ) -> Result<Resolved, Refusal> {
-    let (months, words) = months::lent(months).ok_or(Refusal::NO_MEMORY)?;
-    let lent = File {
-        bytes: file,
-        rows,
-        months: &months,
-        words: &words,
-    };
-    // Enough for literals alone, as in `resolve_literal`, and for some names.
-    let mut room = room::Room::of(rows, which, file.len());
+    let months = Months::of(months)?;
+    let mut room = Room::of(rows, which, file.len());
+    let (file, flag) = (months.beside(file, rows), is_verbatim.into());
     loop {
-        match room.resolve(lent, which, is_verbatim)? {
+        match room.resolve(|lent| proved::resolve_field(file, which, flag, lent))? {
             Some(resolved) => return Ok(resolved),
             None => room.grow()?,
         }
@@ -174,14 +160,7 @@ pub fn resolve_file(
     flags: &[bool],
     months: &[(&str, &str)],
 ) -> Result<ResolvedFile, Refusal> {
-    let (months, words) = months::lent(months).ok_or(Refusal::NO_MEMORY)?;
-    let lent = File {
-        bytes: file,
-        rows,
-        months: &months,
-        words: &words,
-    };
-    filed::resolve(lent, flags)
+    filed::resolve(Months::of(months)?.beside(file, rows), flags)
 }
 
 /// A file of n bytes has at most n + 1 rows (`EnoughRoom` of crates/bib/specs/EnoughRoom.antt).
@@ -200,7 +179,7 @@ fn answered<U>(
 where
     U: Number,
 {
-    let mut to = memory::zeros(most).ok_or(Refusal::NO_MEMORY)?;
+    let mut to = memory::zeros(most)?;
     let answer = call(&mut to);
     if answer.number != 0 {
         return Err(Refusal::of(answer.number, answer.start, answer.end));

@@ -3,6 +3,8 @@
 use std::alloc::{alloc_zeroed, Layout};
 use std::collections::TryReserveError;
 
+use crate::Refusal;
+
 /// A number of which all bits zero are a value.
 ///
 /// # Safety
@@ -14,18 +16,21 @@ pub(crate) unsafe trait Number: Copy {}
 unsafe impl Number for u8 {}
 unsafe impl Number for u32 {}
 
-/// So many zeros, or nothing where memory is short. They come from the system as zeros, and take
+/// So many zeros, or the refusal where memory is short. They come from the system as zeros, and take
 /// memory only where something is written.
-pub(crate) fn zeros<T: Number>(count: usize) -> Option<Vec<T>> {
-    let layout = Layout::array::<T>(count).ok()?;
+pub(crate) fn zeros<T: Number>(count: usize) -> Result<Vec<T>, Refusal> {
+    let layout = Layout::array::<T>(count).map_err(|_| Refusal::NO_MEMORY)?;
     if layout.size() == 0 {
-        return Some(Vec::new());
+        return Ok(Vec::new());
     }
     // SAFETY: the layout is not empty; what was allocated is of just this layout, and zeros are
     // values of T.
     unsafe {
         let place = alloc_zeroed(layout).cast::<T>();
-        (!place.is_null()).then(|| Vec::from_raw_parts(place, count, count))
+        match place.is_null() {
+            true => Err(Refusal::NO_MEMORY),
+            false => Ok(Vec::from_raw_parts(place, count, count)),
+        }
     }
 }
 

@@ -121,6 +121,14 @@ impl Refusal {
         }
     }
 
+    /// Nothing where the room was too short, and else the refusal.
+    pub(crate) fn unless_room<T>(self) -> Result<Option<T>, Self> {
+        match self.reason {
+            Reason::NoRoom => Ok(None),
+            _ => Err(self),
+        }
+    }
+
     /// What is wrong. A literal may be too long, or the file.
     pub fn what(&self) -> &'static str {
         if self.is_long_literal() {

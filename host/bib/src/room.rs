@@ -1,11 +1,11 @@
-//! The room for the chunks and the text of a field, or of all fields. How much they need is not known
-//! before their names are resolved, so that it grows until it is enough.
+//! The room for the chunks and the text of a literal, of a field, or of all fields. How much fields need is
+//! not known before their names are resolved, so that it grows until it is enough.
 
-use proved::{File, Lent};
+use proved::Lent;
 
 use crate::chunk::{self, Resolved};
 use crate::row::NUMBERS;
-use crate::{memory, Reason, Refusal};
+use crate::{memory, Refusal};
 
 /// Chunks, and bytes of text, that are lent beside what the value's own literals can need.
 const FOR_NAMES: usize = 256;
@@ -22,8 +22,17 @@ pub(crate) struct Room {
 }
 
 impl Room {
-    /// At first: a literal of n bytes has at most n + 1 chunks and 2 * n bytes of text, and a value's
-    /// literals stand inside it.
+    /// A literal of n bytes has at most n + 1 chunks and 2 * n bytes of text.
+    pub(crate) fn of_literal(length: usize) -> Self {
+        Self {
+            chunks: length + 1,
+            text: 2 * length,
+            literals: None,
+        }
+    }
+
+    /// At first: what a literal of the value's length can need, since its literals stand inside it, and
+    /// some for names.
     pub(crate) fn of(rows: &[u32], which: usize, file: usize) -> Self {
         let row = rows.chunks_exact(NUMBERS).nth(which);
         let length = row.map_or(0, |row| row[3].saturating_sub(row[2]) as usize);
@@ -75,27 +84,19 @@ impl Room {
     /// What the call gives in this room; nothing where the room is too short.
     pub(crate) fn resolve(
         &self,
-        file: File,
-        which: usize,
-        is_verbatim: bool,
+        call: impl FnOnce(&mut Lent) -> proved::Resolved,
     ) -> Result<Option<Resolved>, Refusal> {
-        let zeros = |count| memory::zeros(count).ok_or(Refusal::NO_MEMORY);
-        let (mut scratch, mut text) = (zeros(proved::LEAST_SCRATCH)?, zeros(self.text)?);
-        let numbers = memory::zeros(self.chunks * chunk::NUMBERS);
-        let mut chunks = numbers.ok_or(Refusal::NO_MEMORY)?;
-        let mut lent = Lent {
+        let mut scratch = memory::zeros(proved::LEAST_SCRATCH)?;
+        let mut chunks = memory::zeros(self.chunks * chunk::NUMBERS)?;
+        let mut text = memory::zeros(self.text)?;
+        let answer = call(&mut Lent {
             scratch: &mut scratch,
             chunks: &mut chunks,
             text: &mut text,
-        };
-        let answer = proved::resolve_field(file, which, is_verbatim.into(), &mut lent);
-        if answer.number == 0 {
-            return Ok(Some(Resolved::new(chunks, text, answer)));
+        });
+        if answer.number != 0 {
+            return Refusal::of(answer.number, answer.start, answer.end).unless_room();
         }
-        let refusal = Refusal::of(answer.number, answer.start, answer.end);
-        match refusal.reason {
-            Reason::NoRoom => Ok(None),
-            _ => Err(refusal),
-        }
+        Ok(Some(Resolved::new(chunks, text, answer)))
     }
 }

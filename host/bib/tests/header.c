@@ -41,13 +41,26 @@ static int says(struct answer a, uint32_t status, uint64_t count, uint64_t start
 
 typedef uint32_t reading(const uint8_t *, size_t, uint32_t *, size_t, uint64_t *, uint64_t *, uint64_t *);
 
-/* Lends room numbers of rows, the ROOM of which are marked first. */
-static struct answer call(reading *read, const char *text, uint32_t rows[ROOM], size_t room)
+/* Reads or unpacks so many bytes, and lends room numbers of rows. */
+static struct answer take(reading *read, const void *bytes, size_t length, uint32_t *rows, size_t room)
 {
     struct answer a = unset();
+    a.status = read(bytes, length, rows, room, &a.count, &a.start, &a.end);
+    return a;
+}
+
+/* The same of a text, where the ROOM numbers are marked first. */
+static struct answer call(reading *read, const char *text, uint32_t rows[ROOM], size_t room)
+{
     for (size_t i = 0; i < ROOM; i++)
         rows[i] = UNTOUCHED;
-    a.status = read((const uint8_t *)text, strlen(text), rows, room, &a.count, &a.start, &a.end);
+    return take(read, text, strlen(text), rows, room);
+}
+
+static struct answer pack(const uint32_t *rows, size_t length, uint8_t *bytes, size_t room)
+{
+    struct answer a = unset();
+    a.status = bib_pack(rows, length, bytes, room, &a.count, &a.start, &a.end);
     return a;
 }
 
@@ -83,57 +96,34 @@ static void takes_nothing_to_read(reading *read, uint32_t damaged, uint64_t plac
     uint32_t rows[ROOM];
     struct answer a = call(read, "", rows, ROOM);
     hold(says(a, BIB_OK, 0, 0, 0) && untouched(rows, 0), "an empty file");
-    a = unset();
-    a.status = read(NULL, 0, rows, ROOM, &a.count, &a.start, &a.end);
+    a = take(read, NULL, 0, rows, ROOM);
     hold(says(a, BIB_OK, 0, 0, 0) && untouched(rows, 0), "a null file of length 0");
-    a = unset();
-    a.status = read(NULL, 0, NULL, 0, &a.count, &a.start, &a.end);
-    hold(says(a, BIB_OK, 0, 0, 0), "a null file, and null rows");
-    a = unset();
-    a.status = read((const uint8_t *)"words", 5, NULL, 0, &a.count, &a.start, &a.end);
-    hold(says(a, BIB_OK, 0, 0, 0), "a file without rows, and null rows");
-    a = unset();
-    a.status = read((const uint8_t *)"@a{k,}", 6, NULL, 0, &a.count, &a.start, &a.end);
-    hold(says(a, BIB_NO_ROOM, 0, 0, 0), "rows, and null rows for them");
-    a = unset();
-    a.status = read((const uint8_t *)"@a{k}", 5, NULL, 0, &a.count, &a.start, &a.end);
-    hold(says(a, damaged, 0, place, place), "a comma that is missing, and null rows");
+    hold(says(take(read, NULL, 0, NULL, 0), BIB_OK, 0, 0, 0), "a null file, and null rows");
+    hold(says(take(read, "words", 5, NULL, 0), BIB_OK, 0, 0, 0), "a file without rows, and null rows");
+    hold(says(take(read, "@a{k,}", 6, NULL, 0), BIB_NO_ROOM, 0, 0, 0), "rows, and null rows for them");
+    hold(says(take(read, "@a{k}", 5, NULL, 0), damaged, 0, place, place), "a comma that is missing, and null rows");
 }
 
 static void takes_nothing_to_pack(void)
 {
     static const uint32_t rows[] = {BIB_DAMAGE, 0, 0, 4, BIB_CAUSE, 7, 4, 4};
     uint8_t bytes[] = {0xA5, 0xA5, 0xA5, 0xA5, 0xA5, 0xA5, 0xA5};
-    struct answer a = unset();
-    a.status = bib_pack(NULL, 0, bytes, sizeof bytes, &a.count, &a.start, &a.end);
+    struct answer a = pack(NULL, 0, bytes, sizeof bytes);
     hold(says(a, BIB_OK, 0, 0, 0) && bytes[0] == 0xA5, "null rows to pack");
-    a = unset();
-    a.status = bib_pack(NULL, 0, NULL, 0, &a.count, &a.start, &a.end);
-    hold(says(a, BIB_OK, 0, 0, 0), "null rows to pack into null bytes");
-    a = unset();
-    a.status = bib_pack(rows, 8, NULL, 0, &a.count, &a.start, &a.end);
-    hold(says(a, BIB_NO_ROOM, 0, 0, 0), "rows to pack into null bytes");
-    a = unset();
-    a.status = bib_pack(rows, 4, NULL, 0, &a.count, &a.start, &a.end);
-    hold(says(a, BIB_BAD_ROWS, 0, 0, 0), "bad rows to pack into null bytes");
+    hold(says(pack(NULL, 0, NULL, 0), BIB_OK, 0, 0, 0), "null rows to pack into null bytes");
+    hold(says(pack(rows, 8, NULL, 0), BIB_NO_ROOM, 0, 0, 0), "rows to pack into null bytes");
+    hold(says(pack(rows, 4, NULL, 0), BIB_BAD_ROWS, 0, 0, 0), "bad rows to pack into null bytes");
 }
 
 static void takes_nothing_to_unpack(void)
 {
     static const uint8_t bytes[] = {0x90, 0, 0, 0, 0, 0, 4, 0xA7, 0, 0, 4, 0, 0, 0};
     uint32_t rows[] = {UNTOUCHED, UNTOUCHED, UNTOUCHED, UNTOUCHED};
-    struct answer a = unset();
-    a.status = bib_unpack(NULL, 0, rows, 4, &a.count, &a.start, &a.end);
+    struct answer a = take(bib_unpack, NULL, 0, rows, 4);
     hold(says(a, BIB_OK, 0, 0, 0) && rows[0] == UNTOUCHED, "null bytes to unpack");
-    a = unset();
-    a.status = bib_unpack(NULL, 0, NULL, 0, &a.count, &a.start, &a.end);
-    hold(says(a, BIB_OK, 0, 0, 0), "null bytes to unpack into null rows");
-    a = unset();
-    a.status = bib_unpack(bytes, 14, NULL, 0, &a.count, &a.start, &a.end);
-    hold(says(a, BIB_NO_ROOM, 0, 0, 0), "bytes to unpack into null rows");
-    a = unset();
-    a.status = bib_unpack(bytes, 13, NULL, 0, &a.count, &a.start, &a.end);
-    hold(says(a, BIB_BAD_ROWS, 0, 0, 0), "bad bytes to unpack into null rows");
+    hold(says(take(bib_unpack, NULL, 0, NULL, 0), BIB_OK, 0, 0, 0), "null bytes to unpack into null rows");
+    hold(says(take(bib_unpack, bytes, 14, NULL, 0), BIB_NO_ROOM, 0, 0, 0), "bytes to unpack into null rows");
+    hold(says(take(bib_unpack, bytes, 13, NULL, 0), BIB_BAD_ROWS, 0, 0, 0), "bad bytes to unpack into null rows");
 }
 
 static void salvages(void)
@@ -153,28 +143,21 @@ static void salvages(void)
 static void enough(void)
 {
     uint32_t rows[BIB_ENOUGH_NUMBERS(5)];
-    struct answer a = unset();
-    a.status = bib_salvage((const uint8_t *)"@\n@\n@", 5, rows, BIB_ENOUGH_NUMBERS(5), &a.count, &a.start, &a.end);
+    struct answer a = take(bib_salvage, "@\n@\n@", 5, rows, BIB_ENOUGH_NUMBERS(5));
     hold(says(a, BIB_OK, 6, 0, 0), "enough numbers, and none to spare");
 }
 
 static void refuses_a_long_file(void)
 {
     uint32_t rows[ROOM];
-    struct answer a = unset();
     uint8_t *file = calloc(BIB_MOST_BYTES + 1, 1);
     if (file == NULL) {
         hold(0, "memory for a long file");
         return;
     }
-    a.status = bib_read(file, BIB_MOST_BYTES + 1, rows, ROOM, &a.count, &a.start, &a.end);
-    hold(says(a, BIB_TOO_LONG, 0, 0, 0), "a byte too many, read");
-    a = unset();
-    a.status = bib_salvage(file, BIB_MOST_BYTES + 1, rows, ROOM, &a.count, &a.start, &a.end);
-    hold(says(a, BIB_TOO_LONG, 0, 0, 0), "a byte too many, salvaged");
-    a = unset();
-    a.status = bib_read(file, BIB_MOST_BYTES, rows, ROOM, &a.count, &a.start, &a.end);
-    hold(says(a, BIB_OK, 0, 0, 0), "the longest file");
+    hold(says(take(bib_read, file, BIB_MOST_BYTES + 1, rows, ROOM), BIB_TOO_LONG, 0, 0, 0), "a byte too many, read");
+    hold(says(take(bib_salvage, file, BIB_MOST_BYTES + 1, rows, ROOM), BIB_TOO_LONG, 0, 0, 0), "a byte too many, salvaged");
+    hold(says(take(bib_read, file, BIB_MOST_BYTES, rows, ROOM), BIB_OK, 0, 0, 0), "the longest file");
     free(file);
 }
 
@@ -184,24 +167,16 @@ static void packs(void)
     static const uint8_t want[] = {0x90, 0, 0, 0, 0, 0, 4, 0xA7, 0, 0, 4, 0, 0, 0};
     uint8_t bytes[16];
     uint32_t back[ROOM];
-    struct answer a = unset();
     memset(bytes, 0xA5, sizeof bytes);
-    a.status = bib_pack(rows, 8, bytes, 13, &a.count, &a.start, &a.end);
+    struct answer a = pack(rows, 8, bytes, 13);
     hold(says(a, BIB_NO_ROOM, 0, 0, 0) && bytes[0] == 0xA5, "a byte too few to pack into");
-    a = unset();
-    a.status = bib_pack(rows, 8, bytes, sizeof bytes, &a.count, &a.start, &a.end);
-    hold(says(a, BIB_OK, 14, 0, 0), "fourteen bytes");
+    hold(says(pack(rows, 8, bytes, sizeof bytes), BIB_OK, 14, 0, 0), "fourteen bytes");
     hold(memcmp(bytes, want, sizeof want) == 0, "the bytes are those of document 01");
     hold(bytes[14] == 0xA5 && bytes[15] == 0xA5, "what lies past the bytes stays");
-    a = unset();
-    a.status = bib_unpack(bytes, 14, back, ROOM, &a.count, &a.start, &a.end);
+    a = take(bib_unpack, bytes, 14, back, ROOM);
     hold(says(a, BIB_OK, 2, 0, 0) && memcmp(back, rows, sizeof rows) == 0, "the rows come back");
-    a = unset();
-    a.status = bib_unpack(bytes, 13, back, ROOM, &a.count, &a.start, &a.end);
-    hold(says(a, BIB_BAD_ROWS, 0, 0, 0), "no multiple of seven");
-    a = unset();
-    a.status = bib_pack(rows, 4, bytes, sizeof bytes, &a.count, &a.start, &a.end);
-    hold(says(a, BIB_BAD_ROWS, 0, 0, 0), "damage without a cause");
+    hold(says(take(bib_unpack, bytes, 13, back, ROOM), BIB_BAD_ROWS, 0, 0, 0), "no multiple of seven");
+    hold(says(pack(rows, 4, bytes, sizeof bytes), BIB_BAD_ROWS, 0, 0, 0), "damage without a cause");
 }
 
 #define SPAN 0, 0
@@ -328,12 +303,12 @@ static int refused(const struct resolving *r, uint32_t status, uint64_t start, u
 }
 
 /* Whether the scratch that was lent holds zeros, and the byte behind it is as it was. */
-static int zeros(const struct resolving *r, size_t scratch)
+static int zeros(const uint8_t *scratch, size_t length)
 {
-    for (size_t i = 0; i < scratch; i++)
-        if (r->scratch[i] != 0)
+    for (size_t i = 0; i < length; i++)
+        if (scratch[i] != 0)
             return 0;
-    return r->scratch[scratch] == 0xA5;
+    return scratch[length] == 0xA5;
 }
 
 /* "x", what G\"odel wrote, and "{" to "}" in a file, from 1 on */
@@ -345,19 +320,19 @@ static void resolves(void)
     const size_t enough = BIB_LEAST_SCRATCH;
     struct resolving r;
     resolve(&r, literal, 1, 4, 0, enough, ROOM, 32);
-    hold(resolved(&r, 1, "\xc3\xb6") && zeros(&r, enough), "an accent");
+    hold(resolved(&r, 1, "\xc3\xb6") && zeros(r.scratch, enough), "an accent");
     resolve(&r, literal, 1, 9, 0, enough, ROOM, 32);
-    hold(refused(&r, BIB_UNEXPECTED_EOF, 9, 9) && zeros(&r, enough), "a dollar sign alone");
+    hold(refused(&r, BIB_UNEXPECTED_EOF, 9, 9) && zeros(r.scratch, enough), "a dollar sign alone");
     resolve(&r, literal, 1, 9, 0x100, enough, ROOM, 32);
-    hold(resolved(&r, 3, "\\\"o$yz") && zeros(&r, enough), "which a verbatim field takes");
+    hold(resolved(&r, 3, "\\\"o$yz") && zeros(r.scratch, enough), "which a verbatim field takes");
     resolve(&r, "x\\\"o{-y}z", 1, 9, 0, enough, ROOM, 32);
     hold(resolved(&r, 3, "\xc3\xb6-yz") && memcmp(r.chunks, want, sizeof want) == 0, "three chunks, with their spans");
     resolve(&r, "x\\\"o{-y}z", 1, 9, 0, enough, 15, 5);
     hold(resolved(&r, 3, "\xc3\xb6-yz"), "exactly the room for chunks and text");
     resolve(&r, "x\\\"o{-y}z", 1, 9, 0, enough, 14, 32);
-    hold(refused(&r, BIB_NO_ROOM, 0, 0) && zeros(&r, enough), "a number too few");
+    hold(refused(&r, BIB_NO_ROOM, 0, 0) && zeros(r.scratch, enough), "a number too few");
     resolve(&r, "x\\\"o{-y}z", 1, 9, 0, enough, ROOM, 4);
-    hold(refused(&r, BIB_NO_ROOM, 0, 0) && zeros(&r, enough), "a byte of text too few");
+    hold(refused(&r, BIB_NO_ROOM, 0, 0) && zeros(r.scratch, enough), "a byte of text too few");
 }
 
 static void refuses_literals(void)
@@ -365,17 +340,17 @@ static void refuses_literals(void)
     const size_t enough = BIB_LEAST_SCRATCH;
     struct resolving r;
     resolve(&r, "a}", 0, 2, 0, enough, ROOM, 32);
-    hold(refused(&r, BIB_UNEXPECTED_CLOSING_BRACE, 1, 2) && zeros(&r, enough), "a brace that closes nothing");
+    hold(refused(&r, BIB_UNEXPECTED_CLOSING_BRACE, 1, 2) && zeros(r.scratch, enough), "a brace that closes nothing");
     resolve(&r, "a}", 0, 2, 0, enough - 1, ROOM, 32);
-    hold(refused(&r, BIB_NO_ROOM, 0, 0) && zeros(&r, enough - 1), "too little scratch, before what is in the literal");
+    hold(refused(&r, BIB_NO_ROOM, 0, 0) && zeros(r.scratch, enough - 1), "too little scratch, before what is in the literal");
     resolve(&r, "a\xc3\xa9", 0, 2, 0, 0, ROOM, 32);
-    hold(refused(&r, BIB_BAD_ROWS, 0, 0) && zeros(&r, 0), "a literal that ends inside a character, before too little scratch");
+    hold(refused(&r, BIB_BAD_ROWS, 0, 0) && zeros(r.scratch, 0), "a literal that ends inside a character, before too little scratch");
     resolve(&r, "a\xc3", 2, 1, 0, 9, ROOM, 32);
-    hold(refused(&r, BIB_NOT_UTF8, 1, 1) && zeros(&r, 9), "a file that is not UTF-8, before a literal that is reversed");
+    hold(refused(&r, BIB_NOT_UTF8, 1, 1) && zeros(r.scratch, 9), "a file that is not UTF-8, before a literal that is reversed");
     resolve(&r, "ab", 2, 1, 0, enough, ROOM, 32);
-    hold(refused(&r, BIB_BAD_ROWS, 0, 0) && zeros(&r, enough), "a literal that is reversed");
+    hold(refused(&r, BIB_BAD_ROWS, 0, 0) && zeros(r.scratch, enough), "a literal that is reversed");
     resolve(&r, "ab", 0, SIZE_MAX, 0, enough, ROOM, 32);
-    hold(refused(&r, BIB_BAD_ROWS, 0, 0) && zeros(&r, enough), "a literal that ends outside the file");
+    hold(refused(&r, BIB_BAD_ROWS, 0, 0) && zeros(r.scratch, enough), "a literal that ends outside the file");
 }
 
 static void refuses_long_and_deep_literals(void)
@@ -392,12 +367,12 @@ static void refuses_long_and_deep_literals(void)
         memcpy(deep + 3 * i, "\\a{", 3);
     memset(deep + 3 * 65, '}', 65);
     resolve(&r, deep, 0, strlen(deep), 0, enough, ROOM, 32);
-    hold(refused(&r, BIB_TOO_DEEP, 3 * 64 + 2, 3 * 64 + 3) && zeros(&r, enough), "an argument too deep");
+    hold(refused(&r, BIB_TOO_DEEP, 3 * 64 + 2, 3 * 64 + 3) && zeros(r.scratch, enough), "an argument too deep");
     memset(lengthy, '\n', BIB_MOST_LITERAL + 1);
     resolve(&r, lengthy, 0, BIB_MOST_LITERAL + 1, 0, enough, ROOM, 32);
-    hold(refused(&r, BIB_TOO_LONG, 0, BIB_MOST_LITERAL + 1) && zeros(&r, enough), "a literal that is too long");
+    hold(refused(&r, BIB_TOO_LONG, 0, BIB_MOST_LITERAL + 1) && zeros(r.scratch, enough), "a literal that is too long");
     resolve(&r, lengthy, 1, BIB_MOST_LITERAL + 1, 0, enough, ROOM, 32);
-    hold(resolved(&r, 1, " ") && zeros(&r, enough), "the longest literal");
+    hold(resolved(&r, 1, " ") && zeros(r.scratch, enough), "the longest literal");
     free(lengthy);
 }
 
@@ -439,24 +414,24 @@ static void resolves_fields(void)
     struct resolving r;
     resolve_names(&r, 4, rows, "mayMay", enough, ROOM, 32);
     hold(r.status == BIB_OK && r.count == 1 && r.bytes == 5 && r.names == 2 && r.start == 0 && r.end == 0 && holds(r.text, "xyMay")
-             && memcmp(r.chunks, want, sizeof want) == 0 && untouched(r.chunks, 5) && zeros(&r, enough),
+             && memcmp(r.chunks, want, sizeof want) == 0 && untouched(r.chunks, 5) && zeros(r.scratch, enough),
          "a name and a month word");
     resolve_names(&r, 4, rows, "mayMay", enough, 5, 5);
     hold(r.status == BIB_OK && r.names == 2, "exactly the room for them");
     resolve_names(&r, 4, rows, "mayMay", enough, ROOM, 4);
-    hold(refused(&r, BIB_NO_ROOM, 0, 0) && zeros(&r, enough), "a byte of text too few for them");
+    hold(refused(&r, BIB_NO_ROOM, 0, 0) && zeros(r.scratch, enough), "a byte of text too few for them");
     resolve_names(&r, 4, rows, NULL, enough, ROOM, 32);
-    hold(refused(&r, BIB_UNKNOWN_ABBREVIATION, 13, 16) && zeros(&r, enough), "no month words");
+    hold(refused(&r, BIB_UNKNOWN_ABBREVIATION, 13, 16) && zeros(r.scratch, enough), "no month words");
     resolve_names(&r, 4, rows - 12, "mayMay", enough, ROOM, 32);
-    hold(refused(&r, BIB_UNKNOWN_ABBREVIATION, 7, 8) && zeros(&r, enough), "no definition");
+    hold(refused(&r, BIB_UNKNOWN_ABBREVIATION, 7, 8) && zeros(r.scratch, enough), "no definition");
     resolve_names(&r, 4, rows, "mayMay", enough - 1, ROOM, 32);
-    hold(refused(&r, BIB_NO_ROOM, 0, 0) && zeros(&r, enough - 1), "too little scratch for a field");
+    hold(refused(&r, BIB_NO_ROOM, 0, 0) && zeros(r.scratch, enough - 1), "too little scratch for a field");
     resolve_names(&r, 3, rows, "mayMay", 0, ROOM, 32);
     hold(refused(&r, BIB_BAD_ROWS, 0, 0), "a row that is no value's, before too little scratch");
     resolve_names(&r, SIZE_MAX, rows, "mayMay", enough, ROOM, 32);
     hold(refused(&r, BIB_BAD_ROWS, 0, 0), "a row that is not there");
     resolve_names(&r, 4, rows, "mayMa", enough, ROOM, 32);
-    hold(refused(&r, BIB_BAD_ROWS, 0, 0) && zeros(&r, enough), "a month's text that ends outside the words");
+    hold(refused(&r, BIB_BAD_ROWS, 0, 0) && zeros(r.scratch, enough), "a month's text that ends outside the words");
 }
 
 static void takes_nothing_to_resolve_in_fields(void)
@@ -512,10 +487,7 @@ static int cleared(const uint32_t *numbers, size_t length)
 
 static int left_clean(const struct filing *f, struct lengths l)
 {
-    for (size_t i = 0; i < l.scratch; i++)
-        if (f->scratch[i] != 0)
-            return 0;
-    return f->scratch[l.scratch] == 0xA5 && cleared(f->heads, l.heads) && cleared(f->next, l.next);
+    return zeros(f->scratch, l.scratch) && cleared(f->heads, l.heads) && cleared(f->next, l.next);
 }
 
 /* Whether it accepts with two values, these numbers and this text. */

@@ -12,27 +12,48 @@ const EDGES: [u8; 28] = [
 
 /// Every string of at most six (quick: four) characters of the alphabet.
 pub fn short(judge: &mut Judge, long: bool) {
-    extend(judge, &mut Vec::new(), &ALPHABET, if long { 6 } else { 4 });
+    strings(judge, b"", &ALPHABET, if long { 6 } else { 4 });
 }
 
 /// Every string of at most four (quick: three) characters behind each head.
 pub fn tails(judge: &mut Judge, long: bool) {
     for head in HEADS {
-        extend(judge, &mut head.to_vec(), &WIDER, if long { 4 } else { 3 });
+        strings(judge, head, &WIDER, if long { 4 } else { 3 });
     }
 }
 
-/// The file, and behind it every string of at most so many of the symbols.
-pub fn extend(judge: &mut Judge, file: &mut Vec<u8>, symbols: &[&[u8]], left: usize) {
-    judge.check(file);
+/// The head as a file, and with every string of at most so many of the symbols behind it.
+pub fn strings(judge: &mut Judge, head: &[u8], symbols: &[&[u8]], most: usize) {
+    let mut file = head.to_vec();
+    extend(&mut file, symbols, most, &mut |file| judge.check(file));
+}
+
+/// Checks what there is, and with every sequence of at most so many of the symbols behind it.
+pub fn extend<T: Clone>(
+    begun: &mut Vec<T>,
+    symbols: &[impl AsRef<[T]>],
+    left: usize,
+    check: &mut impl FnMut(&[T]),
+) {
+    check(begun);
     if left == 0 {
         return;
     }
     for symbol in symbols {
-        let length = file.len();
-        file.extend_from_slice(symbol);
-        extend(judge, file, symbols, left - 1);
-        file.truncate(length);
+        let length = begun.len();
+        begun.extend_from_slice(symbol.as_ref());
+        extend(begun, symbols, left - 1, check);
+        begun.truncate(length);
+    }
+}
+
+/// Every sequence of at most so many kinds of rows, one that is none among them. What is longer is reached
+/// behind an entry or a definition that has a value.
+pub fn kinds(most: usize, mut check: impl FnMut(&[u32])) {
+    let kinds: [[u32; 1]; 12] = std::array::from_fn(|kind| [kind as u32]);
+    for head in [&[][..], &[1, 2, 3, 4, 5, 6], &[8, 5, 7], &[1, 2, 3, 4]] {
+        let left = if head.is_empty() { most } else { most - 1 };
+        extend(&mut head.to_vec(), &kinds, left, &mut check);
     }
 }
 

@@ -10,6 +10,7 @@ use oracle::{
     Fields, Given, DEEPEST_NAME, LEAST_SCRATCH, LONGEST_FILE, LONGEST_LITERAL, MOST_NAMES,
 };
 
+use crate::exhaustive;
 use crate::judge::Judge;
 use crate::lent::Tried;
 use crate::values::Asks;
@@ -416,31 +417,17 @@ fn damage(random: &mut Random, months: &mut Months) {
 /// Every sequence of at most five (quick: three) kinds, and what is longer behind a value, with every
 /// row chosen.
 pub fn sequences<A: Asks>(judge: &mut Judge, long: bool) {
-    let (mut asks, most) = (A::new(), if long { 5 } else { 3 });
-    for head in [&[][..], &[1, 2, 3, 4, 5, 6], &[8, 5, 7], &[1, 2, 3, 4]] {
-        let left = if head.is_empty() { most } else { most - 1 };
-        extend(judge, &mut asks, &mut head.to_vec(), left);
-    }
-}
-
-fn extend(judge: &mut Judge, asks: &mut impl Asks, kinds: &mut Vec<u32>, left: usize) {
+    let (mut asks, months) = (A::new(), Months::default());
     // All rows have the same bytes, so that a name is defined wherever there is a definition.
     let row = |kind: &u32| [*kind, if *kind == 10 { 7 } else { 0 }, 1, 3];
-    let draft = Draft {
-        file: "aéa".into(),
-        rows: kinds.iter().flat_map(row).collect(),
-    };
-    let months = Months::default();
-    let given = given(&draft, &months);
-    asks.check_these(judge, given, 0..kinds.len() + 1, Tried::No);
-    if left == 0 {
-        return;
-    }
-    for kind in 0..=11 {
-        kinds.push(kind);
-        extend(judge, asks, kinds, left - 1);
-        kinds.pop();
-    }
+    exhaustive::kinds(if long { 5 } else { 3 }, |kinds| {
+        let draft = Draft {
+            file: "aéa".into(),
+            rows: kinds.iter().flat_map(row).collect(),
+        };
+        let given = given(&draft, &months);
+        asks.check_these(judge, given, 0..kinds.len() + 1, Tried::No);
+    });
 }
 
 /// Every number in every place of the rows and of the months, one at a time.

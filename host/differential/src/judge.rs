@@ -137,11 +137,7 @@ impl Judge {
             report::difference(self.cases, file, room, expected, &self.rows, answer);
             report::touched(&self.room, room, written);
         }
-        if same {
-            self.room.restore(written);
-        } else {
-            self.room.restore_all();
-        }
+        self.room.renew(same, written);
     }
 
     /// Whether the room holds the Rust's rows where they are to be written, and else is as it was.
@@ -160,13 +156,8 @@ impl Judge {
 /// many rows or bytes, and so is the room.
 pub fn expected(rust: Result<usize, Refusal>, room: usize) -> Answer {
     match rust {
-        Err(refusal) => Answer {
-            number: refusal.number,
-            count: 0,
-            start: refusal.start.into(),
-            end: refusal.end.into(),
-        },
-        Ok(count) if count > room => Answer::refused(NO_ROOM),
+        Err(refusal) => Answer::refused(refusal.number, refusal.start.into(), refusal.end.into()),
+        Ok(count) if count > room => Answer::refused(NO_ROOM, 0, 0),
         Ok(count) => Answer::accepted(count as u64),
     }
 }

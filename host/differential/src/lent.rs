@@ -229,10 +229,7 @@ fn wanted(expected: &Expected, rooms: Rooms) -> Resolved {
             if rooms.0 / oracle::CHUNK_NUMBERS < rows || rooms.1 < resolved.text.len() {
                 return Resolved::refused(NO_ROOM, 0, 0);
             }
-            Resolved {
-                names: resolved.names,
-                ..Resolved::accepted(rows as u64, resolved.text.len() as u64)
-            }
+            Resolved::accepted(rows as u64, resolved.text.len() as u64, resolved.names)
         }
     }
 }

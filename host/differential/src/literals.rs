@@ -35,46 +35,21 @@ const DEEPEST: usize = 64;
 
 /// Every string of at most five (quick: three) characters of the alphabet.
 pub fn short(judge: &mut Judge, long: bool) {
-    let left = if long { 5 } else { 3 };
-    extend(
-        judge,
-        &mut Resolves::new(),
-        &mut String::new(),
-        &ALPHABET,
-        left,
-    );
+    strings(judge, &ALPHABET, if long { 5 } else { 3 });
 }
 
 /// Every string of at most four (quick: three) commands, braces and letters.
 pub fn tokens(judge: &mut Judge, long: bool) {
-    let left = if long { 4 } else { 3 };
-    extend(
-        judge,
-        &mut Resolves::new(),
-        &mut String::new(),
-        &TOKENS,
-        left,
-    );
+    strings(judge, &TOKENS, if long { 4 } else { 3 });
 }
 
-/// The literal, and behind it every string of at most so many of the symbols.
-fn extend(
-    judge: &mut Judge,
-    resolves: &mut Resolves,
-    literal: &mut String,
-    symbols: &[&str],
-    left: usize,
-) {
-    resolves.check(judge, literal);
-    if left == 0 {
-        return;
-    }
-    for symbol in symbols {
-        let length = literal.len();
-        literal.push_str(symbol);
-        extend(judge, resolves, literal, symbols, left - 1);
-        literal.truncate(length);
-    }
+/// Every string of at most so many of the symbols.
+fn strings(judge: &mut Judge, symbols: &[&str], most: usize) {
+    let mut resolves = Resolves::new();
+    exhaustive::extend(&mut Vec::new(), symbols, most, &mut |literal| {
+        let literal = std::str::from_utf8(literal).expect("the symbols are text");
+        resolves.check(judge, literal);
+    });
 }
 
 /// Every command and what only looks like one, with everything that may stand behind a name, in

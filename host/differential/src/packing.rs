@@ -4,6 +4,7 @@ use cases::rows::{break_bytes, break_rows, Rows, LOST, PLACES, TOO_FAR};
 use cases::Random;
 use packer::LAST_PLACE;
 
+use crate::exhaustive;
 use crate::judge::Judge;
 use crate::packs::Packs;
 
@@ -59,26 +60,12 @@ fn bytes(rows: &[u32]) -> Vec<u8> {
 
 /// Every sequence of at most six (quick: four) kinds, one that is none among them.
 pub fn sequences(judge: &mut Judge, long: bool) {
-    let (mut packs, most) = (Packs::new(), if long { 6 } else { 4 });
-    extend(judge, &mut packs, &mut Vec::new(), most);
-    // What is longer than that is reached behind an entry or a definition that has a value.
-    for head in [&[1, 2, 3, 4, 5, 6][..], &[8, 5, 7], &[1, 2, 3, 4]] {
-        extend(judge, &mut packs, &mut head.to_vec(), most - 1);
-    }
-}
-
-fn extend(judge: &mut Judge, packs: &mut Packs, kinds: &mut Vec<u32>, left: usize) {
-    let rows = rows(kinds);
-    packs.rows(judge, &rows);
-    packs.bytes(judge, &bytes(&rows));
-    if left == 0 {
-        return;
-    }
-    for kind in 0..=CAUSE + 1 {
-        kinds.push(kind);
-        extend(judge, packs, kinds, left - 1);
-        kinds.pop();
-    }
+    let mut packs = Packs::new();
+    exhaustive::kinds(if long { 6 } else { 4 }, |kinds| {
+        let rows = rows(kinds);
+        packs.rows(judge, &rows);
+        packs.bytes(judge, &bytes(&rows));
+    });
 }
 
 /// Every kind with every detail of four bits, and both with what is lost in fewer bits.
@@ -161,15 +148,13 @@ pub fn drawn(judge: &mut Judge, seed: u64, long: bool) {
     let (mut random, mut packs) = (Random::new(seed, 6), Packs::new());
     let (mut rows, mut bytes) = (Vec::new(), Vec::new());
     for turn in 0..if long { 1_000_000 } else { 20_000 } {
-        let (random, out) = (&mut random, &mut rows);
-        out.clear();
-        Rows { random, out }.sequence(ITEMS);
+        draw(&mut random, &mut rows);
         bytes.clear();
         bytes.extend_from_slice(packs.packed(&rows).expect("a sequence of 01's"));
         if turn % 2 == 1 {
             for _ in 0..=random.below(2) {
-                break_rows(random, &mut rows);
-                break_bytes(random, &mut bytes);
+                break_rows(&mut random, &mut rows);
+                break_bytes(&mut random, &mut bytes);
             }
         }
         packs.rows(judge, &rows);
@@ -182,12 +167,15 @@ pub fn rooms(judge: &mut Judge, seed: u64, long: bool) {
     let (mut random, mut packs) = (Random::new(seed, 7), Packs::new());
     let mut rows = Vec::new();
     for turn in 0..if long { 60_000 } else { 1_000 } {
-        let (random, out) = (&mut random, &mut rows);
-        out.clear();
-        Rows { random, out }.sequence(ITEMS);
+        draw(&mut random, &mut rows);
         if turn % 4 == 3 {
-            break_rows(random, &mut rows);
+            break_rows(&mut random, &mut rows);
         }
         packs.rooms(judge, &rows);
     }
+}
+
+fn draw(random: &mut Random, out: &mut Vec<u32>) {
+    out.clear();
+    Rows { random, out }.sequence(ITEMS);
 }

@@ -82,8 +82,7 @@ impl<T: Lent, U: Lent> Way<T, U> {
         let written = expected.count as usize * self.each;
         let answer = (self.proved)(&self.input[..input.len()], self.room.lend(room));
         let same = answer == expected
-            && self.room.front(written) == &self.expected[..written]
-            && self.room.rest_is_untouched(room, written)
+            && self.room.holds(&self.expected[..written], room)
             && self.input_is(input);
         if judge.count(expected.number == 0, same) {
             let given = Given {
@@ -95,18 +94,14 @@ impl<T: Lent, U: Lent> Way<T, U> {
             report::packing(judge.cases, self.name, room, input, given);
             report::touched(&self.room, room, written);
         }
-        if same {
-            self.room.restore(written);
-        } else {
-            self.room.restore_all();
-        }
+        self.room.renew(same, written);
     }
 
     /// 01's order: the rows first, and only then the room.
     fn expected(&self, rust: Result<(), BadRows>, room: usize) -> Answer {
         match rust {
-            Err(BadRows) => Answer::refused(BAD_ROWS),
-            Ok(()) if self.expected.len() > room => Answer::refused(NO_ROOM),
+            Err(BadRows) => Answer::refused(BAD_ROWS, 0, 0),
+            Ok(()) if self.expected.len() > room => Answer::refused(NO_ROOM, 0, 0),
             Ok(()) => Answer::accepted((self.expected.len() / self.each) as u64),
         }
     }

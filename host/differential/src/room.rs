@@ -100,22 +100,12 @@ impl<T: Lent> Room<T> {
             .map(|i| i as i64 - GUARD as i64)
     }
 
-    /// Makes all as it was, where only the first `written` are not.
-    pub fn restore(&mut self, written: usize) {
-        let end = GUARD + written;
-        self.held[..end].copy_from_slice(&self.untouched[..end]);
-    }
-
     /// Makes all as it was. Where the call did as it must, only the first `written` are not.
     pub fn renew(&mut self, same: bool, written: usize) {
-        match same {
-            true => self.restore(written),
-            false => self.restore_all(),
-        }
-    }
-
-    /// Makes all as it was.
-    pub fn restore_all(&mut self) {
-        self.held.copy_from_slice(&self.untouched);
+        let end = match same {
+            true => GUARD + written,
+            false => self.held.len(),
+        };
+        self.held[..end].copy_from_slice(&self.untouched[..end]);
     }
 }

@@ -27,8 +27,8 @@ const MANY: [&[u8]; 5] = [b"@\n", b"@a{k,}\n", b"@a{k}\n", b"\n@\xFF", b"@commen
 /// (quick: three) characters of the reader's alphabet.
 pub fn short(judge: &mut Judge, long: bool) {
     let (pieces, characters) = if long { (6, 5) } else { (4, 3) };
-    exhaustive::extend(judge, &mut Vec::new(), &PIECES, pieces);
-    exhaustive::extend(judge, &mut Vec::new(), &ALPHABET, characters);
+    exhaustive::strings(judge, b"", &PIECES, pieces);
+    exhaustive::strings(judge, b"", &ALPHABET, characters);
 }
 
 /// Pieces at edge places, many pieces, and files as long as they may be and longer.

@@ -140,9 +140,7 @@ impl Writes {
         let text = &self.text[..self.text.len() - BEHIND_TEXT.len()];
         let rows = &self.rows[..self.rows.len() - BEHIND_ROWS.len()];
         let answer = writer.proved(text, rows, self.room.lend(room));
-        let same = answer == expected
-            && self.room.front(written.len()) == written
-            && self.room.rest_is_untouched(room, written.len());
+        let same = answer == expected && self.room.holds(written, room);
         if judge.count(expected.number == 0, same) {
             let name = format!("{writer:?} of b\"{}\" by numbers", text.escape_ascii());
             let given = Given {
@@ -154,10 +152,6 @@ impl Writes {
             report::packing(judge.cases, &name, room, rows, given);
             report::touched(&self.room, room, written.len());
         }
-        if same {
-            self.room.restore(written.len());
-        } else {
-            self.room.restore_all();
-        }
+        self.room.renew(same, written.len());
     }
 }

@@ -12,11 +12,7 @@ use biblatex::Spanned;
 /// The list, or why the source is refused.
 pub fn listed(source: &str) -> Result<String, String> {
     let raw = RawBibliography::parse(source).map_err(|error| shown(&error))?;
-    let abbreviations: HashMap<&str, &Field> = raw
-        .abbreviations
-        .iter()
-        .map(|pair| (pair.key.v, &pair.value.v))
-        .collect();
+    let abbreviations = definitions(&raw);
     let mut list = format!("preamble {:?}\n", raw.preamble);
     for pair in &raw.abbreviations {
         add_pair(&mut list, pair, &abbreviations);
@@ -30,6 +26,12 @@ pub fn listed(source: &str) -> Result<String, String> {
         }
     }
     Ok(list)
+}
+
+/// The value of each name, its last definition's.
+fn definitions<'a, 's>(raw: &'a RawBibliography<'s>) -> HashMap<&'s str, &'a Field<'s>> {
+    let pairs = raw.abbreviations.iter();
+    pairs.map(|pair| (pair.key.v, &pair.value.v)).collect()
 }
 
 fn add_pair(list: &mut String, pair: &Pair, abbreviations: &HashMap<&str, &Field>) {
@@ -81,11 +83,7 @@ fn shown(error: &ParseError) -> String {
 /// Reads a source and formats every field that is resolved; how many bytes came of them.
 pub fn formatted(source: &str) -> Result<usize, ParseError> {
     let raw = RawBibliography::parse(source)?;
-    let abbreviations: HashMap<&str, &Field> = raw
-        .abbreviations
-        .iter()
-        .map(|pair| (pair.key.v, &pair.value.v))
-        .collect();
+    let abbreviations = definitions(&raw);
     let fields = raw.entries.iter().flat_map(|entry| &entry.v.fields);
     let chunks = fields.flat_map(|pair| parse_field(pair.key.v, &pair.value.v, &abbreviations));
     Ok(chunks.map(|chunks| chunks.format_verbatim().len()).sum())

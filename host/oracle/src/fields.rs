@@ -13,8 +13,9 @@ use crate::literals::{
 };
 use crate::raw::{Field, RawChunk};
 use crate::resolve::parse_field;
+use crate::rows::text_of;
 use crate::types::{kept, with_months, Months};
-use crate::{Refusal, Span, Spanned, LONGEST_FILE};
+use crate::{Refusal, Span, Spanned};
 
 /// How many names may be open at once, and how many a field may resolve.
 pub const DEEPEST_NAME: usize = 32;
@@ -109,13 +110,7 @@ type Definitions<'d> = HashMap<&'d str, &'d Field<'d>>;
 
 impl<'a> Sound<'a> {
     fn new(given: Given<'a>) -> Result<Self, Refusal> {
-        if given.file.len() > LONGEST_FILE {
-            return Err(Refusal::new(1, 0..0));
-        }
-        let text = std::str::from_utf8(given.file).map_err(|error| {
-            let place = error.valid_up_to();
-            Refusal::new(2, place..place)
-        })?;
+        let text = text_of(given.file)?;
         Self::of_text(text, given).ok_or(Refusal::new(17, 0..0))
     }
 

@@ -9,7 +9,8 @@ use std::collections::HashMap;
 use crate::chunk::{Chunk, Chunks};
 use crate::raw::{ParseError, ParseErrorKind, RawChunk, Token};
 use crate::resolve::parse_field;
-use crate::{Refusal, Spanned, LONGEST_FILE};
+use crate::rows::text_of;
+use crate::{Refusal, Spanned};
 
 /// The longest literal that is resolved, and the least scratch, in bytes.
 pub const LONGEST_LITERAL: usize = 16_384;
@@ -44,16 +45,9 @@ pub fn resolve_literal(
     is_verbatim: bool,
     scratch: usize,
 ) -> Result<Resolved, Refusal> {
-    if file.len() > LONGEST_FILE {
-        return Err(Refusal::new(1, 0..0));
-    }
-    let text = std::str::from_utf8(file).map_err(|error| {
-        let place = error.valid_up_to();
-        Refusal::new(2, place..place)
-    })?;
     // Just the places that are reversed, outside the file or across a character `get` gives no text
     // for.
-    let literal = text.get(from..to).ok_or(Refusal::new(17, 0..0))?;
+    let literal = text_of(file)?.get(from..to).ok_or(Refusal::new(17, 0..0))?;
     if scratch < LEAST_SCRATCH {
         return Err(Refusal::new(16, 0..0));
     }

@@ -78,16 +78,21 @@ pub fn read(file: &[u8]) -> Result<Vec<Row>, Refusal> {
 /// As `read`, into rows whose room is used again. They are empty after a refusal.
 pub fn read_into(file: &[u8], rows: &mut Vec<Row>) -> Result<(), Refusal> {
     rows.clear();
-    if file.len() > LONGEST_FILE {
-        return Err(Refusal::new(1, 0..0));
-    }
-    let text = std::str::from_utf8(file).map_err(|e| {
-        let place = e.valid_up_to();
-        Refusal::new(2, place..place)
-    })?;
+    let text = text_of(file)?;
     let bibliography = RawBibliography::parse(text).map_err(refusal)?;
     lay(text, &bibliography, rows);
     Ok(())
+}
+
+/// A file as text, or 01's refusal of one that is too long or not UTF-8.
+pub(crate) fn text_of(file: &[u8]) -> Result<&str, Refusal> {
+    if file.len() > LONGEST_FILE {
+        return Err(Refusal::new(1, 0..0));
+    }
+    std::str::from_utf8(file).map_err(|error| {
+        let place = error.valid_up_to();
+        Refusal::new(2, place..place)
+    })
 }
 
 fn refusal(error: ParseError) -> Refusal {

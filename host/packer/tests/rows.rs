@@ -4,27 +4,28 @@ use packer::{
     judge_and_pack_into, judge_and_unpack_into, pack_into, unpack_into, BadRows, LAST_PLACE,
 };
 
-/// What both forms answer. Neither output is empty before, so that what is left from before would
-/// show; the one that judges first leaves it on a refusal.
 fn packed(rows: &[u32]) -> Result<Vec<u8>, BadRows> {
-    let (mut bytes, mut judged) = (vec![0xEE; 9], vec![0xEE; 9]);
-    let answer = pack_into(rows, &mut bytes).map(|()| bytes);
-    assert_eq!(
-        judge_and_pack_into(rows, &mut judged).is_ok(),
-        answer.is_ok()
-    );
-    assert_eq!(&judged, answer.as_ref().unwrap_or(&vec![0xEE; 9]));
-    answer
+    both(rows, 0xEE, pack_into, judge_and_pack_into)
 }
 
 fn unpacked(bytes: &[u8]) -> Result<Vec<u32>, BadRows> {
-    let (mut rows, mut judged) = (vec![77; 9], vec![77; 9]);
-    let answer = unpack_into(bytes, &mut rows).map(|()| rows);
-    assert_eq!(
-        judge_and_unpack_into(bytes, &mut judged).is_ok(),
-        answer.is_ok()
-    );
-    assert_eq!(&judged, answer.as_ref().unwrap_or(&vec![77; 9]));
+    both(bytes, 77, unpack_into, judge_and_unpack_into)
+}
+
+type Form<T, U> = fn(&[T], &mut Vec<U>) -> Result<(), BadRows>;
+
+/// What both forms answer. Neither output is empty before, so that what is left from before would
+/// show; the one that judges first leaves it on a refusal.
+#[track_caller]
+fn both<T, U>(from: &[T], left: U, one: Form<T, U>, judging: Form<T, U>) -> Result<Vec<U>, BadRows>
+where
+    U: Clone + PartialEq + std::fmt::Debug,
+{
+    let before = vec![left; 9];
+    let (mut to, mut judged) = (before.clone(), before.clone());
+    let answer = one(from, &mut to).map(|()| to);
+    assert_eq!(judging(from, &mut judged).is_ok(), answer.is_ok());
+    assert_eq!(&judged, answer.as_ref().unwrap_or(&before));
     answer
 }
 

@@ -1,5 +1,6 @@
 //! Safe wrappers over the proved library's C functions, as include/bib.h declares them.
 
+mod call;
 mod filing;
 pub mod known;
 mod resolving;
@@ -11,93 +12,31 @@ pub use resolving::{
 };
 pub use writing::{format_verbatim, to_biblatex_string};
 
-/// Declares the functions in the one form that all have but the writers and those that resolve, and
-/// a safe wrapper of each: what is lent to be read and its length, what is lent to be written and its length, and the
-/// three numbers that come back.
-macro_rules! functions {
-    ($($(#[$comment:meta])* $name:ident($c:ident): $from:ty => $to:ty;)*) => {
-        extern "C" {
-            $(fn $c(
-                from: *const $from,
-                from_len: usize,
-                to: *mut $to,
-                to_len: usize,
-                count: *mut u64,
-                start: *mut u64,
-                end: *mut u64,
-            ) -> u32;)*
-        }
+use call::{answer, call};
 
-        $($(#[$comment])*
-        pub fn $name(from: &[$from], to: &mut [$to]) -> Answer {
-            let mut answer = UNSET;
-            // SAFETY: the pointers are of slices and of numbers that live through the call, each
-            // slice with its own length, and the function asks for nothing else.
-            answer.number = unsafe {
-                $c(
-                    from.as_ptr(),
-                    from.len(),
-                    to.as_mut_ptr(),
-                    to.len(),
-                    &mut answer.count,
-                    &mut answer.start,
-                    &mut answer.end,
-                )
-            };
-            answer
-        })*
-    };
+answer! {
+    /// All that a function hands back beside what it writes.
+    ///
+    /// Where it accepts, `number`, `start` and `end` are 0; where it refuses, `count` is.
+    Answer(count)
 }
 
-functions! {
-    /// Reads a file strictly, with room for rows lent. Any file and any room will do.
-    read(bib_read): u8 => u32;
-
-    /// Salvages a file, with room for rows lent. `count` is the number of rows.
-    salvage(bib_salvage): u8 => u32;
-
-    /// Packs rows, four numbers each, into the bytes lent. `count` is the number of bytes.
-    pack(bib_pack): u32 => u8;
-
-    /// Unpacks bytes, seven a row, into the room lent. `count` is the number of rows.
-    unpack(bib_unpack): u8 => u32;
+/// Reads a file strictly, with room for rows lent. Any file and any room will do.
+pub fn read(file: &[u8], rows: &mut [u32]) -> Answer {
+    call!(bib_read(reads file: u8; writes rows: u32;) -> Answer(count))
 }
 
-/// All that a function hands back beside what it writes.
-///
-/// Where it accepts, `number`, `start` and `end` are 0; where it refuses, `count` is.
-#[derive(Debug, Clone, Copy, PartialEq, Eq)]
-pub struct Answer {
-    pub number: u32,
-    pub count: u64,
-    pub start: u64,
-    pub end: u64,
+/// Salvages a file, with room for rows lent. `count` is the number of rows.
+pub fn salvage(file: &[u8], rows: &mut [u32]) -> Answer {
+    call!(bib_salvage(reads file: u8; writes rows: u32;) -> Answer(count))
 }
 
-/// What an answer holds before the call, so that a number which is not set shows.
-const UNSET: Answer = Answer {
-    number: 0xDEAD_BEEF,
-    count: 0xDEAD_BEEF_DEAD_BEEF,
-    start: 0xDEAD_BEEF_DEAD_BEEF,
-    end: 0xDEAD_BEEF_DEAD_BEEF,
-};
+/// Packs rows, four numbers each, into the bytes lent. `count` is the number of bytes.
+pub fn pack(rows: &[u32], bytes: &mut [u8]) -> Answer {
+    call!(bib_pack(reads rows: u32; writes bytes: u8;) -> Answer(count))
+}
 
-impl Answer {
-    /// An answer that accepts.
-    pub fn accepted(count: u64) -> Self {
-        Self {
-            number: 0,
-            count,
-            start: 0,
-            end: 0,
-        }
-    }
-
-    /// A refusal whose place is 0..0.
-    pub fn refused(number: u32) -> Self {
-        Self {
-            number,
-            ..Self::accepted(0)
-        }
-    }
+/// Unpacks bytes, seven a row, into the room lent. `count` is the number of rows.
+pub fn unpack(bytes: &[u8], rows: &mut [u32]) -> Answer {
+    call!(bib_unpack(reads bytes: u8; writes rows: u32;) -> Answer(count))
 }

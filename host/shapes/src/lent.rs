@@ -5,8 +5,9 @@ use std::cell::RefCell;
 
 use proved::{File, Lent, Resolved};
 
+use crate::chunk::{Chunk, Chunks};
 use crate::raw::{ParseError, ParseErrorKind, Token};
-use crate::Span;
+use crate::{Span, Spanned};
 
 /// The numbers of a row and of a chunk row.
 pub const ROW_NUMBERS: usize = 4;
@@ -24,6 +25,18 @@ pub struct Refusal {
 }
 
 impl Refusal {
+    /// Of an answer whose number is not 0.
+    fn of(number: u32, start: u64, end: u64) -> Self {
+        let span = start as usize..end as usize;
+        Self { number, span }
+    }
+
+    /// The same at other places.
+    pub fn moved(self, place: impl Fn(usize) -> usize) -> Self {
+        let span = place(self.span.start)..place(self.span.end);
+        Self { span, ..self }
+    }
+
     /// As an error, where the place is one of the source and the name that is refused is this one.
     pub fn named(self, name: &str) -> ParseError {
         let kind = match self.number {
@@ -58,9 +71,7 @@ pub fn read(source: &[u8]) -> Result<Vec<u32>, Refusal> {
     let mut rows = vec![0; (source.len() + 1) * ROW_NUMBERS];
     let answer = proved::read(source, &mut rows);
     if answer.number != 0 {
-        let span = answer.start as usize..answer.end as usize;
-        let number = answer.number;
-        return Err(Refusal { number, span });
+        return Err(Refusal::of(answer.number, answer.start, answer.end));
     }
     rows.truncate(answer.count as usize * ROW_NUMBERS);
     Ok(rows)
@@ -91,26 +102,26 @@ pub enum Wanted<'a> {
     Value(File<'a>, usize),
 }
 
-/// Resolves, and hands over each chunk: its kind, its text and its span.
+/// Resolves. The call's places are bytes of the file that it is lent; `place` says where such a byte comes from,
+/// and the chunks have their spans there. A refusal has the call's place.
 pub fn resolve(
     wanted: &Wanted,
     is_verbatim: bool,
-    mut take: impl FnMut(u32, &str, Span),
-) -> Result<(), Refusal> {
+    place: impl Fn(usize) -> usize,
+) -> Result<Chunks, Refusal> {
     ROOM.with_borrow_mut(|room| {
         let answer = room.resolve(wanted, is_verbatim.into());
         if answer.number != 0 {
-            let span = answer.start as usize..answer.end as usize;
-            let number = answer.number;
-            return Err(Refusal { number, span });
+            return Err(Refusal::of(answer.number, answer.start, answer.end));
         }
         let text = utf8(&room.text[..answer.bytes as usize]);
         let rows = room.chunks.chunks_exact(CHUNK_NUMBERS);
-        for row in rows.take(answer.count as usize) {
+        let chunk = |row: &[u32]| {
             let [from, to, start, end] = [1, 2, 3, 4].map(|n| row[n] as usize);
-            take(row[0], &text[from..to], start..end);
-        }
-        Ok(())
+            let chunk = Chunk::of(row[0], &text[from..to]);
+            Spanned::new(chunk, place(start)..place(end))
+        };
+        Ok(rows.take(answer.count as usize).map(chunk).collect())
     })
 }
 

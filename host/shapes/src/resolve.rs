@@ -8,10 +8,10 @@ use std::collections::{HashMap, HashSet};
 use proved::known::VERBATIM;
 use proved::File;
 
-use crate::chunk::{Chunk, Chunks};
-use crate::lent::{self, Refusal, Wanted};
+use crate::chunk::Chunks;
+use crate::lent::{self, Wanted};
 use crate::raw::{Field, ParseError, RawChunk};
-use crate::{Span, Spanned};
+use crate::Spanned;
 
 /// The words for months, and their texts.
 pub use proved::known::MONTHS;
@@ -35,16 +35,9 @@ pub fn parse_field(
 
 /// Resolves a field that is one literal, which is a file of its own.
 fn literal(text: &str, start: usize, is_verbatim: bool) -> Result<Chunks, ParseError> {
-    let moved = |span: Span| span.start + start..span.end + start;
-    let mut chunks = Vec::new();
-    let answer = lent::resolve(&Wanted::Literal(text), is_verbatim, |kind, text, span| {
-        chunks.push(Spanned::new(Chunk::of(kind, text), moved(span)));
-    });
-    answer.map_err(|Refusal { number, span }| {
-        let span = moved(span);
-        Refusal { number, span }.of_source()
-    })?;
-    Ok(chunks)
+    let place = |byte| byte + start;
+    let chunks = lent::resolve(&Wanted::Literal(text), is_verbatim, place);
+    chunks.map_err(|refusal| refusal.moved(place).of_source())
 }
 
 /// A file of a field and of the definitions that it needs, with its rows, and for each element where
@@ -121,21 +114,15 @@ impl<'a, 's> Layout<'a, 's> {
             months: &months,
             words: &words,
         };
-        let mut chunks = Vec::new();
-        let wanted = Wanted::Value(file, value);
-        let answer = lent::resolve(&wanted, is_verbatim, |kind, text, span| {
-            let span = self.place(span.start)..self.place(span.end);
-            chunks.push(Spanned::new(Chunk::of(kind, text), span));
-        });
-        answer.map_err(|Refusal { number, span }| {
-            let name = match self.element(span.start).1.v {
+        let place = |byte| self.place(byte);
+        let chunks = lent::resolve(&Wanted::Value(file, value), is_verbatim, place);
+        chunks.map_err(|refusal| {
+            let name = match self.element(refusal.span.start).1.v {
                 RawChunk::Normal(_) => "",
                 RawChunk::Abbreviation(name) => name,
             };
-            let span = self.place(span.start)..self.place(span.end);
-            Refusal { number, span }.named(name)
-        })?;
-        Ok(chunks)
+            refusal.moved(place).named(name)
+        })
     }
 
     /// The element that a byte of the file belongs to, or that ends there.

@@ -91,8 +91,8 @@ impl Repeats {
 }
 
 impl<E, S: FnMut(&Finding, &super::Lines) -> Result<(), E>> Checker<'_, S> {
-    /// What is wrong in an entry.
-    pub(crate) fn entry(&mut self, item: &Item) -> Result<(), Stop<E>> {
+    /// What is wrong in the rows of an entry; or of one `@string`, which has neither a key nor fields.
+    pub(crate) fn rows_of(&mut self, item: &Item) -> Result<(), Stop<E>> {
         let key = item.rows.clone().filter_map(|index| self.rows.get(index));
         let key = key.take(3).find(|row| row.kind == Kind::Key);
         let name = key.map(|row| quoted(&self.file[row.span()]));
@@ -109,32 +109,13 @@ impl<E, S: FnMut(&Finding, &super::Lines) -> Result<(), E>> Checker<'_, S> {
                     field = Some(row);
                     self.field(row, fields.first_of(index))?
                 }
+                Kind::DefinitionName => self.definition(index, row)?,
                 Kind::Literal => self.literal(index, row, field),
                 Kind::Name => self.name(row),
                 _ => None,
             };
             if let Some(finding) = finding {
                 self.say(finding.with_key(name.clone()))?;
-            }
-        }
-        Ok(())
-    }
-
-    /// What is wrong in the definitions of one `@string`.
-    pub(crate) fn definitions(&mut self, item: &Item) -> Result<(), Stop<E>> {
-        for index in item.rows.clone() {
-            let Some(row) = self.rows.get(index) else {
-                break;
-            };
-            let finding = match row.kind {
-                Kind::Value => self.value(index, item)?,
-                Kind::DefinitionName => self.definition(index, row)?,
-                Kind::Literal => self.literal(index, row, None),
-                Kind::Name => self.name(row),
-                _ => None,
-            };
-            if let Some(finding) = finding {
-                self.say(finding)?;
             }
         }
         Ok(())

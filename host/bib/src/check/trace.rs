@@ -234,39 +234,37 @@ impl<'a> Trace<'a> {
     }
 
     fn braced(&mut self) -> Step {
-        let start = self.cursor.place;
         let mut open = 0;
-        while let Some(byte) = self.cursor.peek() {
+        let is_last = |byte| {
             match byte {
                 b'{' => open += 1,
                 b'}' => open -= 1,
-                b'\\' => self.cursor.eat_any(),
                 _ => {}
             }
-            self.cursor.eat_any();
-            if open == 0 {
-                self.read(Form::Braced, start, true);
-                return Ok(());
-            }
-        }
-        self.read(Form::Braced, start, false);
-        Err(Stopped)
+            open == 0
+        };
+        self.closed_by(is_last, Form::Braced, self.cursor.place)
     }
 
     fn quoted(&mut self) -> Step {
         let start = self.cursor.place;
         Self::need(self.cursor.eat(b'"'))?;
+        self.closed_by(|byte| byte == b'"', Form::Quoted, start)
+    }
+
+    /// A part up to the byte that closes it. What stands behind a backslash closes nothing.
+    fn closed_by(&mut self, mut is_last: impl FnMut(u8) -> bool, form: Form, start: usize) -> Step {
         while let Some(byte) = self.cursor.peek() {
             if byte == b'\\' {
                 self.cursor.eat_any();
             }
             self.cursor.eat_any();
-            if byte == b'"' {
-                self.read(Form::Quoted, start, true);
+            if is_last(byte) {
+                self.read(form, start, true);
                 return Ok(());
             }
         }
-        self.read(Form::Quoted, start, false);
+        self.read(form, start, false);
         Err(Stopped)
     }
 
