@@ -156,7 +156,7 @@ pub record SameTold (r r′ k k′ n n′ m m′ x x′ y y′ : ℕ) : Type 0 w
   pub start : x ≡ x′
   pub end : y ≡ y′
 
--- and the same scratch, index, answers, chunk rows and text
+-- of the call over a whole file: the same scratch, index, answers, chunk rows and text
 pub record SameLeft (w w′ h h′ x x′ q q′ b b′ t t′ : List ℕ) : Type 0 where
   pub scratch : w ≡ w′
   pub heads : h ≡ h′

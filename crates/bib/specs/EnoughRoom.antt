@@ -16,9 +16,9 @@ abbrev pub Enough : List ℕ → List ℕ → Type 0
 Enough s b = 4 * (length s + 1) ≤ length b
 
 pub record EnoughRoom : Type 0 where
-  -- neither strict reading nor salvage is then refused for want of room
+  -- with enough room, neither strict reading nor salvage is refused for want of room
   pub reading : (s b : List ℕ) → Enough s b → readingOut (strict s) (length b) ≡ Refused (nowhere NoRoom) → ⊥
   pub salvaging : (s b : List ℕ) → Enough s b → readingOut (salvaged s) (length b) ≡ Refused (nowhere NoRoom) → ⊥
-  -- so neither call answers 16
+  -- with enough room, neither exported call answers 16
   pub read : (s b b′ : List ℕ) (r count start end : ℕ) → Enough s b → ExportedReading (strict s) b r count start end b′ → r ≡ 16 → ⊥
   pub salvage : (s b b′ : List ℕ) (r count start end : ℕ) → Enough s b → ExportedReading (salvaged s) b r count start end b′ → r ≡ 16 → ⊥

@@ -4,9 +4,9 @@
 --     Told          an outcome in lent numbers
 --     Exported      the contract of every exported call that writes one thing: an outcome, and all that is left in the lent rows or bytes
 --     ToldResolving, ExportedResolving
---                   the same of the calls that resolve, which write rows and text, and are lent scratch
+--                   what the calls that resolve tell, and their contract: they write rows and text, and are lent scratch
 --     ToldFiling, ExportedFile
---                   the same of the call that resolves every value of a file, which is also lent numbers for answers and for an index
+--                   what the call tells that resolves every value of a file, and its contract: it is also lent numbers for answers and an index
 -- Assumes nothing.
 use Prim.Native.Nat.{ℕ}
 use mathlib.Core.Path.{_≡_}
@@ -41,7 +41,7 @@ abbrev pub ofReading : Reading → Outcome
 ofReading (reading.Rows n) = Count n
 ofReading (reading.Refused f) = Refused f
 
--- 0 and the count, or the refusal's number and place
+-- the status, the count and the place: 0, the count and 0..0; or the refusal's number, 0 and its place
 abbrev pub statusOf : Outcome → ℕ
 statusOf (Count n) = 0
 statusOf (Refused f) = numberOf (f .reason)
@@ -79,7 +79,7 @@ ExportedReading o b = Exported (ofReading (readingOut o (length b))) (leftOut o 
 abbrev pub ExportedPack : List ℕ → List ℕ → ℕ → ℕ → ℕ → ℕ → List ℕ → Type 0
 ExportedPack l b = Exported (packedOf l (length b)) (packedInto l b)
 
--- `bib_unpack` of the bytes s over the lent numbers b, likewise
+-- `bib_unpack` of the bytes s over the lent numbers b. The place of each refusal is 0..0, as `unpackedOf` has it
 abbrev pub ExportedUnpack : List ℕ → List ℕ → ℕ → ℕ → ℕ → ℕ → List ℕ → Type 0
 ExportedUnpack s b = Exported (unpackedOf s (length b)) (unpackedInto s b)
 
@@ -91,10 +91,11 @@ ExportedWriting w t l b = Exported (writingOf (checkedOf t l) w (length b)) (wri
 abbrev pub ExportedFormatVerbatim : List ℕ → List ℕ → List ℕ → ℕ → ℕ → ℕ → ℕ → List ℕ → Type 0
 ExportedFormatVerbatim t l = ExportedWriting (formatVerbatim (chunksOf t l)) t l
 
--- `bib_to_biblatex_string`, for a field that is verbatim or not: a number other than 0 says that it is
+-- a flag of C: any number but 0 sets it
 abbrev pub isSet : ℕ → Bool
 isSet n = not (eqb n 0)
 
+-- `bib_to_biblatex_string`, for a field that is verbatim or not
 abbrev pub ExportedToBiblatexString : Bool → List ℕ → List ℕ → List ℕ → ℕ → ℕ → ℕ → ℕ → List ℕ → Type 0
 ExportedToBiblatexString verb t l = ExportedWriting (toBiblatexString verb (chunksOf t l)) t l
 

@@ -136,7 +136,7 @@ pub extern "C" fn bib_pack(
     tell(packed, count, start, end)
 }
 
-// Unpacks rows, which stand in `rows`. A refusal has no place here either.
+// Unpacks rows, which stand in `rows`. A refusal has no place here: 0..0.
 #[no_mangle]
 pub extern "C" fn bib_unpack(
     bytes: &[u8],
@@ -188,7 +188,7 @@ pub extern "C" fn bib_to_biblatex_string(
     tell(written, count, start, end)
 }
 
-// Resolves the literal that stands in a file from a place to another, of a verbatim field unless `verbatim` is 0. Its chunk rows stand in
+// Resolves the literal that stands in a file from one place to another, of a verbatim field unless `verbatim` is 0. Its chunk rows stand in
 // `chunks`, five numbers to a row, and their text in `text`. No name is resolved in a literal: `names` is 0.
 #[no_mangle]
 pub extern "C" fn bib_resolve_literal(
@@ -289,7 +289,8 @@ fn tell_filing(
 }
 
 // Resolves every value of a file, in the order of its rows. `flags` has a number for each value, which is not 0 where the field is verbatim;
-// `answers` takes six numbers for each value. `heads` and `next` are for the index of the names, and hold zeros after the call.
+// `answers` takes six numbers for each value. `count` tells the number of values, `chunk_rows` that of their chunk rows, and `bytes` that of the
+// bytes of text. `heads` and `next` are for the index of the names, and hold zeros after the call.
 #[no_mangle]
 pub extern "C" fn bib_resolve_file(
     file: &[u8],

@@ -20,7 +20,8 @@ use Rattle.raw.specs.Read.{strict}
 use Rattle.chunk.specs.Format.{lastFrom, lines, formatFrom, isEscapable}
 use Rattle.compose.specs.Composites.{composites}
 use Rattle.compose.specs.Lookup.{lookup}
-use Rattle.text.specs.Same.{sameBytes}
+use Rattle.text.specs.SameBytes.{sameBytes}
+use Rattle.text.specs.Every.{every}
 use Rattle.command.specs.Commands.{isSingleCharFunc, commands, meaningIn}
 use Rattle.command.specs.Execute.{dotted, bare, executeCommand}
 use Rattle.turn.specs.Content.{steps, endTurn, argumentEnd, withName, command, backslash, maths, hyphens, contentTurn, contentBy, inside, flattenFrom}
@@ -28,7 +29,7 @@ use Rattle.turn.specs.Content as content
 use Rattle.literal.specs.Literal.{resolveLiteral}
 use Rattle.salvage.specs.Salvage.{head, cut, pieces, salvageOf}
 use Rattle.pack.specs.Digits.{digits}
-use Rattle.pack.specs.Seven.{packing, every}
+use Rattle.pack.specs.Seven.{packing}
 use Rattle.pack.specs.Pack.{isPackable}
 use Rattle.cases.specs.EdgeTable.{table, EdgeTable}
 

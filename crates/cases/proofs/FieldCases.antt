@@ -11,25 +11,26 @@ use Rattle.row.specs.Rules.{next, run, isRows}
 use Rattle.row.specs.Numbers.{rowsOf, areRows}
 use Rattle.raw.specs.Reader.{loop, many}
 use Rattle.text.specs.Strings.{utf8}
-use Rattle.text.specs.Same.{sameBytes}
+use Rattle.text.specs.SameBytes.{sameBytes}
+use Rattle.text.specs.Every.{every}
 use Rattle.lookup.specs.Names.{isNamed, later, lastNamed}
 use Rattle.turn.specs.Content.{steps, endTurn, braced, closing, contentTurn, contentBy, inside, flattenFrom}
 use Rattle.literal.specs.Literal.{resolveLiteral}
 use Rattle.resolve.specs.Resolves.{checkedFile}
 use Rattle.values.specs.Field.{elements, walk, monthOf, onPath, name}
-use Rattle.resolve.specs.Checks.{everySpan, isValue, everyMonth, areMonths, areLent}
+use Rattle.resolve.specs.Checks.{isValue, areMonths, areLent}
 use Rattle.cases.specs.FieldCases.{table, FieldCases, chain, Deep}
 
 pub field-cases : FieldCases
 unfolding walkFrom alternatives begins widthBy gather value octets lookValid validityOf isBoundary whiteSpace control isWhitespace isControl
     isIdContinue holdsOf scan.code scan.rest seeFrom lookPast skip flat next run isRows rowsOf areRows loop many flattenFrom utf8 sameBytes isNamed
-    later lastNamed steps endTurn braced closing contentTurn contentBy inside resolveLiteral checkedFile elements walk monthOf onPath name everySpan
-    isValue everyMonth areMonths areLent table
+    later lastNamed steps endTurn braced closing contentTurn contentBy inside resolveLiteral checkedFile elements walk monthOf onPath name every
+    isValue areMonths areLent table
 field-cases = refl
 
 pub deep : Deep
 unfolding walkFrom alternatives begins widthBy gather value octets lookValid validityOf isBoundary whiteSpace control isWhitespace isControl
     isIdContinue holdsOf scan.code scan.rest seeFrom lookPast skip flat next run isRows rowsOf areRows loop many flattenFrom utf8 sameBytes isNamed
-    later lastNamed steps endTurn braced closing contentTurn contentBy inside resolveLiteral checkedFile elements walk monthOf onPath name everySpan
-    isValue everyMonth areMonths areLent chain
+    later lastNamed steps endTurn braced closing contentTurn contentBy inside resolveLiteral checkedFile elements walk monthOf onPath name every
+    isValue areMonths areLent chain
 deep = record { thirty-two = refl; thirty-three = refl; unknown = refl }

@@ -1,4 +1,4 @@
--- The cases compute. They stand above the crates that they are of, so that a check of one of those does not compute them.
+-- The cases compute. They stand above the crates whose definitions they compute, so that a check of one of those does not compute them.
 
 -- the proof of specs/EdgeTable.antt: 01's sixteen lines together
 pub mod EdgeTable

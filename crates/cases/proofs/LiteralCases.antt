@@ -11,7 +11,7 @@ use Rattle.text.specs.Strings.{utf8}
 use Rattle.chunk.specs.Format.{lastFrom, lines, formatFrom, isEscapable}
 use Rattle.compose.specs.Composites.{composites}
 use Rattle.compose.specs.Lookup.{lookup}
-use Rattle.text.specs.Same.{sameBytes}
+use Rattle.text.specs.SameBytes.{sameBytes}
 use Rattle.command.specs.Commands.{isSingleCharFunc, commands, meaningIn}
 use Rattle.command.specs.Execute.{dotted, bare, executeCommand}
 use Rattle.turn.specs.Content.{steps, endTurn, argumentEnd, braced, withName, command, backslash, maths, closing, hyphens}

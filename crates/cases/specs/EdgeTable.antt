@@ -34,30 +34,30 @@ pub data Asked : Type 0 where
   salvage : String → Asked
   packed : List ℕ → Asked
 
-pub data Outcome : Type 0 where
-  rows : List Row → Outcome
-  chunks : List Chunk → Outcome
-  bytes : List ℕ → Outcome
-  refused : ℕ → ℕ → ℕ → Outcome
+pub data Expected : Type 0 where
+  rows : List Row → Expected
+  chunks : List Chunk → Expected
+  bytes : List ℕ → Expected
+  refused : ℕ → ℕ → ℕ → Expected
 
-abbrev pub ofFault : Fault → Outcome
+abbrev pub ofFault : Fault → Expected
 ofFault f = refused (numberOf (f .reason)) (f .start) (f .end)
 
-abbrev pub ofReading : Out → Outcome
+abbrev pub ofReading : Out → Expected
 ofReading (ok q rs) = rows rs
 ofReading (again q rs a) = rows rs
 ofReading (bad f) = ofFault f
 
 -- a value of one literal is its chunks, flattened
-abbrev pub ofLiteral : Resolved → Outcome
+abbrev pub ofLiteral : Resolved → Expected
 ofLiteral (literal.chunks cs) = chunks (flatten cs)
 ofLiteral (literal.refused f) = ofFault f
 
-abbrev pub ofRows : Bool → List ℕ → Outcome
+abbrev pub ofRows : Bool → List ℕ → Expected
 ofRows true l = bytes (packing (rowsOf l))
 ofRows false l = refused 17 0 0
 
-abbrev pub answer : Asked → Outcome
+abbrev pub answer : Asked → Expected
 answer (file s) = ofReading (strict (utf8 s))
 answer (resolve s) = ofLiteral (resolveLiteral false (utf8 s) 0)
 answer (verbatim s) = ofLiteral (resolveLiteral true (utf8 s) 0)
@@ -68,10 +68,10 @@ answer (packed l) = ofRows (isPackable l) l
 
 pub record Line : Type 0 where
   pub asked : Asked
-  pub outcome : Outcome
+  pub outcome : Expected
 
 infix 80 _gives_
-abbrev pub _gives_ : Asked → Outcome → Line
+abbrev pub _gives_ : Asked → Expected → Line
 _gives_ a o = record { asked = a; outcome = o }
 
 -- a row of kind k from a to e; one with a detail; a chunk

@@ -1,5 +1,5 @@
 -- Fields resolved with their names and month words [01:Resolving and writing], with the rows of a file as reading gives them.
---     table, FieldCases     the proof of `FieldCases` is `field-cases` of proofs/FieldCases.antt
+--     table, FieldCases     the cases, and that they compute. The proof is `field-cases` of proofs/FieldCases.antt
 --     Deep                  names at the limit of 32
 -- Assumes nothing.
 use Prim.Native.Nat.{ℕ, zero, suc}
@@ -19,11 +19,11 @@ use Rattle.resolve.specs.Resolves as resolves
 use Rattle.fields.specs.OneField.{valueAt}
 
 -- chunks and the number of names resolved, or 01's number and a place
-pub data Outcome : Type 0 where
-  chunks : List Chunk → ℕ → Outcome
-  refused : ℕ → ℕ → ℕ → Outcome
+pub data Expected : Type 0 where
+  chunks : List Chunk → ℕ → Expected
+  refused : ℕ → ℕ → ℕ → Expected
 
-abbrev pub outcomeOf : resolves.Value → Outcome
+abbrev pub outcomeOf : resolves.Value → Expected
 outcomeOf (resolves.resolved cs n) = chunks cs n
 outcomeOf (resolves.refused f) = refused (numberOf (f .reason)) (f .start) (f .end)
 
@@ -38,7 +38,7 @@ pub record Case : Type 0 where
   pub which : ℕ
   pub words : Words
   pub scratch : ℕ
-  pub outcome : Outcome
+  pub outcome : Expected
 
 infix 90 _from_to_
 abbrev pub _from_to_ : Kind → ℕ → ℕ → Row
@@ -60,12 +60,12 @@ twice = record { numbers = 0 ∷ 3 ∷ 3 ∷ 4 ∷ 4 ∷ 7 ∷ 7 ∷ 8 ∷ []; b
 
 -- the value of the entry, with the least scratch
 infix 70 _with_and_gives_
-abbrev pub _with_and_gives_ : String → List Row → Words → Outcome → Case
+abbrev pub _with_and_gives_ : String → List Row → Words → Expected → Case
 _with_and_gives_ file rs ws o = record { file = file; rows = rs; which = 4; words = ws; scratch = 32768; outcome = o }
 
 -- row i of a file with one literal, over a scratch of n bytes
 infix 70 value_scratch_gives_
-abbrev pub value_scratch_gives_ : ℕ → ℕ → Outcome → Case
+abbrev pub value_scratch_gives_ : ℕ → ℕ → Expected → Case
 value_scratch_gives_ i n o = record {
   file = "@b{k,t={x}}";
   rows = entry 10 (Literal from 8 to 9 ∷ []);
@@ -107,26 +107,28 @@ table =
     DefinitionName from 17 to 18 ∷ Value from 19 to 20 ∷ Name from 19 to 20 ∷
     DefinitionName from 29 to 30 ∷ Value from 31 to 32 ∷ Name from 31 to 32 ∷ []) and none
     gives refused 13 31 32 ∷
-    -- rows that lack something, a span across a character or outside the file, a row that is no value or not there, and a month list that is
-    -- no whole count
+    -- a value row without an element, a span across a character, a span outside the file, a month list that is no whole count, and a month text
+    -- outside its bytes
     "@b{k,t=jan}" with entry 10 [] and none gives refused 17 0 0 ∷
     "@b{k,t={é}}" with entry 11 (Literal from 8 to 9 ∷ []) and none gives refused 17 0 0 ∷
     "@b{k,t={x}}" with entry 12 (Literal from 8 to 9 ∷ []) and none gives refused 17 0 0 ∷
     "@b{k,t=jan}" with entry 10 (Name from 7 to 10 ∷ []) and record { numbers = 0 ∷ 3 ∷ 3 ∷ []; bytes = "janJanuary" } gives refused 17 0 0 ∷
     "@b{k,t=jan}" with entry 10 (Name from 7 to 10 ∷ []) and record { numbers = 0 ∷ 3 ∷ 3 ∷ 11 ∷ []; bytes = "janJanuary" } gives refused 17 0 0 ∷
+    -- a chosen row that is a value, one that is no value, one that is not there, and a scratch that is a byte too short
     value 4 scratch 32768 gives chunks (Normal of "x" from 8 to 9 ∷ []) 0 ∷
     value 3 scratch 32768 gives refused 17 0 0 ∷
     value 6 scratch 32768 gives refused 17 0 0 ∷
     value 4 scratch 32767 gives refused 16 0 0 ∷
     []
 
-abbrev pub comesTo : Case → Outcome
+abbrev pub comesTo : Case → Expected
 comesTo c = outcomeOf (valueAt (utf8 (c .file)) (flat (c .rows)) (c .which) false (c .words .numbers) (utf8 (c .words .bytes)) (c .scratch))
 
 abbrev pub FieldCases : Type 0
 FieldCases = map comesTo table ≡ map (λ c. c .outcome) table
 
--- ---- names at the limit: n definitions from place k on, each of one letter, whose value is the next letter's name; and `last` behind them
+-- ---- names at the limit: n definitions from place k on, each of one letter, whose value is the name of the next letter; and behind them one
+-- whose value is `last`
 
 abbrev pub letters : String
 letters = "abcdefghijklmnopqrstuvwxyzABCDEFGH"
@@ -135,11 +137,11 @@ unfoldable pub chain : ℕ → ℕ → (ℕ → Row) → List Row
 chain zero k last = DefinitionName from k to suc k ∷ Value from k to suc k ∷ last k ∷ []
 chain (suc n) k last = DefinitionName from k to suc k ∷ Value from k to suc k ∷ Name from suc k to suc (suc k) ∷ chain n (suc k) last
 
--- the first definition's value, where the last one's is a literal or the name behind it
-abbrev pub ofChain : ℕ → (ℕ → Row) → Outcome
+-- what the first definition's value comes to; the last one's value is a literal, or a name that is not defined
+abbrev pub ofChain : ℕ → (ℕ → Row) → Expected
 ofChain n last = outcomeOf (valueAt (utf8 letters) (flat (chain n 0 last)) 1 false [] [] 32768)
 
--- "names 32 deep", and "At one use: 12, 13, 14, 15": one that is unknown is refused with 12 at any depth
+-- "names 32 deep", and "At one use: 12, 13, 14, 15": an unknown name is refused with 12 at any depth
 pub record Deep : Type 0 where
   pub thirty-two : ofChain 32 (λ k. Literal from k to suc k) ≡ chunks (Normal of "G" from 32 to 33 ∷ []) 32
   pub thirty-three : ofChain 33 (λ k. Literal from k to suc k) ≡ refused 14 33 34

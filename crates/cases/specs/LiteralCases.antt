@@ -1,5 +1,5 @@
 -- Cases of resolving besides those of the edge table. Each is a value of one literal at place 0.
---     table, LiteralCases   the proof of `LiteralCases` is `literal-cases` of proofs/LiteralCases.antt
+--     table, LiteralCases   the cases, and that they compute. The proof is `literal-cases` of proofs/LiteralCases.antt
 --     Deep                  arguments at the limit of 64
 -- Assumes nothing.
 use Prim.Native.Nat.{ℕ, zero, suc}
@@ -17,26 +17,26 @@ use Rattle.literal.specs.Literal.{Resolved, resolveLiteral}
 use Rattle.literal.specs.Literal.{chunks as Chunks, refused as Refused}
 
 -- chunks, or 01's number and a place
-pub data Outcome : Type 0 where
-  chunks : List Chunk → Outcome
-  refused : ℕ → ℕ → ℕ → Outcome
+pub data Expected : Type 0 where
+  chunks : List Chunk → Expected
+  refused : ℕ → ℕ → ℕ → Expected
 
 -- a value of one literal is its chunks, flattened
-abbrev pub outcomeOf : Resolved → Outcome
+abbrev pub outcomeOf : Resolved → Expected
 outcomeOf (Chunks cs) = chunks (flatten cs)
 outcomeOf (Refused f) = refused (numberOf (f .reason)) (f .start) (f .end)
 
 pub record Case : Type 0 where
   pub verb : Bool
   pub text : String
-  pub outcome : Outcome
+  pub outcome : Expected
 
 infix 80 literal_gives_
-abbrev pub literal_gives_ : String → Outcome → Case
+abbrev pub literal_gives_ : String → Expected → Case
 literal_gives_ t o = record { verb = false; text = t; outcome = o }
 
 infix 80 verbatim_gives_
-abbrev pub verbatim_gives_ : String → Outcome → Case
+abbrev pub verbatim_gives_ : String → Expected → Case
 verbatim_gives_ t o = record { verb = true; text = t; outcome = o }
 
 infix 80 _of_from_to_
@@ -89,7 +89,7 @@ table =
 abbrev pub LiteralCases : Type 0
 LiteralCases = map (λ c. outcomeOf (resolveLiteral (c .verb) (utf8 (c .text)) 0)) table ≡ map (λ c. c .outcome) table
 
--- ---- arguments at the limit: \P{ so many times, and as many closing braces. The name P writes U+00B6 and drops its argument
+-- ---- arguments at the limit: n times \P{ and then n closing braces. The command P writes U+00B6 and drops its argument
 
 unfoldable pub opened : ℕ → List ℕ → List ℕ
 opened zero t = t

@@ -47,7 +47,7 @@ white-code w u c e =
     by [] h = absurd (omega arith)
     by (b ∷ t) h = refl
 
--- whatever octets stand before these characters
+-- the last character decides whether white space comes last, whatever octets stand before
 ended-behind : (cs u : List ℕ) (c : ℕ) → Scalars (c ∷ cs) → endsWhite (u ++ utf8Of (c ∷ cs)) ≡ charEndsWhite (c ∷ cs)
 unfolding utf8Of charEndsWhite
 ended-behind [] u c (chars.next e s) = ap (λ (t : List ℕ). endsWhite (u ++ t)) (append-nil (octets c)) ∙ ends-code u c e
@@ -107,7 +107,7 @@ module _ (c : ℕ) (e : isScalar c ≡ true) where
 
 -- ---- Normal texts
 
--- the octets of what is written in characters
+-- what is written in characters, as octets
 abbrev inOctets : Written → Written
 inOctets x = written (utf8Of (x .text)) (x .white)
 

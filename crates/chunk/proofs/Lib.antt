@@ -12,7 +12,7 @@ pub mod Worked
 pub mod WellFormed
 -- the proof of specs/Characters.antt: definitions by octets go through characters as chunk.rs does
 pub mod Characters
--- the proof of specs/Refusals.antt
+-- the proof of specs/Refusals.antt: which refusals the writers can answer
 pub mod Refusals
 -- any two outcomes that a public contract allows are the same
 pub mod Unique

@@ -22,7 +22,7 @@ use Rattle.row.specs.declared.fault.Outcome.the-variants as outcome
 use Rattle.chunk.specs.Chunk.{areChunks, chunksOf}
 use Rattle.chunk.specs.Format.{formatVerbatim, toBiblatexString}
 use Rattle.chunk.specs.Write.{rowsChecked, checkedOf, writingOf, writtenInto, Write}
-use Rattle.chunk.specs.Refusals.{WriteFault, ill-formed, unsound, full, Refusals}
+use Rattle.chunk.specs.Refusals.{WriteFault, ill-formed, bad-chunks, full, Refusals}
 
 module _ (t l w : List ℕ) (n : ℕ) (f : Fault) where
   by-room : (y : Bool) → outcome.Refused f ≡ cond y (outcome.Count (length w)) (outcome.Refused (nowhere NoRoom)) → WriteFault t l f
@@ -32,7 +32,7 @@ module _ (t l w : List ℕ) (n : ℕ) (f : Fault) where
   by-rows : (x : Bool) → areChunks t l ≡ x → outcome.Refused f ≡ writingOf (cond x checked.Passed (checked.Refused (nowhere BadRows))) w n →
       WriteFault t l f
   by-rows true p e = by-room (leb (length w) n) e
-  by-rows false p e = let q : nowhere BadRows ≡ f = cc in subst (WriteFault t l) q (unsound p)
+  by-rows false p e = let q : nowhere BadRows ≡ f = cc in subst (WriteFault t l) q (bad-chunks p)
 
   by-text : (v : Validity) → validityOf t ≡ v → outcome.Refused f ≡ writingOf (rowsChecked t l v) w n → WriteFault t l f
   by-text validity.Valid p e = by-rows (areChunks t l) refl e

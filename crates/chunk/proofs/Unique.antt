@@ -18,6 +18,12 @@ use Rattle.chunk.proofs.biblatex.is_escapable.Kinds as is-escapable-kin
 use Rattle.chunk.proofs.biblatex.is_escapable.Reads as is-escapable
 use Rattle.chunk.proofs.biblatex.to_biblatex_string.Kinds as to-biblatex-string-kinds
 use Rattle.chunk.proofs.biblatex.to_biblatex_string.Reads as to-biblatex-string
+use Rattle.chunk.proofs.ending.last_at.Kinds as last-at-kinds
+use Rattle.chunk.proofs.ending.last_at.Reads as last-at
+use Rattle.chunk.proofs.ending.code_at.Kinds as code-at-kinds
+use Rattle.chunk.proofs.ending.code_at.Reads as code-at
+use Rattle.chunk.proofs.ending.ends_white.Kinds as ends-white-kinds
+use Rattle.chunk.proofs.ending.ends_white.Reads as ends-white
 
 pub one-kind-number : One 0 kind-number-kinds.ps kind-number-kinds.r kind-number.Post
 one-kind-number κs a x y s t p q = p ∙ sym q
@@ -25,14 +31,14 @@ one-kind-number κs a x y s t p q = p ∙ sym q
 pub one-kind-from : One 0 kind-from-kinds.ps kind-from-kinds.r kind-from.Post
 one-kind-from κs a x y s t p q = p ∙ sym q
 
--- the same rows
+-- `write_chunk` leaves the same rows
 pub one-write-chunk : Both 1 write-chunk-kinds.ps write-chunk-kinds.r write-chunk.Post (λ κs x s y t. now (s .0) ≡ now (t .0))
 one-write-chunk κs a x y s t p q = p ∙ sym q
 
 pub one-check : One 2 check-kinds.ps check-kinds.r check.Post
 one-check κs a x y s t p q = p ∙ sym q
 
--- the same answer, and the same bytes
+-- both writers give the same answer and leave the same bytes
 pub one-format-verbatim : Both 3 format-verbatim-kinds.ps format-verbatim-kinds.r format-verbatim.Post
     (λ κs x s y t. (x ≡ y) × (now (s .1 .1 .0) ≡ now (t .1 .1 .0)))
 one-format-verbatim κs a x y s t p q = (p .answer ∙ sym (q .answer), p .bytes ∙ sym (q .bytes))
@@ -43,3 +49,12 @@ one-is-escapable κs a x y s t p q = p ∙ sym q
 pub one-to-biblatex-string : Both 3 to-biblatex-string-kinds.ps to-biblatex-string-kinds.r to-biblatex-string.Post
     (λ κs x s y t. (x ≡ y) × (now (s .1 .1 .1 .0) ≡ now (t .1 .1 .1 .0)))
 one-to-biblatex-string κs a x y s t p q = (p .answer ∙ sym (q .answer), p .bytes ∙ sym (q .bytes))
+
+pub one-last-at : One 1 last-at-kinds.ps last-at-kinds.r last-at.Post
+one-last-at κs a x y s t p q = p ∙ sym q
+
+pub one-code-at : One 1 code-at-kinds.ps code-at-kinds.r code-at.Post
+one-code-at κs a x y s t p q = p ∙ sym q
+
+pub one-ends-white : One 1 ends-white-kinds.ps ends-white-kinds.r ends-white.Post
+one-ends-white κs a x y s t p q = p ∙ sym q

@@ -1,19 +1,19 @@
 -- What both writers write is UTF-8: `well-formed`.
 -- Assumes nothing.
-use Prim.Native.Nat.{ℕ, _+_, _-_, _%_, _≤_, min}
+use Prim.Native.Nat.{ℕ, _+_, _-_, _%_, _≤_}
 use native.Mathlib.Omega.{arith}
-use mathlib.Core.Path.{_≡_, sym, ap, subst, _∙_}
+use mathlib.Core.Path.{_≡_, sym, subst}
 use mathlib.Core.Bool.{Bool, true, false, cond}
 use mathlib.Core.List.{List, [], _∷_, _++_, map}
 use lib.ListN.{length, take}
-use lib.Seq.{take-add}
 use lib.Dec.{eqb, leb}
 use borrow.Author.Tests.{leb-true}
 use Rattle.text.specs.Utf8.{isChar, Octets, none, next, isBoundary}
-use Rattle.text.specs.Scan.{part}
 use Rattle.text.proofs.general.Tests.{both-true}
 use Rattle.text.proofs.Shapes.{shapes}
 use Rattle.text.proofs.Rfc3629.{rfc3629}
+use Rattle.text.specs.Every.{every}
+use Rattle.text.proofs.Boundaries.{boundaries}
 use Rattle.chunk.specs.declared.form.Kind.{Kind}
 use Rattle.chunk.specs.declared.form.Kind.the-variants.{Normal, Verbatim, Math}
 use Rattle.chunk.specs.declared.answer.Checked.the-variants as checked
@@ -22,9 +22,9 @@ use Rattle.chunk.specs.Chunk.{Chunk, ChunkRow, chunkRows, chunkOf, chunk
 use Rattle.chunk.specs.Format.{Written, before, isLineEnd, white, lines, formatOne, formatFrom}
 use Rattle.chunk.specs.Format.{isEscapable, escaped, opening, bodyOf, closing, extraAfter, biblatexFrom, toBiblatexString}
 use Rattle.chunk.specs.Write.{checkedOf, Write}
-use Rattle.chunk.specs.WellFormed.{Texts, WellFormed}
+use Rattle.chunk.specs.WellFormed.{TextsUtf8, WellFormed}
 use Rattle.chunk.specs.WellFormed as texts
-use Rattle.chunk.proofs.texts.PassedSequences.{ascii, ascii-text, Kept, low, high, kept, high-plain, high-escaped}
+use Rattle.chunk.proofs.texts.PassedSequences.{ascii, Kept, low, high, kept, high-plain, high-escaped}
 use Rattle.chunk.proofs.texts.LineEnds.{run}
 use Rattle.chunk.proofs.texts.Escapes.{escaped-append}
 use Rattle.chunk.proofs.rows.Answers.{are-chunks, written}
@@ -61,8 +61,8 @@ escaped-octets verb (next c {s} e o) =
     subst Octets (sym (escaped-append verb c s)) (shapes .octets-append (by (kept (shapes .char-shape c e)) e) (escaped-octets verb o))
   where
     alone : (b : ℕ) → b ≤ 0x7F → (x : Bool) → Octets (cond x (0x5C ∷ b ∷ []) (b ∷ []))
-    alone b h true = next (0x5C ∷ []) (ascii 0x5C (omega arith)) (ascii-text b h)
-    alone b h false = ascii-text b h
+    alone b h true = next (0x5C ∷ []) (ascii 0x5C (omega arith)) (shapes .ascii-text b h)
+    alone b h false = shapes .ascii-text b h
 
     by : {c : List ℕ} → Kept c → isChar c ≡ true → Octets (escaped verb c)
     by (low {b} h) e = alone b h (isEscapable b verb false)
@@ -73,72 +73,65 @@ escaped-octets verb (next c {s} e o) =
 one-octets : (w : Bool) (k : Kind) {t : List ℕ} → Octets t → Octets (formatOne w k t .text)
 one-octets w Normal o = lines-octets o w []
 one-octets w Verbatim o = o
-one-octets w Math o = next (0x24 ∷ []) (ascii 0x24 (omega arith)) (shapes .octets-append o (ascii-text 0x24 (omega arith)))
+one-octets w Math o = next (0x24 ∷ []) (ascii 0x24 (omega arith)) (shapes .octets-append o (shapes .ascii-text 0x24 (omega arith)))
 
-format-octets : (w : Bool) {cs : List Chunk} → Texts cs → Octets (formatFrom w cs)
+format-octets : (w : Bool) {cs : List Chunk} → TextsUtf8 cs → Octets (formatFrom w cs)
 unfolding formatFrom
 format-octets w texts.none = none
 format-octets w (texts.next {c} o h) = shapes .octets-append (one-octets w (c .kind) o) (format-octets (formatOne w (c .kind) (c .text) .white) h)
 
 opening-octets : (extra : Bool) (k : Kind) → Octets (opening extra k)
 opening-octets false Normal = none
-opening-octets true Normal = ascii-text 0x7D (omega arith)
-opening-octets false Verbatim = ascii-text 0x7B (omega arith)
+opening-octets true Normal = shapes .ascii-text 0x7D (omega arith)
+opening-octets false Verbatim = shapes .ascii-text 0x7B (omega arith)
 opening-octets true Verbatim = none
-opening-octets extra Math = ascii-text 0x24 (omega arith)
+opening-octets extra Math = shapes .ascii-text 0x24 (omega arith)
 
 body-octets : (verb : Bool) (k : Kind) {t : List ℕ} → Octets t → Octets (bodyOf verb k t)
 body-octets verb Normal o = escaped-octets verb o
 body-octets verb Verbatim o = escaped-octets verb o
-body-octets verb Math o = shapes .octets-append o (ascii-text 0x24 (omega arith))
+body-octets verb Math o = shapes .octets-append o (shapes .ascii-text 0x24 (omega arith))
 
 closing-octets : (extra : Bool) → Octets (closing extra)
-closing-octets false = ascii-text 0x7D (omega arith)
-closing-octets true = next (0x7D ∷ []) (ascii 0x7D (omega arith)) (ascii-text 0x7D (omega arith))
+closing-octets false = shapes .ascii-text 0x7D (omega arith)
+closing-octets true = next (0x7D ∷ []) (ascii 0x7D (omega arith)) (shapes .ascii-text 0x7D (omega arith))
 
-write-octets : (verb extra : Bool) {cs : List Chunk} → Texts cs → Octets (biblatexFrom verb extra cs)
+write-octets : (verb extra : Bool) {cs : List Chunk} → TextsUtf8 cs → Octets (biblatexFrom verb extra cs)
 unfolding biblatexFrom
 write-octets verb extra texts.none = closing-octets extra
 write-octets verb extra (texts.next {c} o h) =
     shapes .octets-append (shapes .octets-append (opening-octets extra (c .kind)) (body-octets verb (c .kind) o))
     (write-octets verb (extraAfter extra (c .kind)) h)
 
-string-octets : (verb : Bool) (cs : List Chunk) → Texts cs → Octets (toBiblatexString verb cs)
+string-octets : (verb : Bool) (cs : List Chunk) → TextsUtf8 cs → Octets (toBiblatexString verb cs)
 string-octets verb cs h = next (0x7B ∷ []) (ascii 0x7B (omega arith)) (write-octets verb false h)
 
 -- ---- chunks that pass the check are UTF-8
-
--- the part of a text between two boundaries is UTF-8
-part-octets : (t : List ℕ) (a e : ℕ) → Octets t → a ≤ e → isBoundary t a ≡ true → isBoundary t e ≡ true → Octets (part t a e)
-part-octets t a e o h p q =
-    let x = rfc3629 .boundary t a o .0 p in
-    let y = rfc3629 .boundary t e o .0 q in
-    let n : e ≡ a + (min e (length t) - a) = sum a e (length t) h (y .inside) in
-    shapes .octets-after (part t a e) (x .before) (subst Octets (ap (λ (k : ℕ). take k t) n ∙ take-add a (min e (length t) - a) t) (y .before))
-  where
-    sum : (a e n : ℕ) → a ≤ e → e ≤ n → e ≡ a + (min e n - a)
-    sum a e n h l = omega arith
 
 row-octets : (t : List ℕ) (r : ChunkRow) → Octets t → isChunk t r ≡ true → Octets (chunkOf t r .text)
 row-octets t r o e =
     let b = both-true _ _ (both-true (leb (r .kind) 2) _ e .1) in
     let c = both-true (isBoundary t (r .from)) (isBoundary t (r .to)) (b .1) in
-    part-octets t (r .from) (r .to) o (leb-true _ _ (b .0)) (c .0) (c .1)
+    boundaries .between t (r .from) (r .to) o (leb-true _ _ (b .0)) (c .0) (c .1)
 
-rows-texts : (t : List ℕ) (rs : List ChunkRow) → Octets t → everyChunk t rs ≡ true → Texts (map (chunkOf t) rs)
-unfolding everyChunk
+rows-texts : (t : List ℕ) (rs : List ChunkRow) → Octets t → everyChunk t rs ≡ true → TextsUtf8 (map (chunkOf t) rs)
+unfolding every
 rows-texts t [] o e = texts.none
 rows-texts t (r ∷ rs) o e = let b = both-true (isChunk t r) (everyChunk t rs) e in texts.next (row-octets t r o (b .0)) (rows-texts t rs o (b .1))
 
-check-texts : (t l : List ℕ) → checkedOf t l ≡ checked.Passed → Texts (chunksOf t l)
+check-texts : (t l : List ℕ) → checkedOf t l ≡ checked.Passed → TextsUtf8 (chunksOf t l)
 unfolding areChunks
 check-texts t l e =
     let s = are-chunks t l e in
     rows-texts t (chunkRows l) (rfc3629 .accepts t .0 (s .0)) (both-true (eqb (length l % 5) 0) (everyChunk t (chunkRows l)) (s .1) .1)
 
+append-texts : {cs ds : List Chunk} → TextsUtf8 cs → TextsUtf8 ds → TextsUtf8 (cs ++ ds)
+append-texts texts.none k = k
+append-texts (texts.next o h) k = texts.next o (append-texts h k)
+
 -- ---- the calls
 
-call-octets : (t l : List ℕ) {w b b′ : List ℕ} {n : ℕ} → (Texts (chunksOf t l) → Octets w) → Write (checkedOf t l) w b (outcome.Count n) b′ →
+call-octets : (t l : List ℕ) {w b b′ : List ℕ} {n : ℕ} → (TextsUtf8 (chunksOf t l) → Octets w) → Write (checkedOf t l) w b (outcome.Count n) b′ →
     Octets (take n b′)
 call-octets t l f h = let s = written (checkedOf t l) h in subst Octets (sym (s .1)) (f (check-texts t l (s .0)))
 
@@ -147,6 +140,7 @@ well-formed = record {
   checked = check-texts;
   formatted = λ cs h. format-octets false h;
   serialized = string-octets;
+  append = append-texts;
   formats = λ t l b b′ n h. call-octets t l (λ x. format-octets false x) h;
   writes = λ verb t l b b′ n h. call-octets t l (string-octets verb (chunksOf t l)) h;
 }

@@ -4,5 +4,5 @@
 pub mod ChunkByChunk
 -- a pass over chunk rows, for both writers
 pub mod Passes
--- the turns of both passes
+-- where each writer's pass begins, its turns, and its end
 pub mod PassTurns

@@ -1,5 +1,5 @@
--- chunk.rs goes through a text character by character, and the definitions of specs/Format.antt octet by octet. Of a text that is UTF-8 both
--- say the same. The proof is `characters` of proofs/Characters.antt.
+-- chunk.rs goes through a text character by character, and the definitions of specs/Format.antt octet by octet. On a text that is UTF-8 both
+-- give the same result. The proof is `characters` of proofs/Characters.antt.
 --     utf8Of              the octets of characters, which are scalar values
 --     charLines           [chunk.rs:format_verbatim] of a Normal text
 --     charEndsWhite       [chunk.rs:format_verbatim] of a Verbatim text: whether its last character is white space
@@ -17,12 +17,12 @@ unfoldable pub utf8Of : List ℕ → List ℕ
 utf8Of [] = []
 utf8Of (c ∷ cs) = octets c ++ utf8Of cs
 
--- each is a scalar value
+-- all of these characters are scalar values
 pub data Scalars : List ℕ → Type 0 where
   none : Scalars []
   next : {c : ℕ} {cs : List ℕ} → isScalar c ≡ true → Scalars cs → Scalars (c ∷ cs)
 
--- where `prev_was_whitespace` is w
+-- what is written of a Normal text's characters, where `prev_was_whitespace` is w before them
 unfoldable pub charLines : Bool → List ℕ → Written
 charLines w [] = written [] w
 charLines w (c ∷ cs) =
@@ -39,9 +39,9 @@ charEscaped verb [] = []
 charEscaped verb (c ∷ cs) = cond (isEscapable c verb false) (0x5C ∷ c ∷ charEscaped verb cs) (c ∷ charEscaped verb cs)
 
 pub record Characters : Type 0 where
-  -- a text that is UTF-8 has characters
+  -- a text that is UTF-8 is the octets of some characters
   pub has : (t : List ℕ) → Octets t → (cs : List ℕ) × Scalars cs × (utf8Of cs ≡ t)
-  -- and the definitions go through them as chunk.rs does
+  -- over octets the definitions give what chunk.rs gives over characters: the lines, whether white space comes last, the escapes
   pub lined : (w : Bool) (cs : List ℕ) → Scalars cs → lines w [] (utf8Of cs) ≡ written (utf8Of (charLines w cs .text)) (charLines w cs .white)
   pub ended : (cs : List ℕ) → Scalars cs → endsWhite (utf8Of cs) ≡ charEndsWhite cs
   pub escapes : (verb : Bool) (cs : List ℕ) → Scalars cs → escaped verb (utf8Of cs) ≡ utf8Of (charEscaped verb cs)

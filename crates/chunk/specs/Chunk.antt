@@ -8,12 +8,13 @@
 -- Assumes nothing.
 use Prim.Native.Nat.{ℕ, zero, suc, _+_, _%_, _≤_}
 use mathlib.Core.Path.{_≡_}
-use mathlib.Core.Bool.{Bool, true, _&&_}
+use mathlib.Core.Bool.{Bool, _&&_}
 use mathlib.Core.List.{List, [], _∷_, map}
 use lib.ListN.{length, getD}
 use lib.Dec.{eqb, leb}
 use Rattle.text.specs.Utf8.{isBoundary}
 use Rattle.text.specs.Scan.{part}
+use Rattle.text.specs.Every.{every}
 use Rattle.chunk.specs.declared.form.Kind.{Kind}
 use Rattle.chunk.specs.declared.form.Kind.the-variants.{Normal, Verbatim, Math}
 
@@ -32,7 +33,7 @@ kindOf Normal = 0
 kindOf Verbatim = 1
 kindOf Math = 2
 
--- the kind with a number. The check lets no number pass but these three
+-- the kind that has this number. The row check passes only 0, 1 and 2, so a greater number is never asked for
 abbrev pub kindFrom : ℕ → Kind
 kindFrom zero = Normal
 kindFrom (suc zero) = Verbatim
@@ -55,7 +56,7 @@ unfoldable pub flatChunks : List ChunkRow → List ℕ
 flatChunks [] = []
 flatChunks (r ∷ rs) = r .kind ∷ r .from ∷ r .to ∷ r .start ∷ r .end ∷ flatChunks rs
 
--- row n, where it fits whole; else nothing
+-- the lent numbers with r written as row n, where that row fits whole; else as they were
 unfoldable pub putChunk : List ℕ → ℕ → ChunkRow → List ℕ
 putChunk [] n r = []
 putChunk (a ∷ []) n r = a ∷ []
@@ -65,7 +66,7 @@ putChunk (a ∷ b ∷ c ∷ d ∷ []) n r = a ∷ b ∷ c ∷ d ∷ []
 putChunk (a ∷ b ∷ c ∷ d ∷ e ∷ l) zero r = r .kind ∷ r .from ∷ r .to ∷ r .start ∷ r .end ∷ l
 putChunk (a ∷ b ∷ c ∷ d ∷ e ∷ l) (suc n) r = a ∷ b ∷ c ∷ d ∷ e ∷ putChunk l n r
 
--- the rows of as many fives as there are; numbers past the last whole row are left out
+-- the rows that these numbers make, five numbers to a row; numbers past the last whole row are left out
 unfoldable pub chunkRows : List ℕ → List ChunkRow
 chunkRows [] = []
 chunkRows (a ∷ []) = []
@@ -74,7 +75,7 @@ chunkRows (a ∷ b ∷ c ∷ []) = []
 chunkRows (a ∷ b ∷ c ∷ d ∷ []) = []
 chunkRows (a ∷ b ∷ c ∷ d ∷ e ∷ l) = chunkRow a b c d e ∷ chunkRows l
 
--- from number i on stands a row of the kind k, with the text from f to t; a number has 32 bits
+-- the row that begins at number i of l has the kind k and the text from f to t. A number has 32 bits
 pub record Stores (l : List ℕ) (i k f t : ℕ) : Type 0 where
   pub kind : k ≡ getD l i 0
   pub from : f ≡ getD l (i + 1) 0
@@ -95,9 +96,8 @@ chunksOf t l = map (chunkOf t) (chunkRows l)
 abbrev pub isChunk : List ℕ → ChunkRow → Bool
 isChunk t r = leb (r .kind) 2 && (leb (r .from) (r .to) && (isBoundary t (r .from) && isBoundary t (r .to)))
 
-unfoldable pub everyChunk : List ℕ → List ChunkRow → Bool
-everyChunk t [] = true
-everyChunk t (r ∷ rs) = isChunk t r && everyChunk t rs
+abbrev pub everyChunk : List ℕ → List ChunkRow → Bool
+everyChunk t rs = every (isChunk t) rs
 
 -- "Input rows whose numbers are no whole count of rows are refused with 17 too"
 unfoldable pub areChunks : List ℕ → List ℕ → Bool

@@ -19,7 +19,8 @@ use Rattle.chunk.specs.Chunk.{Chunk}
 
 -- ---- the last character of a text
 
--- the place of the last octet that goes on no sequence. The first octet is at i, and `best` is the last such place so far
+-- the place of the last octet that is no tail, where the last character begins. The first octet is at i, and `best` is the last such place
+-- so far
 unfoldable pub lastFrom : ℕ → ℕ → List ℕ → ℕ
 lastFrom best i [] = best
 lastFrom best i (b ∷ t) = lastFrom (cond (within tail b) best i) (suc i) t
@@ -44,10 +45,11 @@ pub record Written : Type 0 where
 abbrev pub written : List ℕ → Bool → Written
 written t w = record { text = t; white = w }
 
--- the text t, and then what w has
+-- the text t, put in front of what w has
 abbrev pub before : List ℕ → Written → Written
 before t w = written (t ++ w .text) (w .white)
 
+-- a newline or a carriage return
 abbrev pub isLineEnd : ℕ → Bool
 isLineEnd b = eqb b 0x0A || eqb b 0x0D
 
@@ -56,15 +58,15 @@ abbrev pub white : Bool → List ℕ → Bool
 white w [] = w
 white w (b ∷ u) = endsWhite (b ∷ u)
 
--- a Normal text: a line end is a blank, or nothing after white space. The octets u stand between the last line end and here, and w is
--- `prev_was_whitespace` before them
+-- a Normal text: a line end becomes a blank, or nothing if white space came before it. The octets u stand between the last line end and
+-- here, and w is `prev_was_whitespace` before them
 unfoldable pub lines : Bool → List ℕ → List ℕ → Written
 lines w u [] = written [] (white w u)
 lines w u (b ∷ t) =
     cond (isLineEnd b) (cond (white w u) (lines true [] t) (before (0x20 ∷ []) (lines true [] t)))
     (before (b ∷ []) (lines w (u ++ b ∷ []) t))
 
--- a chunk, where `prev_was_whitespace` is w
+-- what a chunk is written as, where `prev_was_whitespace` is w before it
 abbrev pub formatOne : Bool → Kind → List ℕ → Written
 formatOne w Normal t = lines w [] t
 formatOne w Verbatim t = written t (endsWhite t)
@@ -92,8 +94,8 @@ alwaysMarks = 0x7B ∷ 0x7D ∷ 0x5C ∷ []
 abbrev pub plainMarks : List ℕ
 plainMarks = 0x7E ∷ 0x5E ∷ 0x23 ∷ 0x26 ∷ 0x25 ∷ 0x24 ∷ 0x5F ∷ []
 
--- [resolve.rs:is_escapable] the first always, the second unless the field is verbatim, and a colon only in reading. All are ASCII, so that
--- an octet decides
+-- [resolve.rs:is_escapable] the first list always, the second unless the field is verbatim, and a colon only in reading. All of them are
+-- ASCII, so an octet decides
 unfoldable pub isEscapable : ℕ → Bool → Bool → Bool
 isEscapable c verb read = mark alwaysMarks c || (mark plainMarks c && not verb) || (eqb c 0x3A && read)
 
@@ -109,13 +111,13 @@ opening false Verbatim = 0x7B ∷ []
 opening true Verbatim = []
 opening extra Math = 0x24 ∷ []
 
--- whether the extra brace is open after it
+-- whether the extra brace is open after a chunk
 abbrev pub extraAfter : Bool → Kind → Bool
 extraAfter extra Normal = false
 extraAfter extra Verbatim = true
 extraAfter extra Math = extra
 
--- the chunk itself, and what stands behind it
+-- the chunk's text, and behind Math its second dollar
 abbrev pub bodyOf : Bool → Kind → List ℕ → List ℕ
 bodyOf verb Normal t = escaped verb t
 bodyOf verb Verbatim t = escaped verb t
@@ -124,7 +126,7 @@ bodyOf verb Math t = t ++ 0x24 ∷ []
 abbrev pub biblatexOne : Bool → Bool → Kind → List ℕ → List ℕ
 biblatexOne verb extra k t = opening extra k ++ bodyOf verb k t
 
--- and the braces that close
+-- the closing brace, and one more where the extra brace is open
 abbrev pub closing : Bool → List ℕ
 closing false = 0x7D ∷ []
 closing true = 0x7D ∷ 0x7D ∷ []

@@ -1,4 +1,4 @@
--- The contracts' words of the inner functions of src/ending.rt.
+-- Definitions for the contract of `line_end` in src/ending.rt: a run of octets without line ends, and where it stops.
 -- Assumes nothing.
 use Prim.Native.Nat.{ℕ}
 use mathlib.Core.Bool.{Bool, true, not, _&&_}

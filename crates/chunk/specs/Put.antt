@@ -1,6 +1,6 @@
--- Octets put into lent bytes, each only where it fits; so that the code that writes also counts, over no bytes.
---     Puts              octets from a place on, and the place after them
---     totalOf, Fills    a pass over chunks
+-- Octets put into lent bytes, each only where it fits. So the code that writes only counts where it is lent no bytes.
+--     Puts              octets put from a place on, and the place after them
+--     totalOf, Fills    what a pass over chunks answers, and what it leaves in the lent bytes
 -- Assumes nothing.
 use Prim.Native.Nat.{ℕ, _+_, _≤_}
 use mathlib.Core.Path.{_≡_}
@@ -12,7 +12,7 @@ use lib.Dec.{leb}
 use Rattle.chunk.specs.declared.answer.Total.{Total}
 use Rattle.chunk.specs.declared.answer.Total.the-variants as total
 
--- the last number of a place, and of a room: a slice has less than 2 ^ 63 bytes
+-- the greatest place, and below it the greatest room: a slice has less than 2 ^ 63 bytes
 abbrev pub lastPlace : ℕ
 lastPlace = 18446744073709551615
 
@@ -29,7 +29,8 @@ pub record Puts (o : List ℕ) (n : ℕ) (w : List ℕ) (r : ℕ) (o′ : List �
 abbrev pub totalOf : List ℕ → ℕ → Total
 totalOf w room = cond (leb (length w) room) (total.Bytes (length w)) total.More
 
--- a pass that puts w from the first byte on. Where w is more than the room, nothing is said of the lent bytes: the pass is then over none
+-- a pass that puts w from the first byte on. Where w is longer than the room, nothing is said of the lent bytes: only the counting pass,
+-- which is lent none, meets this
 pub record Fills (w : List ℕ) (room : ℕ) (o : List ℕ) (r : Total) (o′ : List ℕ) : Type 0 where
   pub answer : r ≡ totalOf w room
   pub bytes : length w ≤ room → o′ ≡ sets o 0 w

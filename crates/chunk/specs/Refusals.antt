@@ -16,14 +16,14 @@ use Rattle.row.specs.declared.fault.Outcome.the-variants as outcome
 use Rattle.chunk.specs.Chunk.{areChunks}
 use Rattle.chunk.specs.Write.{FormatVerbatim, ToBiblatexString}
 
--- of the text t and the numbers l: 2 at the first ill-formed sequence of the text, and 17 and 16 at 0..0
+-- the refusals for the text t and the numbers l: 2 at the first ill-formed sequence of the text, 17 and 16 at 0..0
 pub data WriteFault (t l : List ℕ) : Fault → Type 0 where
   ill-formed : (n : ℕ) → validityOf t ≡ validity.IllFormed n → WriteFault t l (faultAt NotUtf8 n)
-  unsound : areChunks t l ≡ false → WriteFault t l (nowhere BadRows)
+  bad-chunks : areChunks t l ≡ false → WriteFault t l (nowhere BadRows)
   full : WriteFault t l (nowhere NoRoom)
 
 pub record Refusals : Type 0 where
-  -- `format_verbatim` and `to_biblatex_string` answer no others
+  -- `format_verbatim` and `to_biblatex_string` answer no other refusals
   pub formats : (t l b b′ : List ℕ) (f : Fault) → FormatVerbatim t l b (outcome.Refused f) b′ → WriteFault t l f
   pub writes : (verb : Bool) (t l b b′ : List ℕ) (f : Fault) → ToBiblatexString verb t l b (outcome.Refused f) b′ → WriteFault t l f
   -- "then 16 exactly if an answer exists and needs more rows or bytes than a lent output has"

@@ -3,7 +3,7 @@
 use Prim.Native.Nat.{ℕ}
 use mathlib.Core.Path.{_≡_}
 use mathlib.Core.Bool.{Bool}
-use mathlib.Core.List.{List, [], _∷_}
+use mathlib.Core.List.{List, [], _∷_, _++_}
 use lib.ListN.{take}
 use Rattle.text.specs.Utf8.{Octets}
 use Rattle.chunk.specs.declared.answer.Checked.the-variants as checked
@@ -13,16 +13,18 @@ use Rattle.chunk.specs.Format.{formatVerbatim, toBiblatexString}
 use Rattle.chunk.specs.Write.{checkedOf, FormatVerbatim, ToBiblatexString}
 
 -- the text of each chunk is UTF-8
-pub data Texts : List Chunk → Type 0 where
-  none : Texts []
-  next : {c : Chunk} {cs : List Chunk} → Octets (c .text) → Texts cs → Texts (c ∷ cs)
+pub data TextsUtf8 : List Chunk → Type 0 where
+  none : TextsUtf8 []
+  next : {c : Chunk} {cs : List Chunk} → Octets (c .text) → TextsUtf8 cs → TextsUtf8 (c ∷ cs)
 
 pub record WellFormed : Type 0 where
-  -- the chunks that pass the check have such texts
-  pub checked : (t l : List ℕ) → checkedOf t l ≡ checked.Passed → Texts (chunksOf t l)
-  -- and then the definitions give such texts
-  pub formatted : (cs : List Chunk) → Texts cs → Octets (formatVerbatim cs)
-  pub serialized : (verb : Bool) (cs : List Chunk) → Texts cs → Octets (toBiblatexString verb cs)
-  -- so that what a call has written is UTF-8
+  -- chunks that pass the check have texts that are UTF-8
+  pub checked : (t l : List ℕ) → checkedOf t l ≡ checked.Passed → TextsUtf8 (chunksOf t l)
+  -- of chunks whose texts are UTF-8, the definitions make a text that is UTF-8
+  pub formatted : (cs : List Chunk) → TextsUtf8 cs → Octets (formatVerbatim cs)
+  pub serialized : (verb : Bool) (cs : List Chunk) → TextsUtf8 cs → Octets (toBiblatexString verb cs)
+  -- two lists of chunks whose texts are UTF-8, one behind the other, are such a list
+  pub append : {cs ds : List Chunk} → TextsUtf8 cs → TextsUtf8 ds → TextsUtf8 (cs ++ ds)
+  -- what a call has written is UTF-8
   pub formats : (t l b b′ : List ℕ) (n : ℕ) → FormatVerbatim t l b (outcome.Count n) b′ → Octets (take n b′)
   pub writes : (verb : Bool) (t l b b′ : List ℕ) (n : ℕ) → ToBiblatexString verb t l b (outcome.Count n) b′ → Octets (take n b′)

@@ -1,5 +1,6 @@
 -- Chunks and what both writers make of them: the chunks of real values, and line ends, white space and extra braces across chunks.
---     table, Worked       the proof of `Worked` is `worked` of proofs/Worked.antt
+--     table       the cases
+--     Worked      the definitions give their texts. The proof is `worked` of proofs/Worked.antt
 -- Assumes nothing.
 use Prim.Native.String.{String}
 use mathlib.Core.Path.{_≡_}

@@ -1,7 +1,7 @@
 -- The contracts of `format_verbatim` and `to_biblatex_string` [01:Numbers a caller can get]: "Order: 1 for a file, 2, 17, .. then 16 exactly
--- if an answer exists and needs more rows or bytes than a lent output has. All output stays as it was on refusal; on success the room past
--- the answer stays as it was". 2 is at the first byte of the text's first ill-formed sequence, 17 and 16 at 0..0.
---     checkedOf         2, then 17
+-- if an answer exists and needs more rows or bytes than a lent output has. .. All output stays as it was on refusal; on success the room
+-- past the answer stays as it was". 2 is at the first byte of the text's first ill-formed sequence, 17 and 16 at 0..0.
+--     checkedOf         the check: 2, then 17
 --     Write             a writer's answer and what it leaves in the lent bytes
 -- Assumes nothing.
 use Prim.Native.Nat.{ℕ}
@@ -33,11 +33,12 @@ checkedOf t l = rowsChecked t l (validityOf t)
 
 -- ---- a writer, by what the check says and what it has to write
 
+-- the answer: the count; 16 where the lent bytes are fewer; or what the check refuses
 abbrev pub writingOf : Checked → List ℕ → ℕ → Outcome
 writingOf checked.Passed w size = cond (leb (length w) size) (outcome.Count (length w)) (outcome.Refused (nowhere NoRoom))
 writingOf (checked.Refused f) w size = outcome.Refused f
 
--- the lent bytes: the text in front of what they held, or as they were
+-- the lent bytes afterwards: the text, and behind it what they held there; or all as they were
 abbrev pub writtenInto : Checked → List ℕ → List ℕ → List ℕ
 writtenInto checked.Passed w b = cond (leb (length w) (length b)) (w ++ drop (length w) b) b
 writtenInto (checked.Refused f) w b = b

@@ -1,13 +1,13 @@
 // What the inner calls of this crate answer.
 use row::fault::Fault;
 
-// Of the check of lent rows and text.
+// What the check of lent rows and their text answers.
 pub enum Checked {
     Passed,
     Refused(Fault),
 }
 
-// Of a pass over chunks: how many bytes they are written as, or more than the room.
+// What a pass over chunks answers: how many bytes they are written as, or that these are more than the room.
 pub enum Total {
     Bytes(usize),
     More,

@@ -37,7 +37,7 @@ pub fn is_escapable(c: u32, verb: bool, read: bool) -> bool
         | ((c == 0x3a) & read)
 }
 
-// One byte, behind a backslash where it needs one.
+// Puts one byte, with a backslash before it where it needs one.
 fn escape(b: u8, verb: bool, out: &mut [u8], at: usize) -> usize
     requires { ⌜ at + 2 ≤ lastPlace ⌝ }
     ensures { λ r. ⌜ Puts (now (out .entry)) at (escapedOf verb (b ∷ [])) r (now (out .exit)) ⌝ }
@@ -50,7 +50,7 @@ fn escape(b: u8, verb: bool, out: &mut [u8], at: usize) -> usize
     put::put(out, at, b)
 }
 
-// A text, each of its characters escaped that needs it.
+// Puts a text, with a backslash before each character that needs one.
 fn escaped(t: &[u8], from: usize, to: usize, verb: bool, out: &mut [u8], at: usize) -> usize
     requires { ⌜ (from ≤ to) × (to ≤ length (now t)) × (at + 2 * to ≤ lastPlace) ⌝ }
     ensures { λ r. ⌜ Puts (now (out .entry)) at (escapedOf verb (part (now (t .entry)) from to)) r (now (out .exit)) ⌝ }

@@ -11,7 +11,7 @@ ghost use Rattle.text.specs.Scan.{part, code as codeOf};
 ghost use Rattle.chunk.specs.Format.{lastAt, endsWhite, isLineEnd};
 ghost use Rattle.chunk.specs.Inner.{plain, stops};
 
-// The place of the last character of the text from a place to another.
+// The place of the last character of the text from one place to another.
 pub fn last_at(t: &[u8], from: usize, to: usize) -> usize
     requires { ⌜ (from ≤ to) × (to ≤ length (now t)) ⌝ }
     ensures { λ r. ⌜ r ≡ from + lastAt (part (now (t .entry)) from to) ⌝ }
@@ -26,7 +26,7 @@ pub fn last_at(t: &[u8], from: usize, to: usize) -> usize
     i
 }
 
-// The code point of the character at a place of the text that ends at another.
+// The code point of the character at a place, in the text that ends at `to`.
 pub fn code_at(t: &[u8], at: usize, to: usize) -> u32
     requires { ⌜ (at < to) × (to ≤ length (now t)) ⌝ }
     ensures { λ r. ⌜ r ≡ codeOf (part (now (t .entry)) at to) ⌝ }
@@ -37,7 +37,7 @@ pub fn code_at(t: &[u8], at: usize, to: usize) -> u32
     }
 }
 
-// Whether the text from a place to another ends in white space.
+// Whether the text from one place to another ends in white space.
 pub fn ends_white(t: &[u8], from: usize, to: usize) -> bool
     requires { ⌜ (from ≤ to) × (to ≤ length (now t)) ⌝ }
     ensures { λ r. ⌜ r ≡ endsWhite (part (now (t .entry)) from to) ⌝ }

@@ -21,7 +21,7 @@ pub fn kind_number(kind: Kind) -> u32
     }
 }
 
-// The kind with a number. The row check lets no number pass but these three.
+// The kind that has this number. The row check passes only 0, 1 and 2.
 pub fn kind_from(number: u32) -> Kind
     ensures { λ r. ⌜ r ≡ kindFrom number ⌝ }
 {

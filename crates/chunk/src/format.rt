@@ -52,7 +52,7 @@ fn lines(t: &[u8], from: usize, to: usize, white: bool, out: &mut [u8], at: usiz
     Formatted { at: j, white: w }
 }
 
-// A chunk, whose text stands from a place to another.
+// A chunk, whose text stands from one place to another.
 fn format_one(
     kind: Kind,
     t: &[u8],

@@ -19,7 +19,7 @@ pub fn put(out: &mut [u8], at: usize, b: u8) -> usize
     at + 1
 }
 
-// The bytes of s from a place to another; the place after them.
+// The bytes of s from one place to another; the place after them.
 pub fn copy(s: &[u8], from: usize, to: usize, out: &mut [u8], at: usize) -> usize
     requires { ⌜ (from ≤ to) × (to ≤ length (now s)) × (at + to ≤ lastPlace + from) ⌝ }
     ensures { λ r. ⌜ Puts (now (out .entry)) at (part (now (s .entry)) from to) r (now (out .exit)) ⌝ }

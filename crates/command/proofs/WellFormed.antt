@@ -15,6 +15,7 @@ use Rattle.text.specs.Shapes.{one}
 use Rattle.text.proofs.general.Places.{boundary-in}
 use Rattle.text.proofs.Shapes.{shapes}
 use Rattle.text.proofs.Rfc3629.{rfc3629}
+use Rattle.text.proofs.Boundaries.{boundaries}
 use Rattle.chunk.specs.Format.{lastFrom, lastAt, lastCode}
 use Rattle.compose.specs.declared.Composed.{Composed}
 use Rattle.compose.specs.declared.Composed.the-variants as composed
@@ -53,61 +54,55 @@ last-holds P s (b ∷ t) best i e h k =
 
 last-boundary : (t : List ℕ) → Octets t → isBoundary t (lastAt t) ≡ true
 last-boundary t o =
-    last-holds (λ k. isBoundary t k ≡ true) t t 0 0 refl (rfc3629 .boundary t 0 o .1 (record { inside = omega arith; before = none; after = o }))
+    last-holds (λ k. isBoundary t k ≡ true) t t 0 0 refl (boundaries .first t o)
     (λ k l e. sym (boundary-in t k l) ∙ ap not e)
 
 front-text : (t : List ℕ) → Octets t → Octets (front t)
 front-text t o = rfc3629 .boundary t (lastAt t) o .0 (last-boundary t o) .before
 
--- it leaves out an octet at least
+-- the text before the last character is at least an octet shorter
 front-short : (b : ℕ) (t : List ℕ) → length (front (b ∷ t)) ≤ length t
 front-short b t =
     let l : lastAt (b ∷ t) < length (b ∷ t) = last-holds (λ k. k < length (b ∷ t)) (b ∷ t) (b ∷ t) 0 0 refl (omega arith) (λ k l e. l) in
     omega (arith, length-take-le (lastAt (b ∷ t)) (b ∷ t) (omega (arith, l)), l)
 
--- ---- a mark onto it
-
-char-text : (c : ℕ) → isScalar c ≡ true → Octets (octets c)
-char-text c e = shapes .octets-char (octets c) (rfc3629 .writes c e)
-
-ascii-text : (b : ℕ) → b ≤ 0x7F → Octets (b ∷ [])
-ascii-text b h = shapes .octets-char (b ∷ []) (shapes .shape-char (one h))
+-- ---- a mark on the last character
 
 dot-text : (t : List ℕ) (c : ℕ) → Octets t → Octets (withDot t c)
 dot-text t c o = by (eqb (dotted c) c) refl
   where
     by : (w : Bool) → eqb (dotted c) c ≡ w → Octets (cond w t (front t ++ octets (dotted c)))
     by true e = o
-    by false e = shapes .octets-append (front-text t o) (char-text (dotted c) (dotted-fine c (eqb-false (dotted c) c e) .0))
+    by false e = shapes .octets-append (front-text t o) (shapes .char-text (dotted c) (dotted-fine c (eqb-false (dotted c) c e) .0))
 
 mark-text : (t : List ℕ) (c m : ℕ) (r : Composed) → lookup composites (dotted c) m ≡ r → Octets t → isScalar m ≡ true → Octets (withMark t c m r)
-mark-text t c m (composed.Char x) e o s = shapes .octets-append (front-text t o) (char-text x (composed-fine (dotted c) m x e .0))
-mark-text t c m composed.Nothing e o s = shapes .octets-append (dot-text t c o) (char-text m s)
+mark-text t c m (composed.Char x) e o s = shapes .octets-append (front-text t o) (shapes .char-text x (composed-fine (dotted c) m x e .0))
+mark-text t c m composed.Nothing e o s = shapes .octets-append (dot-text t c o) (shapes .char-text m s)
 
 combine-text : (arg : Argument) (m : ℕ) → Octets (textOf arg) → isScalar m ≡ true → m ≤ 0x7FF → Octets (lastCharCombine arg m)
-combine-text absent m o s l = char-text m s
-combine-text (given []) m o s l = char-text (bare m) (bare-fine m s l .0)
+combine-text absent m o s l = shapes .char-text m s
+combine-text (given []) m o s l = shapes .char-text (bare m) (bare-fine m s l .0)
 combine-text (given (b ∷ t)) m o s l = mark-text (b ∷ t) _ m (lookup composites (dotted (lastCode (b ∷ t))) m) refl o s
 
 -- ---- what is written
 
 unknown-text : (name : List ℕ) → Octets name → {t : List ℕ} → Octets t → Octets (0x5C ∷ name ++ t)
-unknown-text name n o = shapes .octets-append (ascii-text 0x5C (omega arith)) (shapes .octets-append n o)
+unknown-text name n o = shapes .octets-append (shapes .ascii-text 0x5C (omega arith)) (shapes .octets-append n o)
 
 executed-text : (name : List ℕ) (arg : Argument) (k : Meaning) → Sane k → Octets name → Octets (textOf arg) → Octets (executed name arg k)
 unfolding isScalar
 executed-text name arg Itself h n o = n
-executed-text name arg (Letter c) h n o = char-text c (h .0)
+executed-text name arg (Letter c) h n o = shapes .char-text c (h .0)
 executed-text name arg (Accent m) h n o = combine-text arg m o (h .0) (h .1)
-executed-text name absent Slash h n o = char-text 0xF8 refl
+executed-text name absent Slash h n o = shapes .char-text 0xF8 refl
 executed-text name (given t) Slash h n o = combine-text (given t) 0x338 o refl (omega arith)
-executed-text name arg Copyright h n o = shapes .octets-append (char-text 0xA9 refl) o
+executed-text name arg Copyright h n o = shapes .octets-append (shapes .char-text 0xA9 refl) o
 executed-text name arg Hyphenation h n o = none
-executed-text name absent Unknown h n o = unknown-text name n (ascii-text 0x20 (omega arith))
+executed-text name absent Unknown h n o = unknown-text name n (shapes .ascii-text 0x20 (omega arith))
 executed-text name (given t) Unknown h n o =
-    shapes .octets-append (unknown-text name n (shapes .octets-append (ascii-text 0x7B (omega arith)) o)) (ascii-text 0x7D (omega arith))
+    shapes .octets-append (unknown-text name n (shapes .octets-append (shapes .ascii-text 0x7B (omega arith)) o)) (shapes .ascii-text 0x7D (omega arith))
 
--- ---- and how much
+-- ---- how long it is
 
 dot-short : (b : ℕ) (t : List ℕ) (c : ℕ) → length (withDot (b ∷ t) c) ≤ length (b ∷ t)
 dot-short b t c = by (eqb (dotted c) c) refl

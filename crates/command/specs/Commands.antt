@@ -1,5 +1,5 @@
 -- The names of commands and what each means, after [resolve.rs:execute_command] and [resolve.rs:is_single_char_func].
---     isSingleCharFunc       For src/execute.rt.
+--     isSingleCharFunc       whether a character is the whole name of a command. For src/execute.rt.
 --     commands, meaningOf    the Rust's list in its order; what a name means. For src/meaning.rt.
 -- Assumes nothing.
 use Prim.Native.Nat.{ℕ}
@@ -8,7 +8,7 @@ use mathlib.Core.Bool.{Bool, cond, _&&_, _||_}
 use mathlib.Core.List.{List, [], _∷_}
 use Rattle.text.specs.Class.{mark}
 use Rattle.text.specs.Strings.{utf8}
-use Rattle.text.specs.Same.{sameBytes}
+use Rattle.text.specs.SameBytes.{sameBytes}
 use Rattle.command.specs.declared.meaning.Meaning.{Meaning}
 use Rattle.command.specs.declared.meaning.Meaning.the-variants.{Itself, Letter, Accent, Slash, Copyright, Hyphenation, Unknown}
 
@@ -20,16 +20,16 @@ isSingleCharFunc c ws =
 
 -- ---- the Rust's list
 
-pub record Named : Type 0 where
+pub record CommandRow : Type 0 where
   pub name : String
   pub means : Meaning
 
 infix 80 _means_
-abbrev pub _means_ : String → Meaning → Named
+abbrev pub _means_ : String → Meaning → CommandRow
 _means_ n m = record { name = n; means = m }
 
 -- [resolve.rs:execute_command] in its order. `Letter c` writes the character c, `Accent m` puts the mark m onto the argument
-unfoldable pub commands : List Named
+unfoldable pub commands : List CommandRow
 commands =
     "LaTeX" means Itself ∷
     "TeX" means Itself ∷
@@ -122,7 +122,7 @@ commands =
     []
 
 -- what the first row with this name says; a name that no row has is `Unknown`
-unfoldable pub meaningIn : List Named → List ℕ → Meaning
+unfoldable pub meaningIn : List CommandRow → List ℕ → Meaning
 meaningIn [] name = Unknown
 meaningIn (r ∷ rows) name = cond (sameBytes (utf8 (r .name)) name) (r .means) (meaningIn rows name)
 

@@ -1,6 +1,7 @@
 -- What a command writes, after [resolve.rs:execute_command] and [resolve.rs:last_char_combine].
---     lastCharCombine, executeCommand       For src/execute.rt.
---     leading, Sane                         what the inner functions of src/execute.rt ask.
+--     lastCharCombine       a mark put onto the last character of an argument. For src/execute.rt.
+--     executeCommand        what a command writes. For src/execute.rt.
+--     leading, Sane         what is written before an argument, and what is required of a meaning: for the contracts of src/execute.rt.
 -- Assumes nothing.
 use Prim.Native.Nat.{ℕ, _≤_}
 use mathlib.Core.Path.{_≡_}
@@ -33,7 +34,7 @@ front t = take (lastAt t) t
 unfoldable pub dotted : ℕ → ℕ
 dotted c = cond (eqb c 0x131) 0x69 (cond (eqb c 0x237) 0x6A c)
 
--- the text t, whose last character is c, with that character's dot; its octets stay as they are where there is none to put
+-- the text t, whose last character is c: a dotless i or j gets its dot, and after any other character the text stays as it is
 abbrev pub withDot : List ℕ → ℕ → List ℕ
 withDot t c = cond (eqb (dotted c) c) t (front t ++ octets (dotted c))
 
@@ -42,6 +43,7 @@ abbrev pub withMark : List ℕ → ℕ → ℕ → Composed → List ℕ
 withMark t c m (composed.Char d) = front t ++ octets d
 withMark t c m composed.Nothing = withDot t c ++ octets m
 
+-- the text t with the mark m on its last character
 abbrev pub marked : List ℕ → ℕ → List ℕ
 marked t m = withMark t (lastCode t) m (lookup composites (dotted (lastCode t)) m)
 
@@ -60,7 +62,7 @@ abbrev pub textOf : Argument → List ℕ
 textOf absent = []
 textOf (given t) = t
 
--- by what the name means; an unknown command is written as it was read, with a blank behind it where it has no argument
+-- what a command writes, by what its name means. An unknown command is written as it was read, with a blank behind it where it has no argument
 abbrev pub executed : List ℕ → Argument → Meaning → List ℕ
 executed name arg Itself = name
 executed name arg (Letter c) = octets c
@@ -77,7 +79,7 @@ executeCommand name arg = executed name arg (meaningOf name)
 
 -- ---- for the code
 
--- what a command writes before its argument, whatever that is: the code writes it first, so that the argument need not be moved
+-- what a command writes before its argument, whatever the argument is: the code writes it first, so that the argument need not be moved
 abbrev pub leading : List ℕ → Meaning → List ℕ
 leading name Itself = []
 leading name (Letter c) = []
@@ -87,8 +89,8 @@ leading name Copyright = octets 0xA9
 leading name Hyphenation = []
 leading name Unknown = 0x5C ∷ name ++ 0x7B ∷ []
 
--- what the code asks of a meaning: its character is one of Unicode, and short. Every meaning of the list is so (`meaning-sane` of
--- proofs/Executing.antt)
+-- what the code requires of a meaning: its character is a scalar value of at most three octets, and its mark one of at most two. Every
+-- meaning of the list is so (`meaning-sane` of proofs/ways/ExecuteWays.antt)
 abbrev pub Sane : Meaning → Type 0
 Sane Itself = Unit {0}
 Sane (Letter c) = (isScalar c ≡ true) × (c ≤ 0xFFFF)

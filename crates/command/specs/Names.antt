@@ -1,6 +1,7 @@
 -- The list of commands as the constant of src/names.rt has it: for each row the length of its name, three bytes for its meaning, and the name.
--- Names of one octet are left out: src/meaning.rt tells them apart by themselves.
---     names, decoded, codeOf       For src/names.rt and src/meaning.rt.
+-- Names of one octet are left out: `meaning_one` of src/meaning.rt knows them.
+--     names               the bytes of the constant. For src/names.rt.
+--     codeOf, decoded     the number of a row's three bytes, and the meaning that it stands for. For src/meaning.rt.
 -- Assumes nothing.
 use Prim.Native.Nat.{ℕ, _+_, _*_, _/_, _%_}
 use mathlib.Core.Bool.{cond}
@@ -10,11 +11,11 @@ use lib.Dec.{eqb}
 use Rattle.command.specs.declared.meaning.Meaning.{Meaning}
 use Rattle.command.specs.declared.meaning.Meaning.the-variants.{Itself, Letter, Accent, Slash, Copyright, Hyphenation, Unknown}
 use Rattle.text.specs.Strings.{utf8}
-use Rattle.text.specs.Same.{sameBytes}
-use Rattle.command.specs.Commands.{Named, commands}
+use Rattle.text.specs.SameBytes.{sameBytes}
+use Rattle.command.specs.Commands.{CommandRow, commands}
 
 -- a row of the constant
-pub record Row : Type 0 where
+pub record NameRow : Type 0 where
   pub key : List ℕ
   pub x : ℕ
   pub y : ℕ
@@ -32,7 +33,7 @@ decoded c =
     (cond (eqb (c / 0x100000) 3) Copyright
     (cond (eqb (c / 0x100000) 5) (Accent (c % 0x100000)) Unknown)))
 
--- the number of a meaning. Slash and Hyphenation have names of one octet only, and need none
+-- the number of a meaning. Slash and Hyphenation have only names of one octet and Unknown has none, so these three need no number of their own
 abbrev pub numberOf : Meaning → ℕ
 numberOf Itself = 0x200000
 numberOf (Letter c) = c
@@ -42,7 +43,7 @@ numberOf Copyright = 0x300000
 numberOf Hyphenation = 0x700000
 numberOf Unknown = 0x700000
 
-abbrev pub rowOf : Named → Row
+abbrev pub rowOf : CommandRow → NameRow
 rowOf r = record {
   key = utf8 (r .name);
   x = numberOf (r .means) / 65536;
@@ -50,16 +51,16 @@ rowOf r = record {
   z = numberOf (r .means) % 256;
 }
 
--- the rows whose names are not of one octet
-unfoldable pub long : List Named → List Named
+-- the rows but for those whose names have one octet
+unfoldable pub long : List CommandRow → List CommandRow
 long [] = []
 long (r ∷ rs) = cond (eqb (length (utf8 (r .name))) 1) (long rs) (r ∷ long rs)
 
-unfoldable pub rowsOf : List Named → List Row
+unfoldable pub rowsOf : List CommandRow → List NameRow
 rowsOf [] = []
 rowsOf (r ∷ rs) = rowOf r ∷ rowsOf rs
 
-unfoldable pub flat : List Row → List ℕ
+unfoldable pub flat : List NameRow → List ℕ
 flat [] = []
 flat (r ∷ rs) = length (r .key) ∷ r .x ∷ r .y ∷ r .z ∷ r .key ++ flat rs
 
@@ -67,6 +68,6 @@ unfoldable pub names : List ℕ
 names = flat (rowsOf (long commands))
 
 -- what the first row with this name stands for
-unfoldable pub meaningBy : List Row → List ℕ → Meaning
+unfoldable pub meaningBy : List NameRow → List ℕ → Meaning
 meaningBy [] name = Unknown
 meaningBy (r ∷ rs) name = cond (sameBytes (r .key) name) (decoded (codeOf (r .x) (r .y) (r .z))) (meaningBy rs name)

@@ -61,7 +61,7 @@ fn bare(mark: u32) -> u32
     }
 }
 
-// A mark onto the last character of the argument that stands from a place to another. The text grows by two bytes at most: a mark has two, and
+// Puts a mark onto the last character of the argument that stands from `from` to `to`. The text grows by two bytes at most: a mark has two, and
 // a composed character is at most two longer than its letter.
 fn last_char_combine(marks: &[u32], out: &mut [u8], from: usize, to: usize, mark: u32) -> usize
     requires { ⌜ (now marks ≡ numbers composites) × (from ≤ to) × (to + 2 ≤ length (now out)) × (isScalar mark ≡ true) × (mark ≤ 0x7FF) ⌝ }
@@ -109,7 +109,8 @@ pub fn execute_before(m: Meaning, s: &[u8], a: usize, e: usize, out: &mut [u8], 
 }
 
 // A command with an argument. Its name stands in s from a to e, what it writes before the argument from `at` to `from`, and the argument's text
-// from there to `to`. It needs, and writes, one byte more than its argument, or two where it writes nothing before it.
+// from there to `to`. It needs a free byte behind the argument, or two where it writes nothing before it; and from `at` on, room for three bytes
+// and for its name.
 pub fn execute_command(
     marks: &[u32],
     m: Meaning,

@@ -4,7 +4,7 @@ ghost use mathlib.Core.List.{[], _∷_};
 ghost use Prim.Native.Nat.{_+_, _≤_};
 ghost use lib.ListN.{length};
 ghost use Rattle.text.specs.Scan.{part};
-ghost use Rattle.text.specs.Same.{sameBytes};
+ghost use Rattle.text.specs.SameBytes.{sameBytes};
 ghost use Rattle.command.specs.Commands.{meaningOf};
 ghost use Rattle.command.specs.Names.{codeOf, decoded, names as allNames};
 
@@ -109,7 +109,7 @@ fn meaning_at(x: u8, y: u8, z: u8) -> Meaning
     }
 }
 
-// What the name from a place to another means.
+// What the name from one place to another means.
 pub fn meaning_of(names: &[u8], s: &[u8], a: usize, e: usize) -> Meaning
     requires { ⌜ (now names ≡ allNames) × (a ≤ e) × (e ≤ length (now s)) ⌝ }
     ensures { λ r. ⌜ r ≡ meaningOf (part (now (s .entry)) a e) ⌝ }

@@ -9,7 +9,7 @@ ghost use Rattle.text.specs.Scan.{part};
 ghost use Rattle.chunk.specs.Format.{lines as linesOf, formatOne};
 ghost use Rattle.command.specs.Stack.{Lays, defaultChunk};
 
-// The bytes from a place to another, moved down to a third.
+// Moves the bytes from one place to another down to a third.
 fn shift(t: &mut [u8], from: usize, to: usize, at: usize) -> usize
     requires { ⌜ (at ≤ from) × (from ≤ to) × (to ≤ length (now t)) ⌝ }
     ensures { λ r. ⌜ Lays at (part (now (t .entry)) from to) (now (t .entry)) r (now (t .exit)) ⌝ }
@@ -56,7 +56,7 @@ fn lines(t: &mut [u8], from: usize, to: usize, white: bool) -> Formatted
     Formatted { at: j, white: w }
 }
 
-// A chunk of an argument with so many braces open, whose text stands from a place to another.
+// Formats a chunk of an argument. Its text stands from `from` to `to`, and `braces` is the number of braces that are open around it.
 pub fn settle(t: &mut [u8], braces: usize, from: usize, to: usize, white: bool) -> Formatted
     requires { ⌜ (from ≤ to) × (to ≤ length (now t)) ⌝ }
     ensures { λ r. ⌜ Lays from (formatOne white (defaultChunk braces) (part (now (t .entry)) from to) .text) (now (t .entry)) (r .at) (now (t .exit))

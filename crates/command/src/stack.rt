@@ -1,5 +1,5 @@
 // Text under construction, in lent bytes. Functions are given the place where the text ends so far, write behind it, and return the new end.
-// An argument's text is made behind that of its parent. What lies past the end belongs to nobody, and `wipe` clears it at last.
+// An argument's text is made behind that of its parent. What lies past the end has no meaning, and `wipe` clears it before a call returns.
 use text::utf8;
 use text::utf8::Encoded;
 ghost use mathlib.Core.Path.{_≡_};
@@ -11,7 +11,7 @@ ghost use Rattle.text.specs.Scan.{part};
 ghost use Rattle.text.specs.Utf8.{isScalar, octets};
 ghost use Rattle.command.specs.Stack.{Lays};
 
-// The bytes of s from a place to another.
+// The bytes of s from one place to another.
 pub fn copy(s: &[u8], from: usize, to: usize, out: &mut [u8], at: usize) -> usize
     requires { ⌜ (from ≤ to) × (to ≤ length (now s)) × (at + to ≤ length (now out) + from) ⌝ }
     ensures { λ r. ⌜ Lays at (part (now (s .entry)) from to) (now (out .entry)) r (now (out .exit)) ⌝ }

@@ -8,12 +8,13 @@ use mathlib.Core.List.{List, [], _∷_, List·Memᴰ, List·Memᴰ·head, List·
 use lib.Dec.{eqb}
 use borrow.Author.Tests.{eqb-true}
 use Rattle.text.proofs.general.Tests.{both-true}
+use Rattle.text.specs.Every.{every}
 use Rattle.compose.specs.declared.Composed.the-variants.{Char}
-use Rattle.compose.specs.Lookup.{Row, _with_is_, lookup, risesFrom, rises}
+use Rattle.compose.specs.Lookup.{Composite, _with_is_, lookup, risesFrom, rises}
 use Rattle.compose.specs.Composites.{composites}
-use Rattle.compose.specs.Composition.{marks, isAmong, every, Composition}
-use Rattle.compose.proofs.Rows.{found, place}
-use Rattle.compose.proofs.Halving.{halves}
+use Rattle.compose.specs.Composition.{marks, isAmong, Composition}
+use Rattle.compose.proofs.lists.Rows.{found, place}
+use Rattle.compose.proofs.lists.Halving.{by-halving}
 
 -- ---- the computed tests
 
@@ -28,7 +29,7 @@ sixteen = refl
 -- ---- any list
 
 -- what is found is in the list
-listed : (rs : List Row) (l m c : ℕ) → lookup rs l m ≡ Char c → List·Memᴰ (l with m is c) rs
+listed : (rs : List Composite) (l m c : ℕ) → lookup rs l m ≡ Char c → List·Memᴰ (l with m is c) rs
 unfolding lookup
 listed [] l m c e = let z : _≡_ {A = ℕ} 0 1 = cc in absurd (omega arith)
 listed (r ∷ rs) l m c e = by (eqb (r .letter) l) (eqb (r .mark) m) refl refl e (listed rs l m c)
@@ -47,10 +48,10 @@ listed (r ∷ rs) l m c e = by (eqb (r .letter) l) (eqb (r .mark) m) refl refl e
     by false y p q e on = later e on
 
 -- what is in a list that rises is found
-finds : (rs : List Row) → rises rs ≡ true → (l m c : ℕ) → List·Memᴰ (l with m is c) rs → lookup rs l m ≡ Char c
+finds : (rs : List Composite) → rises rs ≡ true → (l m c : ℕ) → List·Memᴰ (l with m is c) rs → lookup rs l m ≡ Char c
 finds rs e l m c h = let p = place rs (l with m is c) h in found rs e (p .at) (p .inside) (l with m is c) (p .row)
 
-every-row : (p : Row → Bool) (rs : List Row) (r : Row) → every p rs ≡ true → List·Memᴰ r rs → p r ≡ true
+every-row : (p : Composite → Bool) (rs : List Composite) (r : Composite) → every p rs ≡ true → List·Memᴰ r rs → p r ≡ true
 unfolding every
 every-row p [] r e h = absurd (List·Memᴰ·not-nil h)
 every-row p (s ∷ rs) r e (List·Memᴰ·head q) = ap p q ∙ both-true (p s) (every p rs) e .0
@@ -63,5 +64,5 @@ composition = record {
   listed = listed composites;
   finds = finds composites rising;
   each = λ p e l m c f. every-row p composites (l with m is c) e (listed composites l m c f);
-  halves = halves composites rising;
+  by-halving = by-halving composites rising;
 }

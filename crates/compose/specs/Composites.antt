@@ -1,7 +1,7 @@
 -- The published list: the primary composites of Unicode 17.0 for the sixteen marks of [resolve.rs:execute_command], 606 rows.
 -- [01:Resolving and writing]: "Accents use the composition table, several hundred rows, strictly rising by letter and mark, for the sixteen
 -- marks of `execute_command`; the Unicode version is that of the Rust's dependency."
---     composites       For src/lib.rt.
+--     composites       the list. For src/lib.rt.
 --
 -- A primary composite is a character that decomposes canonically into a letter and a mark [Unicode:UnicodeData] and is not excluded from
 -- composition [Unicode:D114]. Excluded [UAX15:5] are the characters of [Unicode:CompositionExclusions], those that decompose to a single
@@ -10,9 +10,9 @@
 -- Made by host/compose/table from Unicode's data. NOTICE has the licence.
 -- Assumes nothing.
 use mathlib.Core.List.{List, [], _∷_}
-use Rattle.compose.specs.Lookup.{Row, _with_is_}
+use Rattle.compose.specs.Lookup.{Composite, _with_is_}
 
-unfoldable pub composites : List Row
+unfoldable pub composites : List Composite
 composites =
     0x003C with 0x0338 is 0x226E ∷
     0x003D with 0x0338 is 0x2260 ∷

@@ -3,11 +3,12 @@
 -- Assumes nothing.
 use Prim.Native.Nat.{ℕ}
 use mathlib.Core.Path.{_≡_}
-use mathlib.Core.Bool.{Bool, true, false, _&&_, _||_}
+use mathlib.Core.Bool.{Bool, true, false, _||_}
 use mathlib.Core.List.{List, [], _∷_, List·Memᴰ}
 use lib.Dec.{eqb}
+use Rattle.text.specs.Every.{every}
 use Rattle.compose.specs.declared.Composed.the-variants.{Char}
-use Rattle.compose.specs.Lookup.{Row, _with_is_, numbers, lookup, rises}
+use Rattle.compose.specs.Lookup.{Composite, _with_is_, numbers, lookup, rises}
 use Rattle.compose.specs.Composites.{composites}
 use Rattle.compose.specs.Halving.{halved}
 
@@ -20,11 +21,6 @@ unfoldable pub isAmong : List ℕ → ℕ → Bool
 isAmong [] n = false
 isAmong (m ∷ ms) n = eqb m n || isAmong ms n
 
--- a test holds of every row
-unfoldable pub every : (Row → Bool) → List Row → Bool
-every p [] = true
-every p (r ∷ rs) = p r && every p rs
-
 pub record Composition : Type 0 where
   -- [01:Resolving and writing] "strictly rising by letter and mark, for the sixteen marks": tests that are computed over the whole list
   pub rising : rises composites ≡ true
@@ -33,6 +29,6 @@ pub record Composition : Type 0 where
   pub listed : (l m c : ℕ) → lookup composites l m ≡ Char c → List·Memᴰ (l with m is c) composites
   pub finds : (l m c : ℕ) → List·Memᴰ (l with m is c) composites → lookup composites l m ≡ Char c
   -- what holds of every row holds of what is found
-  pub each : (p : Row → Bool) → every p composites ≡ true → (l m c : ℕ) → lookup composites l m ≡ Char c → p (l with m is c) ≡ true
+  pub each : (p : Composite → Bool) → every p composites ≡ true → (l m c : ℕ) → lookup composites l m ≡ Char c → p (l with m is c) ≡ true
   -- `find` in what `table` gives is the lookup in the list
-  pub halves : (l m : ℕ) → halved (numbers composites) l m ≡ lookup composites l m
+  pub by-halving : (l m : ℕ) → halved (numbers composites) l m ≡ lookup composites l m

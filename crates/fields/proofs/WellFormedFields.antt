@@ -19,29 +19,33 @@ use Rattle.row.specs.declared.fault.Fault.{Fault}
 use Rattle.row.specs.declared.fault.Reason.the-variants.{TooLong, NoRoom, BadRows}
 use Rattle.row.specs.Fault.{nowhere}
 use Rattle.row.specs.Row.{Row}
-use Rattle.row.specs.Limits.{mostBytes}
+use Rattle.row.specs.Limits.{mostBytes, leastScratch, mostOpen, mostNames}
 use Rattle.row.specs.Rules.{isKind}
 use Rattle.row.specs.Numbers.{rowsOf, areRows}
 use Rattle.lookup.specs.declared.plain.Found.{Found}
 use Rattle.lookup.specs.declared.plain.Found.the-variants as found
-use Rattle.text.specs.Same.{sameBytes}
+use Rattle.text.specs.SameBytes.{sameBytes}
+use Rattle.text.specs.Every.{every}
+use Rattle.text.proofs.Boundaries.{boundaries}
+use Rattle.text.proofs.general.Lists.{every-drop}
 use Rattle.lookup.specs.Names.{lastNamed}
 use Rattle.chunk.specs.Chunk.{Chunk}
 use Rattle.chunk.specs.declared.answer.Checked.{Checked}
 use Rattle.chunk.specs.declared.answer.Checked.the-variants as checked
-use Rattle.chunk.specs.WellFormed.{Texts}
+use Rattle.chunk.specs.WellFormed.{TextsUtf8}
 use Rattle.chunk.specs.WellFormed as texts
 use Rattle.literal.specs.Literal.{Resolved, chunks, resolveLiteral}
 use Rattle.literal.specs.Literal as literal
 use Rattle.literal.specs.WellFormed.{Passes}
+use Rattle.chunk.proofs.WellFormed.{well-formed as chunks-formed}
 use Rattle.literal.proofs.WellFormed.{well-formed}
-use Rattle.resolve.specs.Resolves.{Value, resolved, refused, leastScratch, ofUtf8, checkedFile, after, asked}
+use Rattle.resolve.specs.Resolves.{Value, resolved, refused, ofUtf8, checkedFile, after, asked}
 use Rattle.resolve.specs.OneLiteral.{isSpan, valueOf, literalOf}
 use Rattle.resolve.specs.Checks.{Lent, everySpan, isValue, monthIn, isValid, isText, isMonth, everyMonth, areMonths, areLent, isRight, lentOf}
 use Rattle.resolve.specs.Runs.{Run, done, stop, ofLiteral}
 use Rattle.values.specs.Field.{isElement, elements, behind, onward, walk, flattened, parseField}
-use Rattle.values.specs.Field.{element, Meaning, definition, month, unknown, monthOf, orMonth, spelt, meaningOf, onPath, known, mostOpen}
-use Rattle.values.specs.Field.{mostNames, opened, name, ofRun, fieldOf}
+use Rattle.values.specs.Field.{element, Meaning, definition, month, unknown, monthOf, orMonth, spelt, meaningOf, onPath, known}
+use Rattle.values.specs.Field.{opened, name, ofRun, fieldOf}
 use Rattle.fields.specs.OneField.{valueAt}
 use Rattle.fields.specs.WellFormedFields.{WellFormedFields}
 
@@ -51,16 +55,10 @@ span-text : (s : List ℕ) (a e : ℕ) → Octets s → isSpan s a e ≡ true �
 span-text s a e o h =
     let b = both-true (leb a e) (isBoundary s a && isBoundary s e) h in
     let c = both-true (isBoundary s a) (isBoundary s e) (b .1) in
-    well-formed .spans s a e o (leb-true a e (b .0)) (c .0) (c .1)
-
-drop-spans : (s : List ℕ) (k : ℕ) (rs : List Row) → everySpan s rs ≡ true → everySpan s (drop k rs) ≡ true
-unfolding everySpan
-drop-spans s zero rs h = h
-drop-spans s (suc k) [] h = h
-drop-spans s (suc k) (r ∷ rs) h = drop-spans s k rs (both-true (isSpan s (r .start) (r .end)) (everySpan s rs) h .1)
+    boundaries .between s a e o (leb-true a e (b .0)) (c .0) (c .1)
 
 element-spans : (s : List ℕ) (rs : List Row) → everySpan s rs ≡ true → everySpan s (elements rs) ≡ true
-unfolding everySpan elements
+unfolding every elements
 element-spans s [] h = h
 element-spans s (r ∷ rs) h =
     let b = both-true (isSpan s (r .start) (r .end)) (everySpan s rs) h in by (isElement r) (b .0) (element-spans s rs (b .1))
@@ -86,7 +84,7 @@ is-text : (words : List ℕ) (a e : ℕ) → isText words a e ≡ true → Octet
 is-text words a e h = valid-text (part words a e) (both-true (leb e (length words)) _ (both-true (leb a e) _ h .1) .1)
 
 month-right : (w words : List ℕ) (rs : List Row) → everyMonth words rs ≡ true → Right (monthOf w (map (monthIn words) rs))
-unfolding everyMonth monthOf
+unfolding every monthOf
 month-right w words [] h = tt
 month-right w words (r ∷ rs) h =
     let b = both-true (isMonth words r) (everyMonth words rs) h in
@@ -127,18 +125,14 @@ chunksIn (refused f) = []
 -- ---- elements one after the other
 
 abbrev Gives : Run → Type 0
-Gives (done cs n) = Texts cs
+Gives (done cs n) = TextsUtf8 cs
 Gives (stop f) = Unit {0}
-
-append-texts : {cs ds : List Chunk} → Texts cs → Texts ds → Texts (cs ++ ds)
-append-texts texts.none k = k
-append-texts (texts.next o h) k = texts.next o (append-texts h k)
 
 onward-gives : (x : Run) (g : ℕ → Run) → Gives x → ((n : ℕ) → Gives (g n)) → Gives (onward x g)
 onward-gives (done cs n) g h k = by (g n) (k n)
   where
     by : (y : Run) → Gives y → Gives (behind cs y)
-    by (done ds m) z = append-texts h z
+    by (done ds m) z = chunks-formed .append h z
     by (stop f) z = tt
 onward-gives (stop f) g h k = tt
 
@@ -150,12 +144,12 @@ cond-gives : (w : Bool) (x y : Run) → Gives x → Gives y → Gives (cond w x 
 cond-gives true x y h k = h
 cond-gives false x y h k = k
 
--- what a row with a right span comes to
+-- a row with a right span comes to chunks whose texts are UTF-8
 abbrev Each : List ℕ → (Row → ℕ → Run) → Type 0
 Each s one = (r : Row) (n : ℕ) → isSpan s (r .start) (r .end) ≡ true → Gives (one r n)
 
 walk-gives : (s : List ℕ) (one : Row → ℕ → Run) → Each s one → (rs : List Row) (n : ℕ) → everySpan s rs ≡ true → Gives (walk one rs n)
-unfolding walk everySpan
+unfolding walk every
 walk-gives s one h [] n e = texts.none
 walk-gives s one h (r ∷ rs) n e =
     let b = both-true (isSpan s (r .start) (r .end)) (everySpan s rs) e in
@@ -169,7 +163,7 @@ module _ (l : Lent) (good : Good l) (verb : Bool) where
       cond-gives (isKind Literal (r .kind)) _ (one r n)
       (by (resolveLiteral verb (spelt l r) (r .start)) (λ cs. well-formed .texts verb (spelt l r) (r .start) cs (span-text _ _ _ (good .file) e))) (h r n e)
     where
-      by : (x : Resolved) → ((cs : List Chunk) → x ≡ chunks cs → Texts cs) → Gives (ofLiteral x n)
+      by : (x : Resolved) → ((cs : List Chunk) → x ≡ chunks cs → TextsUtf8 cs) → Gives (ofLiteral x n)
       by (chunks cs) k = k cs refl
       by (literal.refused f) k = tt
 
@@ -177,7 +171,7 @@ module _ (l : Lent) (good : Good l) (verb : Bool) where
   parse-gives one h k n =
       flattened-gives (walk (element l verb one) (elements (drop k (l .rows))) n)
       (walk-gives (l .file) (element l verb one) (element-gives one h) (elements (drop k (l .rows))) n
-      (element-spans (l .file) (drop k (l .rows)) (drop-spans (l .file) k (l .rows) (good .rows))))
+      (element-spans (l .file) (drop k (l .rows)) (every-drop (λ (r : Row). isSpan (l .file) (r .start) (r .end)) k (l .rows) (good .rows))))
 
   meaning-right : (r : Row) → Right (meaningOf l r)
   meaning-right r = by (lastNamed (l .file) (spelt l r) (l .rows))
@@ -205,17 +199,17 @@ module _ (l : Lent) (good : Good l) (verb : Bool) where
       (opened-gives r n (meaningOf l r) _ (meaning-right r)
       (λ i. parse-gives (name l verb left (path ++ i ∷ [])) (name-gives left (path ++ i ∷ [])) (i + 2) (suc n))) tt)
 
-  field-gives : (i n : ℕ) (cs : List Chunk) → fieldOf l verb i ≡ resolved cs n → Texts cs
+  field-gives : (i n : ℕ) (cs : List Chunk) → fieldOf l verb i ≡ resolved cs n → TextsUtf8 cs
   field-gives i n cs = by (parseField _ _ 0) (parse-gives (name l verb mostOpen []) (name-gives mostOpen []) (suc i) 0)
     where
-      by : (x : Run) → Gives x → ofRun x ≡ resolved cs n → Texts cs
-      by (done ds m) h e = subst Texts (ap chunksIn e) h
+      by : (x : Run) → Gives x → ofRun x ≡ resolved cs n → TextsUtf8 cs
+      by (done ds m) h e = subst TextsUtf8 (ap chunksIn e) h
       by (stop f) h e = absurd (omega (arith, ap isResolved e))
 
 -- ---- what a call resolves
 
--- a call that resolves has asked, and was answered well
-record Answered (s : List ℕ) (good : Bool) (x v : Value) : Type 0 where
+-- a call that resolves has passed its checks: the file is UTF-8, the rows or places are right, and the value is v
+record AnsweredWell (s : List ℕ) (good : Bool) (x v : Value) : Type 0 where
   pub file : Octets s
   pub right : good ≡ true
   pub value : x ≡ v
@@ -230,11 +224,11 @@ passed-text file = by (leb (length file) mostBytes) (validityOf file) (nowhere T
     by false v f h e = let z : _≡_ {A = ℕ} 0 1 = cc in absurd (omega arith)
 
 answered : (file : List ℕ) (good : Bool) (w : ℕ) (value : Value) (cs : List Chunk) (n : ℕ) → asked file good w value ≡ resolved cs n
-    → Answered file good value (resolved cs n)
+    → AnsweredWell file good value (resolved cs n)
 answered file good w value cs n = by (checkedFile file) good (leb leastScratch w) (nowhere NoRoom) (nowhere BadRows) (passed-text file)
   where
     by : (x : Checked) (good room : Bool) (f g : Fault) → (x ≡ checked.Passed → Octets file)
-        → after x (cond good (cond room value (refused f)) (refused g)) ≡ resolved cs n → Answered file good value (resolved cs n)
+        → after x (cond good (cond room value (refused f)) (refused g)) ≡ resolved cs n → AnsweredWell file good value (resolved cs n)
     by checked.Passed true true f g h e = record { file = h refl; right = refl; value = e }
     by checked.Passed true false f g h e = absurd (omega (arith, ap isResolved e))
     by checked.Passed false room f g h e = absurd (omega (arith, ap isResolved e))
@@ -253,8 +247,8 @@ literal-passes file a e verb w n cs h =
     well-formed .value cs
     (by (resolveLiteral verb (part file a e) a) (λ ds. well-formed .texts verb (part file a e) a ds (span-text file a e (x .file) (x .right))) (x .value))
   where
-    by : (y : Resolved) → ((ds : List Chunk) → y ≡ chunks ds → Texts ds) → valueOf y ≡ resolved cs n → Texts cs
-    by (chunks ds) k e = subst Texts (ap chunksIn e) (well-formed .joins ds (k ds refl))
+    by : (y : Resolved) → ((ds : List Chunk) → y ≡ chunks ds → TextsUtf8 ds) → valueOf y ≡ resolved cs n → TextsUtf8 cs
+    by (chunks ds) k e = subst TextsUtf8 (ap chunksIn e) (well-formed .joins ds (k ds refl))
     by (literal.refused f) k e = absurd (omega (arith, ap isResolved e))
 
 pub well-formed-fields : WellFormedFields

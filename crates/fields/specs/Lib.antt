@@ -1,2 +1,3 @@
 pub mod OneField
 pub mod WellFormedFields
+pub mod Refusals

@@ -5,14 +5,14 @@ use command::stack;
 use compose;
 use resolve::answer;
 use resolve::answer::Answer;
-use resolve::answer::LEAST_SCRATCH;
 use resolve::lent;
 use resolve::progress;
 use resolve::progress::Went;
 use row::fault::Fault;
 use row::fault::Reason;
+use row::limits::LEAST_SCRATCH;
+use row::limits::MOST_OPEN;
 use values::elements;
-use values::elements::MOST_OPEN;
 ghost use lib.ListN.{length};
 ghost use Rattle.resolve.specs.Resolves.{Writes, Resolves};
 ghost use Rattle.resolve.specs.Checks.{lentOf};
@@ -38,7 +38,7 @@ pub fn count(
     ensures { λ r. ⌜ Counted (fieldOf (lentOf (now (file .entry)) (now (rows .entry)) (now (months .entry)) (now (words .entry))) verbatim which) r ⌝ }
     ensures { λ r. ⌜ BoundedWent r ⌝ }
 {
-    let mut path = [0usize; 32];
+    let mut path = [0usize; MOST_OPEN];
     let mut no_rows = [0u32; 0];
     let mut no_text = [0u8; 0];
     elements::value(
@@ -61,8 +61,8 @@ pub fn count(
     )
 }
 
-// Resolves the value of row `which` over a small room first, which counts past its end: what the small room holds is then copied, and what it
-// does not hold is resolved again.
+// Resolves the value of row `which` over a small room first, past whose end rows and bytes are only counted. If the value fits there it is copied
+// from there; else it is resolved again.
 pub fn write(
     file: &[u8],
     rows: &[u32],
@@ -84,7 +84,7 @@ pub fn write(
     ensures { λ r. ⌜ BoundedAnswer r ⌝ }
 {
     let at = which * 4 + 4;
-    let mut path = [0usize; 32];
+    let mut path = [0usize; MOST_OPEN];
     let mut few = [0u32; 160];
     let mut short = [0u8; 1024];
     let first = progress::begin();
@@ -142,7 +142,7 @@ pub fn write(
     }
 }
 
-// After what every call asks.
+// Resolves the value of row `which`, after the checks that every call makes first.
 fn field(
     file: &[u8],
     rows: &[u32],

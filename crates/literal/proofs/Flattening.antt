@@ -26,7 +26,7 @@ joins-through Verbatim Verbatim l h i = i
 joins-through Verbatim Math l h i = cc
 joins-through Math k l h i = cc
 
--- two that join may be joined before what stands in front of them is
+-- two chunks that join may be joined first, before the chunk in front of them is compared with them
 module _ (c d : Chunk) (cs : List Chunk) (h : joins (c .kind) (d .kind) ≡ true) where
   joined-first : flattenFrom (join c d) cs ≡ flattenFrom c (d ∷ cs)
   unfolding flattenFrom

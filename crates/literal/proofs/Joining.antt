@@ -1,11 +1,12 @@
--- The proof of `Joining` of specs/Rows.antt: `joining`.
+-- The proof of specs/Joining.antt: `joining`.
 -- Assumes nothing.
 use mathlib.Core.Path.{_≡_, refl, sym, ap, _∙_}
 use mathlib.Core.Bool.{Bool, true, false, cond}
 use mathlib.Core.List.{List, [], _∷_, _++_}
 use Rattle.chunk.specs.Chunk.{Chunk}
 use Rattle.turn.specs.Content.{joins, join, flattenFrom}
-use Rattle.literal.specs.Rows.{onto, Joining}
+use Rattle.literal.specs.Rows.{onto}
+use Rattle.literal.specs.Joining.{Joining}
 
 onto-behind : (cs : List Chunk) (c e d : Chunk) → onto (c ∷ flattenFrom e cs) d ≡ c ∷ onto (flattenFrom e cs) d
 unfolding flattenFrom

@@ -4,23 +4,25 @@ use Prim.Native.Nat.{ℕ, _+_, _*_, _≤_}
 use native.Mathlib.Omega.{arith}
 use mathlib.Core.Path.{_≡_, refl, sym, ap, subst, _∙_}
 use mathlib.Core.Bool.{Bool, true, false, cond}
-use mathlib.Core.List.{List, [], _∷_, _++_, map}
+use mathlib.Core.List.{List, [], _∷_, map}
 use lib.ListN.{length}
 use lib.Dec.{leb}
 use Rattle.text.specs.Utf8.{Octets}
+use Rattle.text.proofs.Boundaries.{boundaries}
+use Rattle.row.specs.Limits.{mostLiteral, mostArguments}
 use Rattle.raw.specs.Reader.{OutOf, ok, again, bad}
 use Rattle.chunk.specs.Chunk.{Chunk, everyChunk}
-use Rattle.chunk.specs.WellFormed.{Texts}
+use Rattle.chunk.specs.WellFormed.{TextsUtf8}
 use Rattle.chunk.specs.WellFormed as texts
 use Rattle.turn.specs.Content.{Part, chunksOf, content, flatten}
-use Rattle.literal.specs.Literal.{Resolved, chunks, refused, mostLiteral, mostArguments, chunkUp, resolvedOf, tooLong, resolveLiteral}
+use Rattle.literal.specs.Literal.{Resolved, chunks, refused, chunkUp, resolvedOf, tooLong, resolveLiteral}
 use Rattle.literal.specs.Rows.{rowsFrom, textsOf}
 use Rattle.literal.specs.WellFormed.{Passes, WellFormed}
-use Rattle.literal.proofs.characters.Pieces.{part-text, first-place}
 use Rattle.literal.proofs.characters.PartsToChunks.{chunks-texts, chunks-text, chunks-few}
-use Rattle.literal.proofs.characters.Moves.{owed-inside, Move, Leads}
+use Rattle.literal.proofs.characters.Moves.{owed-inside, Move, MovesOut}
 use Rattle.literal.proofs.characters.ContentMoves.{content-reads}
-use Rattle.literal.proofs.characters.RowRanges.{texts-octets, flat-texts, flat-text, rows-pass, check-passes}
+use Rattle.literal.proofs.characters.RowRanges.{texts-octets, flat-texts, rows-pass, check-passes}
+use Rattle.literal.proofs.Flattening.{flattening}
 
 -- ---- a literal that is not refused comes of a way through it
 
@@ -43,7 +45,7 @@ comes : (verb : Bool) (s : List ℕ) (base : ℕ) (cs : List Chunk) → resolveL
 unfolding resolveLiteral
 comes verb s base cs = by (leb (length s) mostLiteral) (content mostArguments verb s 0) (content-reads mostArguments verb s 0 (omega arith))
   where
-    by : (w : Bool) (o : OutOf Part) → Leads s 0 o → cond w (resolvedOf base o) (refused (tooLong base (base + length s))) ≡ chunks cs → Comes s base cs
+    by : (w : Bool) (o : OutOf Part) → MovesOut s 0 o → cond w (resolvedOf base o) (refused (tooLong base (base + length s))) ≡ chunks cs → Comes s base cs
     by true (ok q xs) m e = record { end = q; parts = xs; way = m; made = ap listOf e }
     by true (again q xs a) m e = record { end = q; parts = xs; way = m; made = ap listOf e }
     by true (bad f) m e = absurd (omega (arith, ap isGiven e))
@@ -51,25 +53,20 @@ comes verb s base cs = by (leb (length s) mostLiteral) (content mostArguments ve
 
 -- ---- places of the file change no text
 
-up-texts : (base : ℕ) {cs : List Chunk} → Texts cs → Texts (map (chunkUp base) cs)
+up-texts : (base : ℕ) {cs : List Chunk} → TextsUtf8 cs → TextsUtf8 (map (chunkUp base) cs)
 up-texts base texts.none = texts.none
 up-texts base (texts.next o h) = texts.next o (up-texts base h)
 
-up-text : (base : ℕ) (cs : List Chunk) → textsOf (map (chunkUp base) cs) ≡ textsOf cs
-unfolding textsOf
-up-text base [] = refl
-up-text base (c ∷ cs) = ap (λ (t : List ℕ). c .text ++ t) (up-text base cs)
-
 -- ---- the statement
 
-literal-texts : (verb : Bool) (s : List ℕ) (base : ℕ) (cs : List Chunk) → Octets s → resolveLiteral verb s base ≡ chunks cs → Texts cs
+literal-texts : (verb : Bool) (s : List ℕ) (base : ℕ) (cs : List Chunk) → Octets s → resolveLiteral verb s base ≡ chunks cs → TextsUtf8 cs
 literal-texts verb s base cs o e =
     let k = comes verb s base cs e in
-    subst Texts (k .made) (up-texts base (chunks-texts 0 (k .end) (k .parts) (k .way .texts o (first-place s o) .1)))
+    subst TextsUtf8 (k .made) (up-texts base (chunks-texts 0 (k .end) (k .parts) (k .way .texts o (boundaries .first s o) .1)))
 
-chunks-pass : (cs : List Chunk) → Texts cs → Passes cs
+chunks-pass : (cs : List Chunk) → TextsUtf8 cs → Passes cs
 chunks-pass cs h =
-    let flat = subst (λ (t : List ℕ). everyChunk t (rowsFrom 0 (flatten cs)) ≡ true) (flat-text cs) (rows-pass (flatten cs) (flat-texts cs h)) in
+    let flat = subst (λ (t : List ℕ). everyChunk t (rowsFrom 0 (flatten cs)) ≡ true) (flattening .texts-flat cs) (rows-pass (flatten cs) (flat-texts cs h)) in
     record {
       text = texts-octets h;
       rows = rows-pass cs h;
@@ -80,7 +77,7 @@ chunks-pass cs h =
 literal-twice : (verb : Bool) (s : List ℕ) (base : ℕ) (cs : List Chunk) → resolveLiteral verb s base ≡ chunks cs → length (textsOf cs) ≤ 2 * length s
 literal-twice verb s base cs e =
     let k = comes verb s base cs e in
-    let same = sym (ap textsOf (k .made)) ∙ up-text base (chunksOf 0 (k .end) (k .parts)) in
+    let same = sym (ap textsOf (k .made)) ∙ flattening .texts-up base (chunksOf 0 (k .end) (k .parts)) in
     omega (arith, ap length same, chunks-text 0 (k .end) (k .parts), k .way .size, owed-inside s (k .end) (k .way .to))
 
 up-length : (base : ℕ) (cs : List Chunk) → length (map (chunkUp base) cs) ≡ length cs
@@ -95,7 +92,6 @@ literal-few verb s base cs e =
 
 pub well-formed : WellFormed
 well-formed = record {
-  spans = part-text;
   texts = literal-texts;
   passes = λ verb s base cs o e. chunks-pass cs (literal-texts verb s base cs o e);
   value = chunks-pass;

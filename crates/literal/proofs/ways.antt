@@ -1,4 +1,4 @@
--- One law for each way through a function, over what its calls told.
+-- One law for each way through a function, over what its calls answered.
 
 -- one row more: `rows::push`
 pub mod PushWays

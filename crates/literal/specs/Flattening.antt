@@ -10,16 +10,16 @@ use Rattle.literal.specs.Rows.{rowsFrom, writes, textsOf}
 use Rattle.literal.specs.Literal.{chunkUp}
 
 pub record Flattening : Type 0 where
-  -- chunks that were flattened by themselves flatten with others as they were
+  -- flattening chunks first, and then again behind others, gives what flattening all of them once gives
   pub again : (ps cs : List Chunk) → flatten (ps ++ flatten cs) ≡ flatten (ps ++ cs)
-  -- chunks behind others take no chunk away
+  -- appending chunks never makes the flattened list shorter
   pub fewer : (ps cs : List Chunk) → length (flatten ps) ≤ length (flatten (ps ++ cs))
-  -- the text of chunks, one list behind another; with other places; and flattened
+  -- the text of two lists of chunks, one behind the other; of chunks moved to other places; and of flattened chunks
   pub texts-both : (cs ds : List Chunk) → textsOf (cs ++ ds) ≡ textsOf cs ++ textsOf ds
   pub texts-up : (base : ℕ) (cs : List Chunk) → textsOf (map (chunkUp base) cs) ≡ textsOf cs
   pub texts-flat : (cs : List Chunk) → textsOf (flatten cs) ≡ textsOf cs
   -- a row is five numbers
   pub numbers-length : (t : ℕ) (cs : List Chunk) → length (flatChunks (rowsFrom t cs)) ≡ length cs * 5
-  -- rows that fit stand in front of what was behind them
+  -- rows that fit stand first, and the numbers behind them are as they were
   pub rows-written : (b : List ℕ) (cs : List Chunk) → length cs * 5 ≤ length b
       → writes b 0 (rowsFrom 0 cs) ≡ flatChunks (rowsFrom 0 cs) ++ drop (length cs * 5) b

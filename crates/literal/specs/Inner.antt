@@ -1,11 +1,11 @@
--- The contracts' words of the inner functions: what the text under construction and the rows hold while content is read.
---     Holds, Goes             a state of content as the code has it; from one to the next
---     SaysSign                a turn that ends a chunk. One that writes text: `turn`
---     Begun, Finished         how a command's argument begins and ends
---     Says, SaysArgument      content, and a command with its argument, which call each other
---     SaysParsed              a literal. For `parse`, which the crates above call
---     Ahead, Ready            bounds: the text grows by at most two bytes for each byte read
--- Nothing is said of the text and the rows after a refusal: a literal is resolved over a small room first, and its bytes are wiped at last.
+-- Definitions for the contracts of the inner functions: what the text under construction and the rows hold while content is read.
+--     HoldsState, Goes                     a state of content as the code has it; from one to the next
+--     SaysSign                             a turn that ends a chunk. Turns that write text are in the crate `turn`
+--     ArgumentBegun, ArgumentFinished      how a command's argument begins and ends
+--     SaysContent, SaysArgument            content, and a command with its argument, which call each other
+--     SaysParsed                           a literal. For `parse`, which the crates above call
+--     AheadState, ReadyContent             bounds: the text grows by at most two bytes for each byte read
+-- Nothing is said of the text and the rows after a refusal: a literal is resolved over a small room first, and its bytes are wiped at the end.
 -- Assumes nothing.
 use Prim.Native.Nat.{ℕ, _+_, _*_, _≤_, _<_}
 use mathlib.Core.Path.{_≡_}
@@ -13,6 +13,7 @@ use mathlib.Core.Bool.{Bool, true, false}
 use mathlib.Core.List.{List, [], _∷_, _++_, map}
 use lib.ListN.{length, take}
 use Rattle.text.specs.Scan.{part}
+use Rattle.row.specs.Limits.{mostBytes, mostLiteral, leastScratch, mostWritten}
 use Rattle.raw.specs.Reader.{OutOf, ok, again, bad, more}
 use Rattle.chunk.specs.Chunk.{Chunk}
 use Rattle.chunk.specs.Format.{formatVerbatim, whiteFrom}
@@ -36,7 +37,7 @@ use Rattle.literal.specs.Literal.{Resolved, chunks, refused, chunkUp}
 
 -- ---- content under construction
 
--- the text of the chunks that are done: an argument's is formatted already, a literal's is as it is
+-- the text of the chunks that are done, as it stands in the bytes: formatted already in an argument, as it is in a literal
 abbrev pub standing : Bool → List Chunk → List ℕ
 standing true cs = formatVerbatim cs
 standing false cs = textsOf cs
@@ -45,14 +46,14 @@ abbrev pub some : List Chunk → Bool
 some [] = false
 some (c ∷ cs) = true
 
--- a literal's chunks become rows behind those of the chunks ps that the value has before it; an argument's do not
+-- a literal's chunks become rows behind those of the chunks ps that the value has before it; an argument's chunks become no rows
 abbrev pub RowsHeld : Bool → Place → List ℕ → List Chunk → List ℕ → List Chunk → Rows → List ℕ → Type 0
 RowsHeld true place t₀ ps b₀ cs k b = b ≡ b₀
 RowsHeld false place t₀ ps b₀ cs k b =
     RowsHold (flatten (ps ++ map (chunkUp (place .base)) cs)) b₀ k b × (place .text ≡ length (textsOf ps)) × (length t₀ ≡ 0)
 
 -- m, the bytes o and the numbers b hold the state σ, where the text t₀ stood in o before
-pub record Holds (place : Place) (t₀ : List ℕ) (ps : List Chunk) (b₀ : List ℕ) (σ : State) (m : Making) (o b : List ℕ) : Type 0 where
+pub record HoldsState (place : Place) (t₀ : List ℕ) (ps : List Chunk) (b₀ : List ℕ) (σ : State) (m : Making) (o b : List ℕ) : Type 0 where
   pub stack : take (m .len) o ≡ t₀ ++ standing (place .argument) (σ .done) ++ σ .text
   pub from : m .from ≡ length t₀ + length (standing (place .argument) (σ .done))
   pub len : m .len ≡ m .from + length (σ .text)
@@ -65,9 +66,9 @@ pub record Holds (place : Place) (t₀ : List ℕ) (ps : List Chunk) (b₀ : Lis
 -- the parts xs lead from m, o, b to m′, o′, b′
 abbrev pub Goes : Place → List Part → Making → List ℕ → List ℕ → Making → List ℕ → List ℕ → Type 0
 Goes place xs m o b m′ o′ b′ =
-    (t₀ : List ℕ) (ps : List Chunk) (b₀ : List ℕ) (σ : State) → Holds place t₀ ps b₀ σ m o b → Holds place t₀ ps b₀ (steps σ xs) m′ o′ b′
+    (t₀ : List ℕ) (ps : List Chunk) (b₀ : List ℕ) (σ : State) → HoldsState place t₀ ps b₀ σ m o b → HoldsState place t₀ ps b₀ (steps σ xs) m′ o′ b′
 
--- what ending a chunk asks: the text lies in the bytes, and the places are small enough for rows
+-- what is required to end a chunk: the text lies in the bytes, and the places are small enough for rows
 pub record Fits (place : Place) (m : Making) (len : ℕ) : Type 0 where
   pub from : m .from ≤ m .len
   pub to : m .len ≤ len
@@ -76,7 +77,7 @@ pub record Fits (place : Place) (m : Making) (len : ℕ) : Type 0 where
   pub rows : m .rows .n ≤ 2000000000000
 
 -- the chunk of m is done and ends at e, and one with d braces open begins at p
-pub record Turned (place : Place) (m : Making) (e d p : ℕ) (o b : List ℕ) (m′ : Making) (o′ b′ : List ℕ) : Type 0 where
+pub record ChunkDone (place : Place) (m : Making) (e d p : ℕ) (o b : List ℕ) (m′ : Making) (o′ b′ : List ℕ) : Type 0 where
   pub goes : Goes place (cut d e p ∷ []) m o b m′ o′ b′
   pub at : m′ .at ≡ p
   pub braces : m′ .braces ≡ d
@@ -86,7 +87,7 @@ pub record Turned (place : Place) (m : Making) (e d p : ℕ) (o b : List ℕ) (m
   pub rows : m′ .rows .n ≤ m .rows .n + 1
 
 -- a chunk of math is done, whose text stands in the content from a to e
-pub record Calculated (s : List ℕ) (a e : ℕ) (place : Place) (m : Making) (o b : List ℕ) (m′ : Making) (o′ b′ : List ℕ) : Type 0 where
+pub record MathDone (s : List ℕ) (a e : ℕ) (place : Place) (m : Making) (o b : List ℕ) (m′ : Making) (o′ b′ : List ℕ) : Type 0 where
   pub goes : Goes place (math (part s a e) a e ∷ []) m o b m′ o′ b′
   pub at : m′ .at ≡ m .at
   pub braces : m′ .braces ≡ m .braces
@@ -101,7 +102,7 @@ pub record Calculated (s : List ℕ) (a e : ℕ) (place : Place) (m : Making) (o
 abbrev pub from : Reader → Bool → List ℕ → Making → OutOf Part
 from argument verb s m = turns argument verb (m .braces) s (m .at)
 
--- turns with their parts, behind which the content goes on
+-- turns that lead from m to m′, where the content goes on, and the parts that they emit
 pub record Onto (place : Place) (verb : Bool) (s : List ℕ) (m : Making) (o b : List ℕ) (m′ : Making) (o′ b′ : List ℕ) : Type 0 where
   pub parts : List Part
   pub leads : (argument : Reader) → from argument verb s m ≡ more parts (from argument verb s m′)
@@ -114,7 +115,7 @@ SaysSign place verb s m o b (made.Refused f) o′ b′ = (argument : Reader) →
 
 -- ---- a command with its argument
 
--- m at another place, with another end of the text
+-- m′ is m at the place q, with a text that ends at l
 pub record Further (m : Making) (q l : ℕ) (m′ : Making) : Type 0 where
   pub at : m′ .at ≡ q
   pub len : m′ .len ≡ l
@@ -134,13 +135,13 @@ abbrev pub inArgument : Place
 inArgument = record { argument = true; base = 0; text = 0 }
 
 -- the state i with which the content of an argument begins, at p, behind what the command writes before it
-pub record Begun (name : List ℕ) (k : Meaning) (p : ℕ) (m : Making) (o : List ℕ) (i : Making) (o′ : List ℕ) : Type 0 where
+pub record ArgumentBegun (name : List ℕ) (k : Meaning) (p : ℕ) (m : Making) (o : List ℕ) (i : Making) (o′ : List ℕ) : Type 0 where
   pub at : i .at ≡ p
   pub braces : i .braces ≡ 0
-  pub holds : Holds inArgument (take (m .len) o ++ leading name k) [] [] (beginning p) i o′ []
+  pub holds : HoldsState inArgument (take (m .len) o ++ leading name k) [] [] (beginning p) i o′ []
 
--- where an argument stands when its content is read: the command's text begins where m's ends, what it writes before the argument ends at
--- `lead`, and the chunk that t makes lies behind
+-- what lies where when the content of an argument has been read: the command's text begins where m's ends, what it writes before the argument
+-- ends at `lead`, and the chunk under construction of t lies behind that
 pub record Closes (s : List ℕ) (end to lead : ℕ) (m t : Making) (o : List ℕ) : Type 0 where
   pub name : m .at + 2 ≤ end
   pub from : end + 1 ≤ to
@@ -153,33 +154,33 @@ pub record Closes (s : List ℕ) (end to lead : ℕ) (m t : Making) (o : List �
   pub room : m .len + 2 * length s ≤ length o + 2 * m .at
 
 -- what is made of an argument's content, which t holds, where the text T stood before the command
-abbrev pub Finished : List ℕ → Meaning → ℕ → ℕ → Making → Making → List ℕ → Making → List ℕ → Type 0
-Finished name k p e m t o m′ o′ =
+abbrev pub ArgumentFinished : List ℕ → Meaning → ℕ → ℕ → Making → Making → List ℕ → Making → List ℕ → Type 0
+ArgumentFinished name k p e m t o m′ o′ =
     (T : List ℕ) (q : ℕ) (xs : List Part) → length T ≡ m .len
-    → Holds inArgument (T ++ leading name k) [] [] (steps (beginning p) xs) t o []
+    → HoldsState inArgument (T ++ leading name k) [] [] (steps (beginning p) xs) t o []
     → Further m (e + 1) (m .len + length (wholeText name p q xs)) m′
     × (take (m .len + length (wholeText name p q xs)) o′ ≡ T ++ wholeText name p q xs)
 
 -- ---- content and argument
 
--- content that comes to an outcome answers r
-abbrev pub Says : Place → OutOf Part → Making → List ℕ → List ℕ → Made → List ℕ → List ℕ → Type 0
-Says place (ok q xs) m o b (made.Done m′) o′ b′ = (m′ .at ≡ q) × Goes place xs m o b m′ o′ b′
-Says place (ok q xs) m o b (made.Refused f) o′ b′ = ⊥
-Says place (again q xs a) m o b (made.Done m′) o′ b′ = (m′ .at ≡ q) × Goes place xs m o b m′ o′ b′
-Says place (again q xs a) m o b (made.Refused f) o′ b′ = ⊥
-Says place (bad g) m o b (made.Done m′) o′ b′ = ⊥
-Says place (bad g) m o b (made.Refused f) o′ b′ = f ≡ g
+-- what reading content answers, by the outcome that the definition gives
+abbrev pub SaysContent : Place → OutOf Part → Making → List ℕ → List ℕ → Made → List ℕ → List ℕ → Type 0
+SaysContent place (ok q xs) m o b (made.Done m′) o′ b′ = (m′ .at ≡ q) × Goes place xs m o b m′ o′ b′
+SaysContent place (ok q xs) m o b (made.Refused f) o′ b′ = ⊥
+SaysContent place (again q xs a) m o b (made.Done m′) o′ b′ = (m′ .at ≡ q) × Goes place xs m o b m′ o′ b′
+SaysContent place (again q xs a) m o b (made.Refused f) o′ b′ = ⊥
+SaysContent place (bad g) m o b (made.Done m′) o′ b′ = ⊥
+SaysContent place (bad g) m o b (made.Refused f) o′ b′ = f ≡ g
 
 -- a command with its argument puts one text, and content goes on behind the brace at e
-abbrev pub Puts : List ℕ → ℕ → Making → List ℕ → Making → List ℕ → Type 0
-Puts w e m o m′ o′ = Further m (e + 1) (m .len + length w) m′ × Lays (m .len) w o (m′ .len) o′
+abbrev pub PutsText : List ℕ → ℕ → Making → List ℕ → Making → List ℕ → Type 0
+PutsText w e m o m′ o′ = Further m (e + 1) (m .len + length w) m′ × Lays (m .len) w o (m′ .len) o′
 
--- a command with its argument, whose content from p on comes to an outcome
+-- what a command with its argument answers, by the outcome of the argument's content from p on
 abbrev pub SaysArgument : OutOf Part → List ℕ → ℕ → ℕ → Making → List ℕ → Made → List ℕ → Type 0
-SaysArgument (ok q xs) name p e m o (made.Done m′) o′ = Puts (wholeText name p q xs) e m o m′ o′
+SaysArgument (ok q xs) name p e m o (made.Done m′) o′ = PutsText (wholeText name p q xs) e m o m′ o′
 SaysArgument (ok q xs) name p e m o (made.Refused f) o′ = ⊥
-SaysArgument (again q xs a) name p e m o (made.Done m′) o′ = Puts (wholeText name p q xs) e m o m′ o′
+SaysArgument (again q xs a) name p e m o (made.Done m′) o′ = PutsText (wholeText name p q xs) e m o m′ o′
 SaysArgument (again q xs a) name p e m o (made.Refused f) o′ = ⊥
 SaysArgument (bad g) name p e m o (made.Done m′) o′ = ⊥
 SaysArgument (bad g) name p e m o (made.Refused f) o′ = f ≡ g
@@ -194,14 +195,14 @@ pub record Added (ps cs : List Chunk) (b₀ : List ℕ) (k : Rows) (len : ℕ) (
   pub rows : RowsHold (flatten (ps ++ cs)) b₀ k b′
 
 -- the content of a literal has been read, and t holds its parts xs: its last chunk is done too, if it has to be
-pub record Closed (place : Place) (t : Making) (o b : List ℕ) (k : Rows) (o′ b′ : List ℕ) : Type 0 where
-  pub adds : (ps : List Chunk) (b₀ : List ℕ) (xs : List Part) → Holds place [] ps b₀ (steps (beginning 0) xs) t o b
+pub record LastChunkDone (place : Place) (t : Making) (o b : List ℕ) (k : Rows) (o′ b′ : List ℕ) : Type 0 where
+  pub adds : (ps : List Chunk) (b₀ : List ℕ) (xs : List Part) → HoldsState place [] ps b₀ (steps (beginning 0) xs) t o b
       → RowsHold (flatten (ps ++ map (chunkUp (place .base)) (chunksOf 0 (t .at) xs))) b₀ k b′
       × (take (t .len) o′ ≡ textsOf (chunksOf 0 (t .at) xs)) × (t .len ≡ length (textsOf (chunksOf 0 (t .at) xs)))
   pub few : k .n ≤ t .rows .n + 1
 
--- a literal that comes to chunks or a refusal answers r, where `have` and b hold the rows of any chunks that the value has before it, whose
--- text has `before` bytes
+-- what `parse` answers for a literal, by the chunks or the refusal that the definition gives. `have` and b hold the rows of any chunks that the
+-- value has before it, whose text has `before` bytes
 abbrev pub SaysParsed : Resolved → ℕ → Rows → List ℕ → Parsed → List ℕ → List ℕ → Type 0
 SaysParsed (chunks cs) before have b (parsed.Chunks k len) o′ b′ =
     (ps : List Chunk) (b₀ : List ℕ) → before ≡ length (textsOf ps) → RowsHold (flatten ps) b₀ have b → Added ps cs b₀ k len o′ b′
@@ -211,52 +212,54 @@ SaysParsed (refused g) before have b (parsed.Refused f) o′ b′ = f ≡ g
 
 -- ---- bounds
 
--- the same of a state, which has a new row and a new open brace for each byte at most, and whose chunk begins before its end
-pub record Ahead (len v : ℕ) (m m′ : Making) : Type 0 where
+-- the bounds of a state: its place and its text grow as `Grows` says, it has at most one row more and one open brace more for each byte read,
+-- and its chunk begins before its end
+pub record AheadState (len v : ℕ) (m m′ : Making) : Type 0 where
   pub grows : Grows len v (m .at) (m .len) (m′ .at) (m′ .len)
   pub rows : m′ .rows .n + m .at ≤ m .rows .n + m′ .at
   pub braces : m′ .braces + m .at ≤ m .braces + m′ .at
   pub from : m′ .from ≤ m′ .len
   pub start : m′ .start ≤ m′ .at
 
+-- the bounds of an answer
 abbrev pub AheadMade : ℕ → ℕ → Making → Made → Type 0
-AheadMade len v m (made.Done m′) = Ahead len v m m′
+AheadMade len v m (made.Done m′) = AheadState len v m m′
 AheadMade len v m (made.Refused f) = Placed len f
 
--- [01:From file to field] "resolving's scratch at least 32,768": a literal of 16,384 bytes has no more text, and a row for each byte and one
--- at most. A refusal's place is one of the file
+-- [01:From file to field] "resolving's scratch at least 32,768": the text of a literal of 16,384 bytes fits there, and it has at most a row
+-- for each byte and one more. A refusal's place lies in the file
 abbrev pub GrowsParsed : Rows → Parsed → Type 0
-GrowsParsed have (parsed.Chunks k len) = (len ≤ 32768) × (k .n ≤ have .n + 16385)
-GrowsParsed have (parsed.Refused f) = Placed 16777215 f
+GrowsParsed have (parsed.Chunks k len) = (len ≤ leastScratch) × (k .n ≤ have .n + (mostLiteral + 1))
+GrowsParsed have (parsed.Refused f) = Placed mostBytes f
 
--- what a function asks that makes chunks of text: a literal inside 01's limit, in a file inside 01's limit
-pub record Ready (s : List ℕ) (place : Place) (m : Making) (o byName byMark : List ℕ) : Type 0 where
-  pub literal : length s ≤ 16384
+-- what a function requires that reads content: a literal inside 01's limit, in a file inside 01's limit, and the tables
+pub record ReadyContent (s : List ℕ) (place : Place) (m : Making) (o byName byMark : List ℕ) : Type 0 where
+  pub literal : length s ≤ mostLiteral
   pub text : ReadyText s (m .at) (m .len) o byName byMark
   pub from : m .from ≤ m .len
   pub start : m .start ≤ m .at
   pub braces : m .braces ≤ m .at
   pub rows : m .rows .n ≤ 1000000000000 + m .at
   pub value : place .text + m .len + 2 * length s ≤ 4294900000 + 2 * m .at
-  pub file : place .base ≤ 16777215
+  pub file : place .base ≤ mostBytes
 
--- the same without the tables, for a turn that ends a chunk
-pub record Within (s : List ℕ) (place : Place) (m : Making) (o : List ℕ) : Type 0 where
-  pub literal : length s ≤ 16384
+-- what a function requires that ends a chunk: what `ReadyContent` has, without the tables
+pub record ReadySign (s : List ℕ) (place : Place) (m : Making) (o : List ℕ) : Type 0 where
+  pub literal : length s ≤ mostLiteral
   pub room : m .len + 2 * length s ≤ length o + 2 * m .at
   pub from : m .from ≤ m .len
   pub start : m .start ≤ m .at
   pub braces : m .braces ≤ m .at
   pub rows : m .rows .n ≤ 1000000000000 + m .at
   pub value : place .text + m .len + 2 * length s ≤ 4294900000 + 2 * m .at
-  pub file : place .base ≤ 16777215
+  pub file : place .base ≤ mostBytes
 
--- what `parse` asks: a literal s of a file inside 01's limit, at `base` in it, with the text of the value before it no longer than a row's
--- places reach, and the tables
+-- what `parse` requires: a literal s of a file inside 01's limit, at `base` in it; the text of the value before it no longer than a row's
+-- places reach; and the tables
 pub record ReadyLiteral (s : List ℕ) (base before : ℕ) (have : Rows) (o byName byMark : List ℕ) : Type 0 where
-  pub file : base + length s ≤ 16777215
-  pub scratch : 32768 ≤ length o
-  pub value : before ≤ 4294000000
+  pub file : base + length s ≤ mostBytes
+  pub scratch : leastScratch ≤ length o
+  pub value : before ≤ mostWritten
   pub rows : have .n ≤ 1000000000000
   pub names : byName ≡ allNames
   pub marks : byMark ≡ numbers composites

@@ -1,5 +1,7 @@
 pub mod Literal
 pub mod Rows
+pub mod Joining
 pub mod Flattening
 pub mod WellFormed
+pub mod Refusals
 pub mod Inner

@@ -1,5 +1,5 @@
 -- A literal resolved [01:Resolving and writing]: its chunks, or a refusal. Nothing is said of buffers.
---     resolveLiteral       the literal s, which stands at `base` in its file
+--     resolveLiteral       what the literal s resolves to, which stands at `base` in its file
 -- Assumes nothing.
 use Prim.Native.Nat.{ℕ, _+_}
 use mathlib.Core.Bool.{Bool, cond}
@@ -8,27 +8,22 @@ use lib.ListN.{length}
 use lib.Dec.{leb}
 use Rattle.row.specs.declared.fault.Fault.{Fault}
 use Rattle.row.specs.declared.fault.Reason.the-variants.{TooLong}
+use Rattle.row.specs.Limits.{mostLiteral, mostArguments}
 use Rattle.raw.specs.Reader.{OutOf, ok, again, bad}
 use Rattle.raw.specs.Strict.{faultUp}
 use Rattle.chunk.specs.Chunk.{Chunk, chunk}
 use Rattle.turn.specs.Content.{Part, chunksOf, content}
 
+-- the chunks of a literal, or its refusal
 pub data Resolved : Type 0 where
   chunks : List Chunk → Resolved
   refused : Fault → Resolved
 
--- [01:From file to field] "a literal being resolved 16,384" bytes, and "Command arguments nest 64 deep"
-abbrev pub mostLiteral : ℕ
-mostLiteral = 16384
-
-abbrev pub mostArguments : ℕ
-mostArguments = 64
-
--- places of the file for places of the literal
+-- a chunk whose places in the literal become places in the file
 abbrev pub chunkUp : ℕ → Chunk → Chunk
 chunkUp base c = chunk (c .kind) (c .text) (c .start + base) (c .end + base)
 
--- [resolve.rs:parse]
+-- [resolve.rs:parse] the chunks of a literal, or its refusal, with places in the file
 abbrev pub resolvedOf : ℕ → OutOf Part → Resolved
 resolvedOf base (ok q xs) = chunks (map (chunkUp base) (chunksOf 0 q xs))
 resolvedOf base (again q xs a) = chunks (map (chunkUp base) (chunksOf 0 q xs))

@@ -1,7 +1,6 @@
 -- Rows of chunks in lent numbers, joined as they are appended.
 --     RowsHold            what the numbers hold of a list of chunks
 --     onto, Pushes        one chunk more. For src/rows.rt.
---     Joining             one law: joining as one appends is `flatten` at the end. The proof is `joining` of proofs/Joins.antt
 -- Assumes nothing.
 use Prim.Native.Nat.{ℕ, suc, _+_}
 use mathlib.Core.Path.{_≡_}
@@ -11,7 +10,7 @@ use lib.ListN.{length}
 use Rattle.chunk.specs.declared.form.Kind.{Kind}
 use Rattle.chunk.specs.Chunk.{Chunk, chunk, kindOf, ChunkRow, chunkRow, putChunk}
 use Rattle.literal.specs.declared.rows.Rows.{Rows}
-use Rattle.turn.specs.Content.{joins, join, flatten}
+use Rattle.turn.specs.Content.{joins, join}
 
 -- the rows of chunks, where the text of the first begins at t
 unfoldable pub rowsFrom : ℕ → List Chunk → List ChunkRow
@@ -23,6 +22,7 @@ unfoldable pub writes : List ℕ → ℕ → List ChunkRow → List ℕ
 writes b n [] = b
 writes b n (r ∷ rs) = writes (putChunk b n r) (suc n) rs
 
+-- the text of all chunks, one after another
 unfoldable pub textsOf : List Chunk → List ℕ
 textsOf [] = []
 textsOf (c ∷ cs) = c .text ++ textsOf cs
@@ -57,11 +57,8 @@ onto [] d = d ∷ []
 onto (c ∷ []) d = cond (joins (c .kind) (d .kind)) (join c d ∷ []) (c ∷ d ∷ [])
 onto (c ∷ e ∷ cs) d = c ∷ onto (e ∷ cs) d
 
--- what holds any chunks holds them and one more, of this kind and span and with a text of this length
+-- where k and b hold the rows of any chunks, k′ and b′ hold those of these chunks and one more, with this kind, this span and this text range
 abbrev pub Pushes : Kind → ℕ → ℕ → ℕ → ℕ → Rows → List ℕ → Rows → List ℕ → Type 0
 Pushes kind from to start end k b k′ b′ =
     (cs : List Chunk) (t b₀ : List ℕ) → from ≡ length (textsOf cs) → to ≡ from + length t → RowsHold cs b₀ k b
     → RowsHold (onto cs (chunk kind t start end)) b₀ k′ b′
-
-abbrev pub Joining : Type 0
-Joining = (cs : List Chunk) (d : Chunk) → flatten (cs ++ d ∷ []) ≡ onto (flatten cs) d

@@ -20,7 +20,7 @@ ghost use Rattle.compose.specs.Composites.{composites};
 ghost use Rattle.command.specs.Commands.{meaningOf};
 ghost use Rattle.command.specs.Execute.{leading};
 ghost use Rattle.turn.specs.Turns.{isSign};
-ghost use Rattle.literal.specs.Inner.{Further, Within, SaysSign, AheadMade, Begun, Finished, Closes};
+ghost use Rattle.literal.specs.Inner.{Further, ReadySign, SaysSign, AheadMade, ArgumentBegun, ArgumentFinished, Closes};
 
 // What content came to.
 pub enum Made {
@@ -47,7 +47,7 @@ pub fn further(st: Making, at: usize, len: usize) -> Making
 
 // A dollar sign: the chunk before it is done, and what stands up to the next dollar sign is a chunk of math.
 fn math(s: &[u8], st: Making, place: Place, out: &mut [u8], numbers: &mut [u32]) -> Made
-    requires { ⌜ Within (now s) place st (now out) × (st .at < length (now s)) × (getD (now s) (st .at) 0 ≡ 0x24) ⌝ }
+    requires { ⌜ ReadySign (now s) place st (now out) × (st .at < length (now s)) × (getD (now s) (st .at) 0 ≡ 0x24) ⌝ }
     ensures { λ r. ⌜ SaysSign place false (now (s .entry)) st (now (out .entry)) (now (numbers .entry)) r (now (out .exit)) (now (numbers .exit)) ⌝ }
     ensures { λ r. ⌜ AheadMade (length (now (s .entry))) 1 st r ⌝ }
 {
@@ -75,7 +75,7 @@ pub fn sign(
     out: &mut [u8],
     numbers: &mut [u32],
 ) -> Made
-    requires { ⌜ Within (now s) place st (now out) × (isSign verb (getD (now s) (st .at) 0) ≡ true) × (st .at < length (now s)) ⌝ }
+    requires { ⌜ ReadySign (now s) place st (now out) × (isSign verb (getD (now s) (st .at) 0) ≡ true) × (st .at < length (now s)) ⌝ }
     ensures { λ r. ⌜ SaysSign place verb (now (s .entry)) st (now (out .entry)) (now (numbers .entry)) r (now (out .exit)) (now (numbers .exit)) ⌝ }
     ensures { λ r. ⌜ AheadMade (length (now (s .entry))) 1 st r ⌝ }
 {
@@ -100,10 +100,10 @@ pub fn sign(
     Made::Done(t)
 }
 
-// What a command writes before its argument, and the state with which the argument's content begins.
+// Writes what a command puts before its argument, and gives the state with which the argument's content begins.
 pub fn begin(s: &[u8], m: Meaning, end: usize, from: usize, st: Making, out: &mut [u8]) -> Making
     requires { ⌜ (st .at + 2 ≤ end) × (end + 1 ≡ from) × (from ≤ length (now s)) × (st .len + 2 * length (now s) ≤ length (now out) + 2 * st .at) ⌝ }
-    ensures { λ r. ⌜ Begun (part (now (s .entry)) (st .at + 1) end) m from st (now (out .entry)) r (now (out .exit)) ⌝ }
+    ensures { λ r. ⌜ ArgumentBegun (part (now (s .entry)) (st .at + 1) end) m from st (now (out .entry)) r (now (out .exit)) ⌝ }
     ensures { λ r. ⌜ (r .len + (st .at + 1) ≤ st .len + end + 2) × (r .rows .n ≡ 0) ⌝ }
 {
     let at = st.at;
@@ -127,7 +127,8 @@ pub fn begin(s: &[u8], m: Meaning, end: usize, from: usize, st: Making, out: &mu
     }
 }
 
-// A command whose argument's content has been read, behind what the command wrote before it up to `lead`: the state behind its closing brace.
+// Ends a command whose argument's content has been read. What the command wrote before the argument ends at `lead`. The answer is the state behind
+// the closing brace.
 pub fn finish(
     s: &[u8],
     m: Meaning,
@@ -141,7 +142,7 @@ pub fn finish(
 ) -> Making
     requires { ⌜ (now marks ≡ numbers composites) × (m ≡ meaningOf (part (now s) (st .at + 1) end)) ⌝ }
     requires { ⌜ Closes (now s) end to lead st t (now out) × (part (now out) (st .len) lead ≡ leading (part (now s) (st .at + 1) end) m) ⌝ }
-    ensures { λ r. ⌜ Finished (part (now (s .entry)) (st .at + 1) end) m (end + 1) to st t (now (out .entry)) r (now (out .exit)) ⌝ }
+    ensures { λ r. ⌜ ArgumentFinished (part (now (s .entry)) (st .at + 1) end) m (end + 1) to st t (now (out .entry)) r (now (out .exit)) ⌝ }
     ensures { λ r. ⌜ (r .at ≡ to + 1) × (r .len + 2 * st .at ≤ st .len + 2 * (to + 1)) ⌝ }
 {
     let at = st.at;

@@ -8,9 +8,9 @@ ghost use mathlib.Core.Path.{_≡_};
 ghost use Prim.Native.Nat.{_+_, _≤_};
 ghost use lib.ListN.{length};
 ghost use Rattle.command.specs.Stack.{defaultChunk as kindAt};
-ghost use Rattle.literal.specs.Inner.{Turned, Calculated, Fits};
+ghost use Rattle.literal.specs.Inner.{ChunkDone, MathDone, Fits};
 
-// The bools of both structs stand last: between numbers they cost a third of the time.
+// The bools of `Making` and `Place` stand last: between the numbers they cost a third of the time.
 //
 // A place in the content and the braces open there; whether a chunk is done; where the chunk under construction starts in the content, and
 // where its text starts and ends; in an argument, whether white space came last; and the rows.
@@ -49,8 +49,8 @@ fn narrow(n: usize) -> u32
     n as u32
 }
 
-// The chunk under construction ends at a place, and one with so many braces open begins at another. In an argument its text is formatted, in a
-// literal it becomes a row.
+// Ends the chunk under construction at `end`, and begins one at `start` with `braces` braces open. In an argument the text of the chunk is
+// formatted, in a literal the chunk becomes a row.
 pub fn turnaround(
     st: Making,
     place: Place,
@@ -61,7 +61,7 @@ pub fn turnaround(
     numbers: &mut [u32],
 ) -> Making
     requires { ⌜ Fits place st (length (now out)) × (place .base + end ≤ 4294967295) ⌝ }
-    ensures { λ r. ⌜ Turned place st end braces start (now (out .entry)) (now (numbers .entry)) r (now (out .exit)) (now (numbers .exit)) ⌝ }
+    ensures { λ r. ⌜ ChunkDone place st end braces start (now (out .entry)) (now (numbers .entry)) r (now (out .exit)) (now (numbers .exit)) ⌝ }
 {
     let have = st.rows;
     if place.argument {
@@ -95,7 +95,7 @@ pub fn turnaround(
     }
 }
 
-// A chunk of math, whose text stands in the content from a place to another. The chunk before it is done.
+// A chunk of math, whose text stands in the content from one place to another. The chunk before it is done.
 pub fn put_math(
     s: &[u8],
     from: usize,
@@ -107,7 +107,7 @@ pub fn put_math(
 ) -> Making
     requires { ⌜ (from ≤ to) × (to ≤ length (now s)) × (st .len + to + 2 ≤ length (now out) + from) × (st .from ≡ st .len) ⌝ }
     requires { ⌜ Fits place st (length (now out)) × (place .text + st .len + to ≤ 4294967295) × (place .base + to ≤ 4294967295) ⌝ }
-    ensures { λ r. ⌜ Calculated (now (s .entry)) from to place st (now (out .entry)) (now (numbers .entry)) r (now (out .exit)) (now (numbers .exit))
+    ensures { λ r. ⌜ MathDone (now (s .entry)) from to place st (now (out .entry)) (now (numbers .entry)) r (now (out .exit)) (now (numbers .exit))
         ⌝ }
 {
     let have = st.rows;

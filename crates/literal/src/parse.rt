@@ -8,6 +8,8 @@ use crate::rows::Rows;
 use command::meaning::Meaning;
 use row::fault::Fault;
 use row::fault::Reason;
+use row::limits::MOST_ARGUMENTS;
+use row::limits::MOST_LITERAL;
 use turn::turn as turns;
 use turn::turn::Text;
 ghost use mathlib.Core.Path.{_≡_};
@@ -15,17 +17,13 @@ ghost use mathlib.Core.Bool.{false};
 ghost use Prim.Native.Nat.{_+_, _≤_, _<_};
 ghost use lib.ListN.{length, take};
 ghost use Rattle.text.specs.Scan.{part};
+ghost use Rattle.row.specs.Limits.{mostBytes};
 ghost use Rattle.raw.specs.Strict.{faultUp};
 ghost use Rattle.command.specs.Commands.{meaningOf};
 ghost use Rattle.turn.specs.Content.{inside};
 ghost use Rattle.literal.specs.Literal.{resolveLiteral};
-ghost use Rattle.literal.specs.Inner.{from, Ready, inArgument, Fits, Closed, Says, SaysArgument, AheadMade, ReadyLiteral, SaysParsed, GrowsParsed};
-ghost use Rattle.turn.specs.Turns.{Spans};
-
-// The longest literal that is resolved, and how many arguments may be open at once [01:From file to field].
-const MOST_LITERAL: usize = 16_384;
-
-const MOST_ARGUMENTS: usize = 64;
+ghost use Rattle.literal.specs.Inner.{from, ReadyContent, inArgument, Fits, LastChunkDone, SaysContent, SaysArgument, AheadMade, ReadyLiteral, SaysParsed, GrowsParsed};
+ghost use Rattle.turn.specs.Turns.{CommandSpans};
 
 // What a literal came to: the rows of the value so far, and the bytes of the literal's text.
 pub enum Parsed {
@@ -33,7 +31,7 @@ pub enum Parsed {
     Refused(Fault),
 }
 
-// The content of s from a state on, with so many arguments left to open.
+// The content of s from a state on, with `depth` arguments left to open.
 fn content(
     s: &[u8],
     verb: bool,
@@ -45,8 +43,8 @@ fn content(
     names: &[u8],
     marks: &[u32],
 ) -> Made
-    requires { ⌜ Ready (now s) place first (now out) (now names) (now marks) ⌝ }
-    ensures { λ r. ⌜ Says place (from (inside depth) verb (now (s .entry)) first) first (now (out .entry)) (now (numbers .entry)) r
+    requires { ⌜ ReadyContent (now s) place first (now out) (now names) (now marks) ⌝ }
+    ensures { λ r. ⌜ SaysContent place (from (inside depth) verb (now (s .entry)) first) first (now (out .entry)) (now (numbers .entry)) r
         (now (out .exit)) (now (numbers .exit)) ⌝ }
     ensures { λ r. ⌜ AheadMade (length (now (s .entry))) 0 first r ⌝ }
 {
@@ -88,7 +86,7 @@ fn content(
     }
 }
 
-// A command with an argument in braces, which stands from a place to another; its text is put behind its parent's.
+// A command with an argument in braces, whose content stands from `from` to `to`. Its text is put behind its parent's.
 fn argument(
     s: &[u8],
     m: Meaning,
@@ -101,8 +99,8 @@ fn argument(
     names: &[u8],
     marks: &[u32],
 ) -> Made
-    requires { ⌜ Ready (now s) inArgument st (now out) (now names) (now marks) ⌝ }
-    requires { ⌜ (m ≡ meaningOf (part (now s) (st .at + 1) end)) × Spans (length (now s)) (st .at) end from to ⌝ }
+    requires { ⌜ ReadyContent (now s) inArgument st (now out) (now names) (now marks) ⌝ }
+    requires { ⌜ (m ≡ meaningOf (part (now s) (st .at + 1) end)) × CommandSpans (length (now s)) (st .at) end from to ⌝ }
     ensures { λ r. ⌜ SaysArgument (inside depth (take to (now (s .entry))) from) (part (now (s .entry)) (st .at + 1) end) from to st
         (now (out .entry)) r (now (out .exit)) ⌝ }
     ensures { λ r. ⌜ AheadMade (length (now (s .entry))) 1 st r ⌝ }
@@ -139,9 +137,9 @@ fn argument(
     Made::Done(content::finish(s, m, end, to, lead, st, t, out, marks))
 }
 
-// The refusal of a literal, whose places are those of the literal, with the places of the file.
+// A refusal inside a literal, whose places in the literal become places in the file.
 fn up(f: Fault, base: usize) -> Fault
-    requires { ⌜ (f .start ≤ 16777215) × (f .end ≤ 16777215) × (base ≤ 16777215) ⌝ }
+    requires { ⌜ (f .start ≤ mostBytes) × (f .end ≤ mostBytes) × (base ≤ mostBytes) ⌝ }
     ensures { λ r. ⌜ r ≡ faultUp base f ⌝ }
 {
     let reason = f.reason;
@@ -155,7 +153,7 @@ fn up(f: Fault, base: usize) -> Fault
 // The end of a literal's content: the last chunk is done too if it has text, or if there is no other.
 fn close(t: Making, place: Place, out: &mut [u8], numbers: &mut [u32]) -> Rows
     requires { ⌜ Fits place t (length (now out)) × (place .base + t .at ≤ 4294967295) × (place .argument ≡ false) ⌝ }
-    ensures { λ r. ⌜ Closed place t (now (out .entry)) (now (numbers .entry)) r (now (out .exit)) (now (numbers .exit)) ⌝ }
+    ensures { λ r. ⌜ LastChunkDone place t (now (out .entry)) (now (numbers .entry)) r (now (out .exit)) (now (numbers .exit)) ⌝ }
 {
     if (t.from < t.len) | !t.pushed {
         let at = t.at;
@@ -165,8 +163,8 @@ fn close(t: Making, place: Place, out: &mut [u8], numbers: &mut [u32]) -> Rows
     t.rows
 }
 
-// A literal s that stands at `base` in its file, where the value's text before it has so many bytes and its rows are `have`. Its text comes to
-// stand in `out`, and its rows behind those before.
+// A literal s that stands at `base` in its file. The value's text before it has `before` bytes, and its rows so far are `have`. The literal's text
+// is written to `out`, and its rows behind the others.
 pub fn parse(
     s: &[u8],
     base: usize,

@@ -12,8 +12,8 @@ pub struct Rows {
     pub start: u32,
 }
 
-// One chunk more, whose text goes from a place to another. Where `flatten` would join it with the last one, its row is written over the last
-// one's: no row is read back.
+// One chunk more, whose text goes from one place to another. Where `flatten` would join it with the last chunk, the row of both is written over
+// the last one's row: no row is read back.
 pub fn push(
     rows: &mut [u32],
     have: Rows,

@@ -1,5 +1,4 @@
--- The proof of specs/Lookup.antt, by the laws of the last definition.
---     lookup
+-- The proof of specs/Lookup.antt, by the laws of the last definition: `lookup`.
 -- Assumes nothing.
 use Prim.Native.Nat.{ℕ, suc, _+_, _-_, _/_, _<_}
 use native.Mathlib.Omega.{arith}
@@ -15,6 +14,7 @@ use Rattle.lookup.specs.RowIndex.{Indexed}
 use Rattle.lookup.specs.Lookup.{Last, Lookup}
 use Rattle.lookup.proofs.rows.LastDefinition.{last-is, last-says, none-is, none-says}
 use Rattle.lookup.proofs.links.RowBuckets.{room}
+use Rattle.lookup.proofs.rows.RowNumbers.{row-no}
 
 module _ (file name : List ℕ) (rs : List Row) (i : ℕ) where
   row-behind : (j : ℕ) → rowNo (drop (suc i) rs) j ≡ rowNo rs (suc i + j)
@@ -39,4 +39,4 @@ no-index : (file rows heads next : List ℕ) → length heads ≡ 0 → Indexed 
 no-index file rows heads next e f = absurd (omega (arith, room (length rows / 4) (length heads) (length next) f .some))
 
 pub lookup : Lookup
-lookup = record { found-last = found-last; last-found = last-found; none-named = none-says; no-index = no-index }
+lookup = record { found-last = found-last; last-found = last-found; none-named = none-says; row-no = row-no; no-index = no-index }

@@ -1,5 +1,4 @@
--- The proof of specs/ShortChains.antt.
---     short-chains
+-- The proof of specs/ShortChains.antt: `short-chains`.
 -- Assumes nothing.
 use Prim.Native.Nat.{ℕ, suc, _+_, _-_, _/_, _<_}
 use native.Mathlib.Omega.{arith}

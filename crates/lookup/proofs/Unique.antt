@@ -17,6 +17,10 @@ use Rattle.lookup.proofs.index.clear.Kinds as clear-kinds
 use Rattle.lookup.proofs.index.clear.Reads as clear
 use Rattle.lookup.proofs.index.find.Kinds as find-kinds
 use Rattle.lookup.proofs.index.find.Reads as find
+use Rattle.lookup.proofs.plain.equal.Kinds as equal-kinds
+use Rattle.lookup.proofs.plain.equal.Reads as equal
+use Rattle.lookup.proofs.order.search.Kinds as search-kinds
+use Rattle.lookup.proofs.order.search.Reads as search
 
 pub one-fnv1a : One 1 fnv1a-kinds.ps fnv1a-kinds.r fnv1a.Post
 one-fnv1a κs a x y s t p q = p ∙ sym q
@@ -35,3 +39,9 @@ one-find κs a x y s t p q = p ∙ sym q
 
 pub one-clear : Both 1 clear-kinds.ps clear-kinds.r clear.Post (λ κs x s y t. now (s .0) ≡ now (t .0))
 one-clear κs a x y s t p q = p ∙ sym q
+
+pub one-equal : One 2 equal-kinds.ps equal-kinds.r equal.Post
+one-equal κs a x y s t p q = p ∙ sym q
+
+pub one-search : One 4 search-kinds.ps search-kinds.r search.Post
+one-search κs a x y s t p q = p ∙ sym q

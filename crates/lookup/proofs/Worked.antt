@@ -2,7 +2,7 @@
 -- Assumes nothing.
 use mathlib.Core.Path.{refl}
 use Rattle.lookup.specs.Fnv.{hashFrom}
-use Rattle.text.specs.Same.{sameBytes}
+use Rattle.text.specs.SameBytes.{sameBytes}
 use Rattle.lookup.specs.Names.{isNamed, later, lastNamed}
 use Rattle.lookup.specs.RowIndex.{counts}
 use Rattle.lookup.specs.Worked.{Worked}

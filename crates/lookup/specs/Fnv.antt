@@ -2,7 +2,7 @@
 -- 4,294,967,296". For each byte in turn: the hash is joined with it by exclusive or, then multiplied.
 --     times       a product modulo 4,294,967,296
 --     hashOf      the hash of some bytes
--- The byte is the first argument of `bitXor`, which computes by the size of that one; the order makes no difference.
+-- The byte is the first argument of `bitXor` because that computes by the size of its first argument; the result does not depend on the order.
 -- Assumes nothing.
 use Prim.Native.Nat.{ℕ, _*_, _%_}
 use mathlib.Core.List.{List, [], _∷_}

@@ -1,10 +1,10 @@
 -- Definition rows in the order of their names. The order of names is that of their bytes: the first byte in which two names differ decides,
--- and a name comes before what it begins. Of two definitions of one name the one with the lesser number comes first.
+-- and a name comes before longer names that begin with it. Of two definitions of one name the one with the lesser number comes first.
 --     orderOf         how two texts stand in the order of bytes
 --     comes           row i comes before row j, or is row j
---     merged, sorted  lists of numbers merged; sorted, by halves, each by itself and then together
+--     merged, sorted  two lists of numbers merged; a list sorted, by sorting its halves and merging them
 --     definitions     the numbers of the definition rows
---     inOrder         the same, in order
+--     inOrder         the numbers of the definition rows in order
 --     Ordered         the lent numbers hold the definitions in order
 -- For `merge` inside:
 --     leftFirst       the first number of two merged lists is that of the left one
@@ -30,7 +30,7 @@ orderOf [] (b ∷ t) = order.Less
 orderOf (a ∷ s) [] = order.Greater
 orderOf (a ∷ s) (b ∷ t) = cond (ltb a b) order.Less (cond (ltb b a) order.Greater (orderOf s t))
 
--- by the names' order, and then by the numbers
+-- whether row i comes before row j: by the order of their names, and for equal names by the numbers
 abbrev pub comesBy : Order → ℕ → ℕ → Bool
 comesBy order.Less i j = true
 comesBy order.Equal i j = leb i j
@@ -41,7 +41,8 @@ comes file rs i j = comesBy (orderOf (nameOf file (rowNo rs i)) (nameOf file (ro
 
 -- ---- lists merged and sorted, whatever the order is
 
--- x, then what f makes of the numbers behind it, with the lesser of the numbers before x
+-- a list that begins with x, merged with another list: first the numbers of the other that come before x, then x, then what f makes of the
+-- rest of the other
 unfoldable pub mergedAt : (ℕ → ℕ → Bool) → ℕ → (List ℕ → List ℕ) → List ℕ → List ℕ
 mergedAt le x f [] = x ∷ f []
 mergedAt le x f (y ∷ ys) = cond (le x y) (x ∷ f (y ∷ ys)) (y ∷ mergedAt le x f ys)
@@ -56,7 +57,7 @@ leftFirst le [] (y ∷ ys) = false
 leftFirst le (x ∷ xs) [] = true
 leftFirst le (x ∷ xs) (y ∷ ys) = le x y
 
--- so many halvings at most; a list of at most two to their number is sorted
+-- with at most d halvings, which are enough for a list of at most 2 ^ d numbers
 unfoldable pub sorted : (ℕ → ℕ → Bool) → ℕ → List ℕ → List ℕ
 sorted le zero xs = xs
 sorted le (suc d) xs =
@@ -73,7 +74,8 @@ definitions rs = rising (isDefinition rs) (length rs) 0
 unfoldable pub inOrder : List ℕ → List Row → List ℕ
 inOrder file rs = sorted (comes file rs) 32 (definitions rs)
 
--- the first number of `heads` is by so many greater than the number of rows, and so many numbers of `next` are the definitions in order
+-- the first number of `heads` is the number of rows and the number of definitions together, and one more; `next` begins with the definitions
+-- in order
 pub record Ordered (file rows heads next : List ℕ) : Type 0 where
   pub mark : getD heads 0 0 ≡ suc (length rows / 4) + length (definitions (rowsOf rows))
   pub order : take (length (definitions (rowsOf rows))) next ≡ inOrder file (rowsOf rows)

@@ -2,12 +2,12 @@
 --     counts          row i is a definition, and no later row defines its name
 --     rowIn           row i counts, and its name falls into bucket b
 --     fits            the lent numbers have room: there is a bucket, a number for each row, and the numbers fit
---     Indexed         where they have room, they hold the chains of all rows, or else the definitions in order
+--     Indexed         where they have room, they hold the chains of all rows, or the definitions in order
 --     Built           what `build` leaves
 -- For `build` and `find` inside:
 --     IndexedFrom     the lent numbers have room, and hold the chains of the rows from row i on
 --     lastFrom        the number of the last definition of a name among the rows from row i on
---     Follows, Links  what following a chain comes to, and making the chains, where only so many rows of a chain are looked at
+--     Follows, Links  what following a chain comes to, and making the chains, where at most `most` rows of a chain are looked at
 -- Assumes nothing.
 use Prim.Native.Nat.{ℕ, suc, _+_, _/_, _%_, _≤_}
 use mathlib.Core.Path.{_≡_}
@@ -60,6 +60,7 @@ pub record Built (file rows heads next heads′ next′ : List ℕ) : Type 0 whe
 
 -- ---- inside
 
+-- a row that was counted from row i on, counted from the first row on
 abbrev pub counted : ℕ → Found → Found
 counted i (found.Row n) = found.Row (i + n)
 counted i found.Nothing = found.Nothing
@@ -67,13 +68,13 @@ counted i found.Nothing = found.Nothing
 abbrev pub lastFrom : List ℕ → List ℕ → List Row → ℕ → Found
 lastFrom file name rs i = counted i (lastNamed file name (drop i rs))
 
--- the answer, or the chain has more rows than may be looked at, of which there are no more than the file has
+-- following a chain answers f; or the chain has more than `most` rows, which can only be where `most` is no more than the rows of the file
 abbrev pub Follows : Found → ℕ → ℕ → Followed → Type 0
 Follows f n most (followed.Row i) = found.Row i ≡ f
 Follows f n most followed.Nothing = found.Nothing ≡ f
 Follows f n most followed.TooLong = most ≤ n
 
--- the chains of the rows from row i on were made; or else one has more rows than may be looked at
+-- the chains of the rows from row i on were made; or a chain has more than `most` rows
 pub record Links (file rows : List ℕ) (i most : ℕ) (done : Bool) (heads next : List ℕ) : Type 0 where
   pub made : done ≡ true → IndexedFrom file rows i heads next
   pub long : done ≡ false → most ≤ length rows / 4

@@ -10,6 +10,7 @@ use crate::hash;
 use crate::order;
 use crate::plain;
 use crate::plain::Found;
+use row::form::DEFINITION_NAME;
 use text::scanner;
 ghost use mathlib.Core.Path.{_≡_};
 ghost use Prim.Native.Nat.{_+_, _/_, _%_, _<_};
@@ -100,7 +101,7 @@ fn link(
     ensures { λ r. ⌜ Links (now (file .entry)) (now (rows .entry)) i most r (now (heads .exit)) (now (next .exit)) ⌝ }
 {
     let at = i * 4;
-    if rows[at] != plain::DEFINITION_NAME {
+    if rows[at] != DEFINITION_NAME {
         return true;
     }
     let name = scanner::from(
@@ -192,7 +193,7 @@ fn find_name(file: &[u8], rows: &[u32], heads: &[u32], next: &[u32], name: &[u8]
     }
 }
 
-// The same for a name that stands in the file.
+// The last definition of the name that stands in the file from `start` to `end`.
 pub fn find(
     file: &[u8],
     rows: &[u32],

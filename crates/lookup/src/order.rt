@@ -4,6 +4,7 @@
 // by merging, they cost in proportion to their number and its logarithm, whatever the names are.
 use crate::plain;
 use crate::plain::Found;
+use row::form::DEFINITION_NAME;
 use text::scanner;
 ghost use mathlib.Core.Path.{_≡_};
 ghost use mathlib.Core.Bool.{true};
@@ -20,7 +21,8 @@ pub enum Order {
     Greater,
 }
 
-// How two texts stand in the order of their bytes: the first byte in which they differ decides, and a text comes before what it begins.
+// How two texts stand in the order of their bytes: the first byte in which they differ decides, and a text comes before longer texts that begin
+// with it.
 fn compare(a: &[u8], b: &[u8]) -> Order
     ensures { λ r. ⌜ r ≡ orderOf (now (a .entry)) (now (b .entry)) ⌝ }
 {
@@ -110,7 +112,7 @@ fn merge_halves(file: &[u8], rows: &[u32], a: &[u32], h: usize, out: &mut [u32])
     merge(file, rows, &a[..h], &a[h..], out)
 }
 
-// Fills a with the first of the numbers.
+// Fills `a` with the first of `numbers`.
 fn copy(numbers: &[u32], a: &mut [u32])
     requires { ⌜ length (now a) ≤ length (now numbers) ⌝ }
     ensures { λ _. ⌜ now (a .exit) ≡ take (length (now (a .entry))) (now (numbers .entry)) ⌝ }
@@ -145,7 +147,7 @@ fn gather(rows: &[u32], next: &mut [u32]) -> usize
     let mut m = 0;
     let mut i = 0;
     while i < rows.len() / 4 {
-        if rows[i * 4] == plain::DEFINITION_NAME {
+        if rows[i * 4] == DEFINITION_NAME {
             next[m] = i as u32;
             m += 1;
         }
@@ -155,7 +157,7 @@ fn gather(rows: &[u32], next: &mut [u32]) -> usize
 }
 
 // Puts the definitions in order at the beginning of `next`, with `heads` to work in, if that has a number for each of them. The first number
-// of `heads` then tells how many there are: it is greater than that of any row, which no first number of a bucket is.
+// of `heads` then tells how many there are. It is greater than the number of rows, and the head of a bucket never is.
 pub fn fill(file: &[u8], rows: &[u32], heads: &mut [u32], next: &mut [u32]) -> bool
     requires { ⌜ fits (length (now rows) / 4) (length (now heads)) (length (now next)) ≡ true ⌝ }
     ensures { λ r. ⌜ (r ≡ true → Ordered (now (file .entry)) (now (rows .entry)) (now (heads .exit)) (now (next .exit))) ⌝ }

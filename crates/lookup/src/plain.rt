@@ -1,19 +1,17 @@
 // The plain search for the definition that counts: from the last row to the first.
+use row::form::DEFINITION_NAME;
 use text::scanner;
 ghost use mathlib.Core.Path.{_≡_};
 ghost use Prim.Native.Nat.{_/_, _<_};
 ghost use lib.ListN.{length};
 ghost use Rattle.row.specs.Numbers.{rowsOf};
-ghost use Rattle.text.specs.Same.{sameBytes};
+ghost use Rattle.text.specs.SameBytes.{sameBytes};
 ghost use Rattle.lookup.specs.Names.{isNamed, rowNo, lastNamed};
 
 pub enum Found {
     Row(usize),
     Nothing,
 }
-
-// The kind of a definition's name.
-pub const DEFINITION_NAME: u32 = 8;
 
 pub fn number(x: u32) -> usize
     ensures { λ r. ⌜ r ≡ x ⌝ }

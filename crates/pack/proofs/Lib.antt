@@ -6,9 +6,9 @@ pub mod bytes
 pub mod loops
 -- the contracts of `pack` and `unpack`: how an answer comes about, and what it tells
 pub mod contracts
--- the proof of specs/RoundTrip.antt
+-- the proof of specs/RoundTrip.antt: packing and unpacking undo each other, and what strict reading gives can be packed
 pub mod RoundTrip
--- the proof of specs/Refusals.antt
+-- the proof of specs/Refusals.antt: which refusals `pack` and `unpack` can answer
 pub mod Refusals
 -- any two outcomes that a public contract allows are the same
 pub mod Unique

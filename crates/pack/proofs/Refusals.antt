@@ -17,12 +17,12 @@ use Rattle.row.specs.Fault.{numberOf, nowhere, Answered}
 use Rattle.pack.specs.Answer.{answerOf}
 use Rattle.pack.specs.Pack.{isPackable, bytesFor, packedOf, packedInto, Pack}
 use Rattle.pack.specs.Unpack.{isUnpackable, unpackedOf, unpackedInto, Unpack}
-use Rattle.pack.specs.Refusals.{PackFault, full, unsound, Refusals}
+use Rattle.pack.specs.Refusals.{PackFault, full, bad-rows, Refusals}
 
 fault-of : (x y : Bool) (n : ℕ) (f : Fault) → Refused f ≡ answerOf x y n → PackFault f
 fault-of true true n f e = let z : _≡_ {A = ℕ} 0 1 = cc in absurd (omega arith)
 fault-of true false n f e = let q : nowhere NoRoom ≡ f = cc in subst PackFault q full
-fault-of false y n f e = let q : nowhere BadRows ≡ f = cc in subst PackFault q unsound
+fault-of false y n f e = let q : nowhere BadRows ≡ f = cc in subst PackFault q bad-rows
 
 -- ---- 16. The input is accepted or not, and n is how much its answer needs
 

@@ -7,9 +7,10 @@ use mathlib.Core.Bool.{Bool, _&&_}
 use mathlib.Core.List.{List, _++_}
 use lib.ListN.{length, drop}
 use lib.Dec.{leb}
+use Rattle.text.specs.Every.{every}
 use Rattle.row.specs.Numbers.{rowsOf, areRows}
 use Rattle.row.specs.declared.fault.Outcome.{Outcome}
-use Rattle.pack.specs.Seven.{packing, spanFits, every}
+use Rattle.pack.specs.Seven.{packing, spanFits}
 use Rattle.pack.specs.Answer.{answerOf, leftOf}
 
 unfoldable pub isPackable : List ℕ → Bool

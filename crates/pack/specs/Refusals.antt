@@ -16,7 +16,7 @@ use Rattle.pack.specs.Unpack.{Unpack}
 -- 16 and 17 at 0..0
 pub data PackFault : Fault → Type 0 where
   full : PackFault (nowhere NoRoom)
-  unsound : PackFault (nowhere BadRows)
+  bad-rows : PackFault (nowhere BadRows)
 
 pub record Refusals : Type 0 where
   -- `pack` and `unpack` answer no others

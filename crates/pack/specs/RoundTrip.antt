@@ -1,5 +1,5 @@
 -- What the definitions and the contracts of `pack` and `unpack` settle: theorems, the proof of which is `round-trip` of
--- proofs/RoundTrip.antt. "Two outcomes that a contract allows are equal" is proofs/Unique.antt.
+-- proofs/RoundTrip.antt. That two outcomes which a contract allows are equal is proofs/Unique.antt.
 -- Assumes nothing.
 use Prim.Native.Nat.{ℕ, _*_, _/_, _≤_}
 use mathlib.Core.Path.{_≡_}
@@ -37,7 +37,7 @@ pub record RoundTrip : Type 0 where
       → (r ≡ Count (length s)) × (b′ ≡ s ++ drop (length s) b)
   -- rows that keep the row rules, with spans that lie in a file, pack with no refusal but 16
   pub fitting : (n : ℕ) (rs : List Row) → n ≤ mostBytes → isRows rs ≡ true → SpansIn n rs → isPackable (flat rs) ≡ true
-  -- so does what strict reading gives, of its definition and of its contract
+  -- what strict reading gives packs with no refusal but 16, by its definition and by its contract
   pub strictly : (s : List ℕ) (q : ℕ) (rs : List Row) → strict s ≡ ok q rs → isPackable (flat rs) ≡ true
   pub readings : (s c c′ : List ℕ) (n : ℕ) → Read s c (reading.Rows n) c′
       → (b b′ : List ℕ) (r : Outcome) → Pack (take (n * 4) c′) b r b′ → n * 7 ≤ length b → r ≡ Count (n * 7)

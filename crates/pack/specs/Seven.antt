@@ -3,11 +3,11 @@
 --     packRow, packing          the bytes of a row, and of rows
 --     unpackRow, unpacking      the row of seven bytes, and bytes taken as rows, seven by seven
 --     threeAt, unpackAt         the number, and the row, from a byte on
---     endFits, spanFits, every  the tests of spans, and a test of all rows
+--     endFits, spanFits         the tests of spans
 --     InSeven                   a row that seven bytes hold
 -- Assumes nothing.
 use Prim.Native.Nat.{ℕ, _+_, _-_, _*_, _/_, _%_, _≤_}
-use mathlib.Core.Bool.{Bool, true, _&&_}
+use mathlib.Core.Bool.{Bool, _&&_}
 use mathlib.Core.List.{List, [], _∷_, _++_}
 use lib.ListN.{getD}
 use lib.Dec.{leb}
@@ -51,10 +51,6 @@ endFits r = leb (r .end) mostBytes
 -- "Packing refuses likewise, and where a start passes its end."
 abbrev pub spanFits : Row → Bool
 spanFits r = endFits r && leb (r .start) (r .end)
-
-unfoldable pub every : (Row → Bool) → List Row → Bool
-every t [] = true
-every t (r ∷ rs) = t r && every t rs
 
 -- a row that seven bytes hold
 pub record InSeven (r : Row) : Type 0 where

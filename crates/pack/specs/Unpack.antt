@@ -8,10 +8,11 @@ use mathlib.Core.Bool.{Bool, _&&_}
 use mathlib.Core.List.{List, _++_}
 use lib.ListN.{length, drop}
 use lib.Dec.{eqb, leb}
+use Rattle.text.specs.Every.{every}
 use Rattle.row.specs.Row.{flat}
 use Rattle.row.specs.Rules.{isRows}
 use Rattle.row.specs.declared.fault.Outcome.{Outcome}
-use Rattle.pack.specs.Seven.{unpacking, endFits, every}
+use Rattle.pack.specs.Seven.{unpacking, endFits}
 use Rattle.pack.specs.Answer.{answerOf, leftOf}
 
 unfoldable pub isUnpackable : List ℕ → Bool

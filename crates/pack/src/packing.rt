@@ -38,7 +38,7 @@ fn is_packable(rows: &[u32]) -> bool
     mask::is_whole(masks)
 }
 
-// A row into the seven bytes from p on.
+// Writes a row into the seven bytes from p on.
 fn put_packed(bytes: &mut [u8], p: usize, kind: u32, detail: u32, start: u32, end: u32)
     requires { ⌜ (p + 7 ≤ length (now bytes)) × InSeven (rowOf kind detail start end) ⌝ }
     ensures { λ _. ⌜ now (bytes .exit) ≡ take p (now (bytes .entry)) ++ packRow (rowOf kind detail start end) ++ drop (p + 7) (now (bytes .entry)) ⌝ }
@@ -53,7 +53,7 @@ fn put_packed(bytes: &mut [u8], p: usize, kind: u32, detail: u32, start: u32, en
     bytes[p + 6] = (size % 256) as u8;
 }
 
-// All rows, from the first byte on.
+// Writes all rows, from the first byte on.
 fn put_all(rows: &[u32], bytes: &mut [u8])
     requires { ⌜ (isPackable (now rows) ≡ true) × (length (now rows) / 4 * 7 ≤ length (now bytes)) ⌝ }
     ensures { λ _. ⌜ now (bytes .exit) ≡ packing (rowsOf (now (rows .entry))) ++ drop (length (now (rows .entry)) / 4 * 7) (now (bytes .entry)) ⌝ }

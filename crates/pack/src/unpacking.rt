@@ -48,7 +48,7 @@ fn is_unpackable(bytes: &[u8]) -> bool
     mask::is_whole(masks)
 }
 
-// The rows of all sevens, from the first number on.
+// Writes a row for every seven bytes, from the first number on.
 fn put_all(bytes: &[u8], rows: &mut [u32])
     requires { ⌜ length (now bytes) / 7 * 4 ≤ length (now rows) ⌝ }
     ensures { λ _. ⌜ now (rows .exit) ≡ flat (unpacking (now (bytes .entry))) ++ drop (length (now (bytes .entry)) / 7 * 4) (now (rows .entry)) ⌝ }

@@ -45,10 +45,10 @@ module _ (t : ℕ → Bool) (s : List ℕ) where
 -- ---- `@comment`
 
 module _ (s : List ℕ) where
-  abbrev Ends : ℕ → Out → Type 0
-  Ends p (ok q rs) = Unclosed s p q × Closed s q
-  Ends p (again q rs a) = ⊥
-  Ends p (bad f) = ⊥
+  abbrev EndsClosed : ℕ → Out → Type 0
+  EndsClosed p (ok q rs) = Unclosed s p q × Closed s q
+  EndsClosed p (again q rs a) = ⊥
+  EndsClosed p (bad f) = ⊥
 
   abbrev no-brace : ℕ → Bool
   no-brace = fails test.ClosingBrace
@@ -61,25 +61,25 @@ module _ (s : List ℕ) where
   unfolding holdsOf
   other-passes c e = rw e
 
-  ends-on : (p n : ℕ) (o : Out) → ((q : ℕ) → Unclosed s n q → Unclosed s p q) → Ends n o → Ends p o
+  ends-on : (p n : ℕ) (o : Out) → ((q : ℕ) → Unclosed s n q → Unclosed s p q) → EndsClosed n o → EndsClosed p o
   ends-on p n (ok q rs) f x = (f q (x .0), x .1)
   ends-on p n (again q rs a) f x = x
   ends-on p n (bad j) f x = x
 
-  ends-here : (p : ℕ) → ((n : ℕ) → p < n → Ends n (scanned no-brace s n)) → Ends p (scanned no-brace s p)
+  ends-here : (p : ℕ) → ((n : ℕ) → p < n → EndsClosed n (scanned no-brace s n)) → EndsClosed p (scanned no-brace s p)
   ends-here p go = by (see s p) refl
     where
-      by-test : (c n : ℕ) (b : Bool) → see s p ≡ Char c n → eqb c 0x7D ≡ b → Ends p (scanned no-brace s p)
+      by-test : (c n : ℕ) (b : Bool) → see s p ≡ Char c n → eqb c 0x7D ≡ b → EndsClosed p (scanned no-brace s p)
       by-test c n true z e = rw (scan-stop no-brace s p c n z (brace-fails c e)) (none, brace (rw (eqb-true c 0x7D e) at z))
       by-test c n false z e =
           rw (scan-on no-brace s p c n z (other-passes c e))
           (ends-on p n (scanned no-brace s n) (λ q u. other z (eqb-false c 0x7D e) u) (go n (seeing .see-ahead s p c n z .0)))
 
-      by : (x : Seen) → see s p ≡ x → Ends p (scanned no-brace s p)
+      by : (x : Seen) → see s p ≡ x → EndsClosed p (scanned no-brace s p)
       by End z = rw (scan-end no-brace s p z) (none, end z)
       by (Char c n) z = by-test c n (eqb c 0x7D) z refl
 
-  ends : (n p : ℕ) → length s ≤ p + n → Ends p (scanned no-brace s p)
+  ends : (n p : ℕ) → length s ≤ p + n → EndsClosed p (scanned no-brace s p)
   ends zero p h = let z = seeing .see-end s p (omega arith) in rw (scan-end no-brace s p z) (none, end z)
   ends (suc n) p h = ends-here p (λ k l. ends n k (omega arith))
 
@@ -130,7 +130,7 @@ pub comments : Comments
 unfolding commented
 comments =
     record {
-      entry = λ s p q. (λ e. subst (Ends s p) e (ends s (length s) p (omega arith)), λ h. ended s (h .0) (h .1));
+      entry = λ s p q. (λ e. subst (EndsClosed s p) e (ends s (length s) p (omega arith)), λ h. ended s (h .0) (h .1));
       value = second-value;
       comma = λ k s p q b. second-comma s p q b k;
     }

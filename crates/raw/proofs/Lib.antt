@@ -8,15 +8,15 @@ pub mod grammar
 pub mod contracts
 -- one law for each way through each function
 pub mod ways
--- the proof of specs/Strict.antt
+-- the proof of specs/Strict.antt: what strict reading gives, where it accepts and where it refuses
 pub mod Strict
--- the proof of specs/Steps.antt
+-- the proof of specs/Steps.antt: strict reading step by step, for the crates above
 pub mod Steps
--- the proof of specs/Refusals.antt
+-- the proof of specs/Refusals.antt: which refusals strict reading can answer
 pub mod Refusals
 -- the proof of specs/Braces.antt: where a braced value ends
 pub mod Braces
--- the proof of specs/Comments.antt
+-- the proof of specs/Comments.antt: where an `@comment` ends, and that a second comment in a row is refused
 pub mod Comments
 -- any two outcomes that a public contract allows are the same
 pub mod Unique

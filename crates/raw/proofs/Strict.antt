@@ -10,7 +10,7 @@ use mathlib.Core.List.{List}
 use lib.ListN.{length}
 use lib.Dec.{leb}
 use Rattle.text.specs.Class.{holdsOf}
-use Rattle.text.specs.Utf8.{Octets, none, validityOf, isBoundary}
+use Rattle.text.specs.Utf8.{Octets, validityOf}
 use Rattle.text.specs.Scan.{see, Inside}
 use Rattle.text.specs.declared.scanner.Seen.{Seen}
 use Rattle.text.specs.declared.scanner.Seen.the-variants.{End, Char}
@@ -19,6 +19,7 @@ use Rattle.text.specs.declared.utf8.Validity.{Validity}
 use Rattle.text.specs.declared.utf8.Validity.the-variants as validity
 use Rattle.text.proofs.Seeing.{seeing}
 use Rattle.text.proofs.Rfc3629.{rfc3629}
+use Rattle.text.proofs.Boundaries.{boundaries}
 use Rattle.row.specs.declared.fault.Fault.{Fault}
 use Rattle.row.specs.declared.fault.Reason.the-variants.{TooLong, NotUtf8}
 use Rattle.row.specs.declared.fault.Reason.{Reason}
@@ -28,7 +29,7 @@ use Rattle.raw.specs.Reader.{Out, ok, again, bad, more, andThen, after, 
 use Rattle.raw.specs.Grammar.{is, any, white, comment, entry, fileTurn, file}
 use Rattle.row.specs.Limits.{mostBytes}
 use Rattle.raw.specs.Read.{checked, strict}
-use Rattle.raw.specs.Strict.{Same, Stops, Accepted, Refusal, Strict}
+use Rattle.raw.specs.Strict.{ShowsSame, Stops, Accepted, Refusal, Strict}
 use Rattle.raw.proofs.readers.Trace.{Trace, Refused, Traced}
 use Rattle.raw.proofs.readers.Spans.{reach-inside, trace-rising, trace-spans, trace-clean}
 use Rattle.raw.proofs.readers.Kept.{Advances, eaten-holds}
@@ -57,27 +58,27 @@ file-turn s p = sym (file-any 0 s p) ∙ many-turn file-turn-kept 0 s p ∙ by (
 
 module _ (s : List ℕ) where
   -- an answer that accepts does so at the end of the text; and an answer of the whole loop (`Done`) is no turn
-  abbrev Ends : Out → Type 0
-  Ends (ok q rs) = length s ≤ q
-  Ends (again q rs a) = Unit {0}
-  Ends (bad f) = Unit {0}
+  abbrev EndsAtEnd : Out → Type 0
+  EndsAtEnd (ok q rs) = length s ≤ q
+  EndsAtEnd (again q rs a) = Unit {0}
+  EndsAtEnd (bad f) = Unit {0}
 
   abbrev Done : Out → Type 0
   Done (ok q rs) = length s ≤ q
   Done (again q rs a) = ⊥
   Done (bad f) = Unit {0}
 
-  more-ends : (rs : List Row) (o : Out) → Ends o → Ends (more rs o)
+  more-ends : (rs : List Row) (o : Out) → EndsAtEnd o → EndsAtEnd (more rs o)
   more-ends rs (ok q ss) h = h
   more-ends rs (again q ss a) h = tt
   more-ends rs (bad f) h = tt
 
-  chain-ends : (o : Out) (g : ℕ → Out) → ((q : ℕ) → Ends (g q)) → Ends (andThen o g)
+  chain-ends : (o : Out) (g : ℕ → Out) → ((q : ℕ) → EndsAtEnd (g q)) → EndsAtEnd (andThen o g)
   chain-ends (ok q rs) g G = more-ends rs (g q) (G q)
   chain-ends (again q rs a) g G = more-ends rs (g q) (G q)
   chain-ends (bad f) g G = tt
 
-  turned-ends : (o : Out) → Ends (andThen o (turn 0 s))
+  turned-ends : (o : Out) → EndsAtEnd (andThen o (turn 0 s))
   turned-ends o = chain-ends o (turn 0 s) (λ q. tt)
 
   -- where no character is seen the text ends
@@ -85,20 +86,20 @@ module _ (s : List ℕ) where
   none-left q End h e = h
   none-left q (Char c n) h e = let z : _≡_ {A = ℕ} 0 1 = cc in absurd (omega arith)
 
-  turn-ends : (a p : ℕ) → Ends (fileTurn a s p)
+  turn-ends : (a p : ℕ) → EndsAtEnd (fileTurn a s p)
   unfolding fileTurn
   turn-ends a p =
       chain-ends (white s p) _
-      (λ q. eaten-holds Ends (is 0x40) (see s q) _ _ (λ k n x. turned-ends (entry s q))
-      (eaten-holds Ends (holdsOf test.Percent) (see s q) _ _ (λ k n x. turned-ends (comment s q))
-      (eaten-else Ends any (see s q) _ _ (λ n. tt) (none-left q (see s q) (seeing .see-inside s q)))))
+      (λ q. eaten-holds EndsAtEnd (is 0x40) (see s q) _ _ (λ k n x. turned-ends (entry s q))
+      (eaten-holds EndsAtEnd (holdsOf test.Percent) (see s q) _ _ (λ k n x. turned-ends (comment s q))
+      (eaten-else EndsAtEnd any (see s q) _ _ (λ n. tt) (none-left q (see s q) (seeing .see-inside s q)))))
 
   more-done : (rs : List Row) (o : Out) → Done o → Done (more rs o)
   more-done rs (ok q ss) h = h
   more-done rs (again q ss a) h = h
   more-done rs (bad f) h = tt
 
-  after-done : (o : Out) (g : ℕ → ℕ → Out) → Ends o → ((b q : ℕ) → Done (g b q)) → Done (after o g)
+  after-done : (o : Out) (g : ℕ → ℕ → Out) → EndsAtEnd o → ((b q : ℕ) → Done (g b q)) → Done (after o g)
   after-done (ok q rs) g h G = h
   after-done (again q rs a) g h G = more-done rs (g a q) (G a q)
   after-done (bad f) g h G = tt
@@ -125,13 +126,10 @@ item-ahead s p q a rs e =
     let y : Advances 1 0 p (length s) (again q rs a) = subst (Advances 1 0 p (length s)) e (file-turn-kept 0 .advances s p) in
     (omega arith, omega arith)
 
-entry-same : (s t : List ℕ) (p q : ℕ) → Stops (entry s p) q → q ≤ length t → Same s t p q → entry t p ≡ entry s p
+entry-same : (s t : List ℕ) (p q : ℕ) → Stops (entry s p) q → q ≤ length t → ShowsSame s t p q → entry t p ≡ entry s p
 entry-same s t p q e h x = entry-kept .local s t p q e h (λ i a b. x i a (omega arith))
 
 -- ---- strict reading
-
-start-boundary : (s : List ℕ) → Octets s → isBoundary s 0 ≡ true
-start-boundary s o = rfc3629 .boundary s 0 o .1 (record { inside = omega arith; before = none; after = o })
 
 file-accepts : (s : List ℕ) (q : ℕ) (rs : List Row) → Octets s → file s 0 ≡ ok q rs → Accepted s q rs
 file-accepts s q rs o e =
@@ -141,7 +139,7 @@ file-accepts s q rs o e =
       rules = file-rules s 0 q rs e;
       undamaged = trace-clean t;
       rising = trace-rising t;
-      spans = trace-spans o t (omega arith) (start-boundary s o);
+      spans = trace-spans o t (omega arith) (boundaries .first s o);
       few = omega (arith, file-few s 0 q rs e, file-ends s 0 q rs e (omega arith));
     }
 

@@ -34,6 +34,8 @@ use Rattle.raw.proofs.token.key.Kinds as key-kinds
 use Rattle.raw.proofs.token.key.Reads as key
 use Rattle.raw.proofs.value.refused.Kinds as refused-kinds
 use Rattle.raw.proofs.value.refused.Reads as refused
+use Rattle.raw.proofs.token.name.Kinds as name-kinds
+use Rattle.raw.proofs.token.name.Reads as name
 
 pub one-read : Both 2 read-kinds.ps read-kinds.r read.Post (λ κs x s y t. (x ≡ y) × (now (s .1 .0) ≡ now (t .1 .0)))
 one-read κs a x y s t p q = (p .answer ∙ sym (q .answer), p .rows ∙ sym (q .rows))
@@ -74,3 +76,6 @@ one-key κs a x y s t p q = same-place (p .0 ∙ sym (q .0))
 
 pub one-refused : One 0 refused-kinds.ps refused-kinds.r refused.Post
 one-refused κs a x y s t p q = p ∙ sym q
+
+pub one-name : One 1 name-kinds.ps name-kinds.r name.Post
+one-name κs a x y s t p q = p .0 ∙ sym (q .0)

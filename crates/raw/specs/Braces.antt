@@ -1,5 +1,5 @@
--- Where a braced value ends, in 01's own words: "A braced value ends before the first closing brace, skipping backslash pairs, that
--- outnumbers the opening ones. It is refused with 3 exactly if there is none" [01:Strict reading].
+-- Where a braced value ends, in 01's own words: "After its opening brace, a braced value ends before the first closing brace, skipping backslash
+-- pairs, that outnumbers the opening ones. It is refused with 3 exactly if there is none" [01:Strict reading].
 -- The proof is `braced-value` of proofs/Braces.antt. Assumes nothing.
 use Prim.Native.Nat.{ℕ, suc, _≤_}
 use mathlib.Core.Path.{_≡_}

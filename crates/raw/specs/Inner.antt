@@ -1,4 +1,4 @@
--- What the inner functions of src/ ask: nothing here stands in a public contract.
+-- Definitions for the contracts of the inner functions of src/: nothing here stands in a public contract.
 -- Assumes nothing.
 use Prim.Native.Nat.{ℕ, _<_}
 use mathlib.Core.Path.{_≡_}
@@ -15,7 +15,7 @@ pub record Undelimited (s : List ℕ) (i : ℕ) : Type 0 where
   pub no-brace : i < length s → getD s i 0 ≡ 0x7B → ⊥
   pub no-quote : i < length s → getD s i 0 ≡ 0x22 → ⊥
 
--- what comes of a literal from a to e, by what was told of the delimiter that closes it
+-- what comes of a literal from a to e, by the answer for the delimiter that closes it
 abbrev pub literalOf : ℕ → ℕ → Step → Out
 literalOf a e (step.At q) = ok q (row kind.Literal a e ∷ [])
 literalOf a e (step.Refused f) = bad f

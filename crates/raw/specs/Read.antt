@@ -26,13 +26,13 @@ checked s (validity.IllFormed n) = bad (faultAt NotUtf8 n)
 unfoldable pub strict : List ℕ → Out
 strict s = cond (leb (length s) mostBytes) (checked s (validityOf s)) (bad (nowhere TooLong))
 
--- and 16 exactly if an answer exists and needs more rows than are lent
+-- the answer over so many lent numbers: the reading's, but 16 exactly if an answer exists and needs more rows than are lent
 abbrev pub readingOut : Out → ℕ → Reading
 readingOut (ok q rs) size = cond (leb (length rs) (size / 4)) (reading.Rows (length rs)) (reading.Refused (nowhere NoRoom))
 readingOut (again q rs a) size = cond (leb (length rs) (size / 4)) (reading.Rows (length rs)) (reading.Refused (nowhere NoRoom))
 readingOut (bad f) size = reading.Refused f
 
--- the lent numbers: the rows in front of what they held, or as they were
+-- the lent numbers afterwards: the rows, and behind them what they held there; or all as they were
 abbrev pub leftOut : Out → List ℕ → List ℕ
 leftOut (ok q rs) b = cond (leb (length rs) (length b / 4)) (flat rs ++ drop (length rs * 4) b) b
 leftOut (again q rs a) b = cond (leb (length rs) (length b / 4)) (flat rs ++ drop (length rs * 4) b) b

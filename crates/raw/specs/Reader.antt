@@ -109,6 +109,6 @@ over m f s p = under (marked m p) (f s p)
 abbrev pub overFrom : Mark → ℕ → Reader → Reader
 overFrom m a f s p = under (marked m a) (f s p)
 
--- a row from a place to another
+-- a row from one place to another
 abbrev pub put : Mark → ℕ → ℕ → Reader
 put m a e s p = ok p (marked m a e ∷ [])

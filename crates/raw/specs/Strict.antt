@@ -1,5 +1,5 @@
 -- What the definitions of `Reader` and `Grammar` settle: theorems of strict reading, the proof of which is `strict-reading` of
--- proofs/Strict.antt. Texts are compared by what they show: `Same`.
+-- proofs/Strict.antt. Texts are compared by what they show: `ShowsSame`.
 -- Assumes nothing.
 use Prim.Native.Nat.{ℕ, _+_, _≤_, _<_, max}
 use mathlib.Core.Path.{_≡_}
@@ -24,8 +24,8 @@ use Rattle.row.specs.Rules.{isRows, clean}
 -- ---- the words
 
 -- the texts show the same from p up to e
-abbrev pub Same : List ℕ → List ℕ → ℕ → ℕ → Type 0
-Same s t p e = (i : ℕ) → p ≤ i → i < e → see s i ≡ see t i
+abbrev pub ShowsSame : List ℕ → List ℕ → ℕ → ℕ → Type 0
+ShowsSame s t p e = (i : ℕ) → p ≤ i → i < e → see s i ≡ see t i
 
 -- the answer ends at q
 abbrev pub Stops : {P : Type 0} → OutOf P → ℕ → Type 0
@@ -69,17 +69,17 @@ Spans s (r ∷ rs) = Span s r × Spans s rs
 
 -- what an accepted text gives
 pub record Accepted (s : List ℕ) (q : ℕ) (rs : List Row) : Type 0 where
-  -- it is read to its end
+  -- the text is read to its end
   pub end : q ≡ length s
-  -- and the rows pass 01's rules
+  -- the rows pass 01's rules, without damage; their starts never fall, and their spans lie on characters of the text
   pub rules : isRows rs ≡ true
   pub undamaged : clean rs ≡ true
   pub rising : Rising 0 rs
   pub spans : Spans s rs
-  -- and are at most as many as the bytes
+  -- the rows are at most as many as the bytes
   pub few : length rs ≤ length s
 
--- what a refused one gives: 01's numbers 1 to 10, at an empty place of the text
+-- what a refused text gives: 01's numbers 1 to 10, at an empty place of the text
 pub record Refusal (s : List ℕ) (f : Fault) : Type 0 where
   pub number : (1 ≤ numberOf (f .reason)) × (numberOf (f .reason) ≤ 10)
   pub place : f .start ≤ length s
@@ -92,11 +92,11 @@ pub record Strict : Type 0 where
   pub turns : (s : List ℕ) (p : ℕ) → file s p ≡ after (fileTurn 0 s p) (λ a q. file s q)
   -- an item after which the file goes on has eaten something, and ends inside the text
   pub ahead : (s : List ℕ) (p q a : ℕ) (rs : List Row) → fileTurn 0 s p ≡ again q rs a → (p < q) × (q ≤ max p (length s))
-  -- an entry is told by what it ate: it is read the same in every text that shows that. White space and a comment are told by what they
-  -- ate and by the character after it
-  pub entries : (s t : List ℕ) (p q : ℕ) → Stops (entry s p) q → q ≤ length t → Same s t p q → entry t p ≡ entry s p
-  pub whites : (s t : List ℕ) (p q : ℕ) → Stops (white s p) q → q ≤ length t → Same s t p (q + 1) → white t p ≡ white s p
-  pub comments : (s t : List ℕ) (p q : ℕ) → Stops (comment s p) q → q ≤ length t → Same s t p (q + 1) → comment t p ≡ comment s p
+  -- how an entry is read depends only on what it ate: in every text that shows the same there, it is read the same. For white space and for a
+  -- comment it depends also on the character after them
+  pub entries : (s t : List ℕ) (p q : ℕ) → Stops (entry s p) q → q ≤ length t → ShowsSame s t p q → entry t p ≡ entry s p
+  pub whites : (s t : List ℕ) (p q : ℕ) → Stops (white s p) q → q ≤ length t → ShowsSame s t p (q + 1) → white t p ≡ white s p
+  pub comments : (s t : List ℕ) (p q : ℕ) → Stops (comment s p) q → q ≤ length t → ShowsSame s t p (q + 1) → comment t p ≡ comment s p
   -- white space, an item and a file that stand behind another text are read as by themselves, moved
   pub moves-white : (a s : List ℕ) (p : ℕ) → white (a ++ s) (p + length a) ≡ shifted (length a) (white s p)
   pub moves-turn : (a s : List ℕ) (p : ℕ) → fileTurn 0 (a ++ s) (p + length a) ≡ shifted (length a) (fileTurn 0 s p)

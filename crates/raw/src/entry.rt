@@ -23,7 +23,7 @@ pub enum Form {
     Other,
 }
 
-// An ASCII capital in small.
+// The small letter of an ASCII capital; any other byte as it is.
 fn lower(b: u8) -> u8
     ensures { λ r. ⌜ r ≡ lower b ⌝ }
 {
@@ -33,7 +33,7 @@ fn lower(b: u8) -> u8
     b
 }
 
-// Whether the text from a place to another spells a word, in any ASCII case.
+// Whether the text from one place to another spells a word, in any ASCII case.
 fn spells(s: &[u8], at: usize, end: usize, word: &[u8]) -> bool
     requires { ⌜ (at ≤ end) × (end ≤ length (now s)) × Ascii (now word) ⌝ }
     ensures { λ r. ⌜ r ≡ spells (now (word .entry)) (now (s .entry)) at end ⌝ }

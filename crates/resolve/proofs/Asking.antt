@@ -5,12 +5,12 @@ use native.Mathlib.Omega.{arith}
 use mathlib.Core.Path.{_≡_}
 use mathlib.Core.List.{List}
 use lib.ListN.{length}
-use Rattle.resolve.specs.Progress.{Ready}
+use Rattle.resolve.specs.Progress.{ReadyTables}
 use Rattle.resolve.specs.Asking.{Asking}
 use Rattle.resolve.proofs.lending.CheckWays as check
 use Rattle.resolve.proofs.ways.AskedWays as ways
 
-ready-on : (w byName byMark w′ : List ℕ) → Ready w byName byMark → length w′ ≡ length w → Ready w′ byName byMark
+ready-on : (w byName byMark w′ : List ℕ) → ReadyTables w byName byMark → length w′ ≡ length w → ReadyTables w′ byName byMark
 ready-on w byName byMark w′ h e = record { scratch = omega (arith, h .scratch, e); names = h .names; marks = h .marks }
 
 pub asking : Asking

@@ -7,6 +7,7 @@ use mathlib.Core.Bool.{true}
 use mathlib.Core.List.{List, [], _∷_}
 use lib.ListN.{length, drop}
 use borrow.Author.Tests.{le-leb, eq-eqb}
+use Rattle.text.specs.Every.{every}
 use Rattle.row.specs.Row.{Row, flat}
 use Rattle.row.specs.Numbers.{areRows}
 use Rattle.row.proofs.Laid.{laid}
@@ -26,7 +27,7 @@ module _ (file : List ℕ) (q : ℕ) (rs : List Row) (e : strict file ≡ ok q r
       fours n e = omega arith
 
   spans-pass : everySpan file rs ≡ true
-  unfolding everySpan Spans
+  unfolding every Spans
   spans-pass = each rs (strict-reading .accepts file q rs e .spans)
     where
       each : (rs : List Row) → Spans file rs → everySpan file rs ≡ true

@@ -16,6 +16,10 @@ use Rattle.resolve.proofs.one_literal.is_span.Kinds as is-span-kinds
 use Rattle.resolve.proofs.one_literal.is_span.Reads as is-span
 use Rattle.resolve.proofs.one_literal.resolve_literal.Kinds as resolve-literal-kinds
 use Rattle.resolve.proofs.one_literal.resolve_literal.Reads as resolve-literal
+use Rattle.resolve.proofs.lent.place.Kinds as place-kinds
+use Rattle.resolve.proofs.lent.place.Reads as place
+use Rattle.resolve.proofs.progress.answer.Kinds as answer-kinds
+use Rattle.resolve.proofs.progress.answer.Reads as answer
 
 pub one-check-file : One 1 check-file-kinds.ps check-file-kinds.r check-file.Post
 one-check-file κs a x y s t p q = p ∙ sym q
@@ -39,3 +43,9 @@ one-resolve-literal κs a x y s t p q = (
   p .writes .rows ∙ sym (q .writes .rows),
   p .writes .text ∙ sym (q .writes .text),
 )
+
+pub one-place : One 0 place-kinds.ps place-kinds.r place.Post
+one-place κs a x y s t p q = p ∙ sym q
+
+pub one-answer : One 0 answer-kinds.ps answer-kinds.r answer.Post
+one-answer κs a x y s t p q = p ∙ sym q

@@ -1,6 +1,6 @@
--- One law for each way through a function, over what its calls told.
+-- One law for each way through a function, over what its calls answered.
 
--- what every call asks first: `check_file`, and what a call refuses
+-- the checks that every call makes first: `check_file`, and what a call refuses
 pub mod AskedWays
 -- a literal over a small room, and then over what is lent: `write` of src/one_literal.rt
 pub mod WriteWays

@@ -1,7 +1,7 @@
 -- What is lent with a file, and what resolving refuses with 17 [01:Rows and their packing].
 --     Month, Lent             what is lent: the file, its rows, and the month words with their texts
 --     monthsOf                month words with their texts in lent numbers and bytes, four numbers to a word
---     isRight                 rows, chosen row and months are as resolving asks
+--     isRight                 rows, chosen row and months are as resolving requires
 -- Assumes nothing.
 use Prim.Native.Nat.{ℕ, _%_}
 use mathlib.Core.Bool.{Bool, true, false, _&&_}
@@ -12,6 +12,7 @@ use Rattle.text.specs.Utf8.{validityOf}
 use Rattle.text.specs.declared.utf8.Validity.{Validity}
 use Rattle.text.specs.declared.utf8.Validity.the-variants as validity
 use Rattle.text.specs.Scan.{part}
+use Rattle.text.specs.Every.{every}
 use Rattle.row.specs.declared.form.Kind.the-variants.{Value}
 use Rattle.row.specs.Row.{Row}
 use Rattle.row.specs.Rules.{isKind}
@@ -31,16 +32,15 @@ pub record Lent : Type 0 where
 -- ---- rows
 
 -- "a span reversed, outside the file or across a character"
-unfoldable pub everySpan : List ℕ → List Row → Bool
-everySpan file [] = true
-everySpan file (r ∷ rs) = isSpan file (r .start) (r .end) && everySpan file rs
+abbrev pub everySpan : List ℕ → List Row → Bool
+everySpan file rs = every (λ (r : Row). isSpan file (r .start) (r .end)) rs
 
 -- "a chosen row that is not there or no value"
 unfoldable pub isValue : List Row → Bool
 isValue [] = false
 isValue (r ∷ rs) = isKind Value (r .kind)
 
--- ---- months: the word's start and end, and the text's
+-- ---- months, four numbers to a word as to a row: where the word starts and ends, and where its text does
 
 abbrev pub monthIn : List ℕ → Row → Month
 monthIn words r = record { word = part words (r .kind) (r .detail); text = part words (r .start) (r .end) }
@@ -59,15 +59,16 @@ isText words a e = leb a e && (leb e (length words) && isValid (validityOf (part
 abbrev pub isMonth : List ℕ → Row → Bool
 isMonth words r = isText words (r .kind) (r .detail) && isText words (r .start) (r .end)
 
-unfoldable pub everyMonth : List ℕ → List Row → Bool
-everyMonth words [] = true
-everyMonth words (r ∷ rs) = isMonth words r && everyMonth words rs
+abbrev pub everyMonth : List ℕ → List Row → Bool
+everyMonth words rs = every (isMonth words) rs
 
+-- "Input rows whose numbers are no whole count of rows are refused with 17 too": here, four numbers to a word
 unfoldable pub areMonths : List ℕ → List ℕ → Bool
 areMonths l words = eqb (length l % 4) 0 && everyMonth words (rowsOf l)
 
 -- ---- all of it
 
+-- the rows and the months are right, whichever row is chosen
 unfoldable pub areLent : List ℕ → List ℕ → List ℕ → List ℕ → Bool
 areLent file rows months words = areRows rows && (everySpan file (rowsOf rows) && areMonths months words)
 

@@ -5,3 +5,4 @@ pub mod Checks
 pub mod StrictRows
 pub mod Progress
 pub mod Asking
+pub mod Refusals

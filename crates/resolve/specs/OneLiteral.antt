@@ -1,4 +1,4 @@
--- The call `resolve_literal`: the literal that stands in a file from a place to another.
+-- The call `resolve_literal`: the literal that stands in a file from one place to another.
 -- Assumes nothing.
 use Prim.Native.Nat.{ℕ}
 use mathlib.Core.Bool.{Bool, _&&_}

@@ -1,8 +1,8 @@
 -- What the lent numbers and bytes hold while the elements of a value are resolved one after the other. For src/progress.rt and the crates above.
---     Has           the chunks so far, as the code has them
---     SaysRun       what a function answers that takes a run further
---     Counted       what a value came to that was counted and not written
---     Ready         what the functions ask
+--     Has               the chunks so far, as the code has them
+--     SaysRun           what a function answers that takes a run further
+--     Counted           what a value came to that was counted and not written
+--     ReadyTables       what the functions require
 -- Assumes nothing.
 use Prim.Native.Nat.{ℕ, _+_, _≤_}
 use mathlib.Core.Path.{_≡_}
@@ -12,6 +12,7 @@ use lib.ListN.{length}
 use lib.Seq.{sets}
 use Rattle.text.specs.Scan.{part}
 use Rattle.row.specs.declared.fault.Fault.{Fault}
+use Rattle.row.specs.Limits.{leastScratch, mostNames, mostWritten}
 use Rattle.turn.specs.Content.{flatten}
 use Rattle.chunk.specs.Chunk.{Chunk}
 use Rattle.compose.specs.Lookup.{numbers}
@@ -24,10 +25,11 @@ use Rattle.resolve.specs.declared.answer.Answer.the-variants as answer
 use Rattle.resolve.specs.declared.progress.Progress.{Progress}
 use Rattle.resolve.specs.declared.progress.Went.{Went}
 use Rattle.resolve.specs.declared.progress.Went.the-variants as went
-use Rattle.resolve.specs.Resolves.{Value, resolved, refused, mostWritten, small}
+use Rattle.resolve.specs.Resolves.{Value, resolved, refused, small}
 use Rattle.resolve.specs.Runs.{Run, done, stop}
 
--- the chunks ps: more than can be written, or exactly these. The lent numbers were b₀ and the lent bytes t₀ before any chunk
+-- st, b and t have the chunks ps: either these are more than can be written, and `over` says so, or they are counted and written exactly. The
+-- lent numbers were b₀ and the lent bytes t₀ before any chunk
 pub record Has (ps : List Chunk) (b₀ t₀ : List ℕ) (st : Progress) (b t : List ℕ) : Type 0 where
   pub over : st .over ≡ not (small (flatten ps))
   pub bytes : st .over ≡ false → st .bytes ≡ length (textsOf ps)
@@ -38,7 +40,7 @@ pub record Has (ps : List Chunk) (b₀ t₀ : List ℕ) (st : Progress) (b t : L
 pub record Bounded (st : Progress) : Type 0 where
   pub bytes : st .bytes ≤ mostWritten
   pub rows : st .rows .n ≤ mostWritten
-  pub names : st .names ≤ 4096
+  pub names : st .names ≤ mostNames
 
 abbrev pub answerOf : Progress → Answer
 answerOf st = answer.Chunks (st .rows .n) (st .bytes) (st .names)
@@ -47,8 +49,8 @@ answerOf st = answer.Chunks (st .rows .n) (st .bytes) (st .names)
 abbrev pub Adds : List Chunk → Progress → List ℕ → List ℕ → Progress → List ℕ → List ℕ → Type 0
 Adds cs st b t st′ b′ t′ = (ps : List Chunk) (b₀ t₀ : List ℕ) → Has ps b₀ t₀ st b t → Has (ps ++ cs) b₀ t₀ st′ b′ t′
 
--- chunks whose rows are k and whose text stands in s from a to e are appended, where the text before them is t. What is said of them is asked
--- only where what stands before them could be written
+-- chunks whose rows are k and whose text stands in s from a to e are appended, where the lent bytes were t. What is required of them is
+-- required only where the chunks before them could be written
 abbrev pub Appends : Rows → List ℕ → ℕ → ℕ → Progress → List ℕ → Progress → List ℕ → Type 0
 Appends k s a e st t st′ t′ =
     (ps cs : List Chunk) (b₀ t₀ b b′ : List ℕ) → (st .over ≡ false → textsOf cs ≡ part s a e) → Has ps b₀ t₀ st b t
@@ -64,12 +66,14 @@ SaysRun (stop g) st b t (went.Refused f) b′ t′ = f ≡ g
 abbrev pub Narrow : Fault → Type 0
 Narrow f = (f .start ≤ 4294967295) × (f .end ≤ 4294967295)
 
+-- the counts of what elements came to are small, and the places of their refusal have 32 bits
 abbrev pub BoundedWent : Went → Type 0
 BoundedWent (went.Done st) = Bounded st
 BoundedWent (went.Refused f) = Narrow f
 
+-- the counts of an answer are small, and the places of a refusal have 32 bits
 abbrev pub BoundedAnswer : Answer → Type 0
-BoundedAnswer (answer.Chunks k n m) = (k ≤ mostWritten) × (n ≤ mostWritten) × (m ≤ 4096)
+BoundedAnswer (answer.Chunks k n m) = (k ≤ mostWritten) × (n ≤ mostWritten) × (m ≤ mostNames)
 BoundedAnswer (answer.Refused f) = Narrow f
 
 -- a value that was counted over no room: what it resolves to is counted exactly, or is more than can be written
@@ -80,8 +84,8 @@ Counted (resolved cs n) (went.Refused f) = ⊥
 Counted (refused g) (went.Done st) = ⊥
 Counted (refused g) (went.Refused f) = f ≡ g
 
--- the scratch and the tables
-pub record Ready (w byName byMark : List ℕ) : Type 0 where
-  pub scratch : 32768 ≤ length w
+-- what the functions require: a scratch that is long enough, and the tables
+pub record ReadyTables (w byName byMark : List ℕ) : Type 0 where
+  pub scratch : leastScratch ≤ length w
   pub names : byName ≡ allNames
   pub marks : byMark ≡ numbers composites

@@ -2,7 +2,7 @@
 --     Value                        chunks with the number of names resolved, or a refusal. Nothing is said of buffers
 --     fits, told, rowsLeft, textLeft, Resolves
 --                                  the answer, and what the lent numbers, bytes and scratch then hold
---     asked                        what every call asks first
+--     asked                        the checks that every call makes first
 -- Assumes nothing.
 use Prim.Native.Nat.{ℕ, _*_, _/_}
 use mathlib.Core.Path.{_≡_}
@@ -16,7 +16,7 @@ use Rattle.text.specs.declared.utf8.Validity.the-variants as validity
 use Rattle.row.specs.declared.fault.Fault.{Fault}
 use Rattle.row.specs.declared.fault.Reason.the-variants.{TooLong, NotUtf8, NoRoom, BadRows}
 use Rattle.row.specs.Fault.{faultAt, nowhere}
-use Rattle.row.specs.Limits.{mostBytes}
+use Rattle.row.specs.Limits.{mostBytes, leastScratch, mostWritten}
 use Rattle.chunk.specs.Chunk.{Chunk, flatChunks}
 use Rattle.chunk.specs.declared.answer.Checked.{Checked}
 use Rattle.chunk.specs.declared.answer.Checked.the-variants as checked
@@ -31,13 +31,11 @@ pub data Value : Type 0 where
 
 -- ---- over lent outputs
 
--- the most rows and the most text that are written, however much is lent: the numbers of a row have 32 bits
-abbrev pub mostWritten : ℕ
-mostWritten = 4294000000
-
+-- the chunks are no more than is ever written, however much is lent
 unfoldable pub small : List Chunk → Bool
 small cs = leb (length cs) mostWritten && leb (length (textsOf cs)) mostWritten
 
+-- the chunks fit into the lent numbers b and the lent bytes t
 abbrev pub fits : List Chunk → List ℕ → List ℕ → Bool
 fits cs b t = small cs && (leb (length cs) (length b / 5) && leb (length (textsOf cs)) (length t))
 
@@ -61,21 +59,19 @@ pub record Writes (value : Value) (b t : List ℕ) (r : Answer) (b′ t′ : Lis
   pub rows : b′ ≡ rowsLeft value b t
   pub text : t′ ≡ textLeft value b t
 
--- and over the scratch w leaves it w′: "scratch is zeroed on every return"
+-- such a call leaves its scratch w as w′: "scratch is zeroed on every return"
 pub record Resolves (value : Value) (w b t : List ℕ) (r : Answer) (w′ b′ t′ : List ℕ) : Type 0 where
   pub writes : Writes value b t r b′ t′
   pub scratch : w′ ≡ replicate (length w) 0
 
--- ---- what every call asks first, in the order of 01: 1 for a file, 2, 17, "then (resolving only) 16 exactly if the scratch is under 32,768
--- bytes"
-
-abbrev pub leastScratch : ℕ
-leastScratch = 32768
+-- ---- the checks that every call makes first, in the order of 01: 1 for a file, 2, 17, "then (resolving only) 16 exactly if the scratch is
+-- under 32,768 bytes"
 
 abbrev pub ofUtf8 : Validity → Checked
 ofUtf8 validity.Valid = checked.Passed
 ofUtf8 (validity.IllFormed n) = checked.Refused (faultAt NotUtf8 n)
 
+-- 1 for a file that is too long, then 2
 unfoldable pub checkedFile : List ℕ → Checked
 checkedFile file = cond (leb (length file) mostBytes) (ofUtf8 (validityOf file)) (checked.Refused (nowhere TooLong))
 
@@ -83,7 +79,7 @@ abbrev pub after : Checked → Value → Value
 after checked.Passed value = value
 after (checked.Refused f) value = refused f
 
--- the value, if the file, the rows or places (which are good or not) and the scratch of w bytes are right
+-- the value, if the file passes, `good` says that the rows or places are right, and the scratch of w bytes is long enough; else the refusal
 abbrev pub asked : List ℕ → Bool → ℕ → Value → Value
 asked file good w value =
     after (checkedFile file) (cond good (cond (leb leastScratch w) value (refused (nowhere NoRoom))) (refused (nowhere BadRows)))

@@ -1,5 +1,5 @@
 -- What a part of a value comes to while its elements are resolved one after the other. Nothing is said of buffers.
---     Run, ofLiteral       a run, and that of a literal
+--     Run, ofLiteral       a run, and the run of a literal
 -- Assumes nothing.
 use Prim.Native.Nat.{ℕ}
 use mathlib.Core.List.{List}

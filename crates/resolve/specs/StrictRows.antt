@@ -15,7 +15,7 @@ use Rattle.resolve.specs.Checks.{everySpan, isValue, areMonths, areLent,
 pub record StrictRows : Type 0 where
   pub rows : (file : List ℕ) (q : ℕ) (rs : List Row) → strict file ≡ ok q rs → areRows (flat rs) ≡ true
   pub spans : (file : List ℕ) (q : ℕ) (rs : List Row) → strict file ≡ ok q rs → everySpan file rs ≡ true
-  -- so that with right month words all that is lent passes the check, and any value row may be chosen
+  -- with right month words, all that is lent passes the check, and any value row may be chosen
   pub lent : (file : List ℕ) (q : ℕ) (rs : List Row) (months words : List ℕ) → strict file ≡ ok q rs → areMonths months words ≡ true
       → areLent file (flat rs) months words ≡ true
   pub right : (file : List ℕ) (q : ℕ) (rs : List Row) (which : ℕ) (months words : List ℕ) → strict file ≡ ok q rs → areMonths months words ≡ true

@@ -1,4 +1,4 @@
-// What resolving comes to, and what every call asks of its file first.
+// What resolving comes to, and the check of the file that every call makes first.
 use chunk::answer::Checked;
 use row::fault::Fault;
 use row::fault::Reason;
@@ -17,9 +17,6 @@ pub enum Answer {
     },
     Refused(Fault),
 }
-
-// The least scratch [01:From file to field].
-pub const LEAST_SCRATCH: usize = 32_768;
 
 // 1 and 2: a file inside 01's limit, and UTF-8.
 pub fn check_file(file: &[u8]) -> Checked

@@ -2,6 +2,7 @@
 use crate::one_literal;
 use row::check;
 use row::check::Checked;
+use row::form::VALUE;
 use text::utf8;
 use text::utf8::Validity;
 ghost use mathlib.Core.Path.{_≡_};
@@ -42,6 +43,7 @@ fn is_text(words: &[u8], from: usize, to: usize) -> bool
     }
 }
 
+// Whether there are four numbers for each month, and every word and every text is right.
 fn are_months(months: &[u32], words: &[u8]) -> bool
     ensures { λ r. ⌜ r ≡ areMonths (now (months .entry)) (now (words .entry)) ⌝ }
 {
@@ -60,7 +62,7 @@ fn are_months(months: &[u32], words: &[u8]) -> bool
     true
 }
 
-// Whether rows and months are as resolving asks.
+// Whether rows and months are as resolving requires.
 pub fn are_lent(file: &[u8], rows: &[u32], months: &[u32], words: &[u8]) -> bool
     ensures { λ r. ⌜ r ≡ areLent (now (file .entry)) (now (rows .entry)) (now (months .entry)) (now (words .entry)) ⌝ }
 {
@@ -80,5 +82,5 @@ pub fn is_value(rows: &[u32], which: usize) -> bool
     if rows.len() / 4 <= which {
         return false;
     }
-    rows[which * 4] == 5
+    rows[which * 4] == VALUE
 }

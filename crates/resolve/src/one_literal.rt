@@ -12,19 +12,18 @@ use literal::parse::Parsed;
 use literal::rows::Rows;
 use row::fault::Fault;
 use row::fault::Reason;
+use row::limits::LEAST_SCRATCH;
 use text::utf8;
 ghost use mathlib.Core.Path.{_≡_};
 ghost use Prim.Native.Nat.{_≤_, _+_};
 ghost use lib.ListN.{length};
+ghost use Rattle.row.specs.Limits.{mostBytes, leastScratch};
 ghost use Rattle.compose.specs.Lookup.{numbers};
 ghost use Rattle.compose.specs.Composites.{composites};
 ghost use Rattle.command.specs.Names.{names as allNames};
 ghost use Rattle.literal.specs.Literal.{resolveLiteral};
 ghost use Rattle.resolve.specs.Resolves.{Writes, Resolves};
 ghost use Rattle.resolve.specs.OneLiteral.{isSpan, valueOf, literalOf};
-
-// The least scratch [01:From file to field].
-const LEAST_SCRATCH: usize = 32_768;
 
 // Whether a span lies in the file and cuts no character.
 pub fn is_span(file: &[u8], start: usize, end: usize) -> bool
@@ -33,8 +32,8 @@ pub fn is_span(file: &[u8], start: usize, end: usize) -> bool
     (start <= end) & (utf8::is_boundary(file, start) & utf8::is_boundary(file, end))
 }
 
-// Resolves the literal over a small room for rows first, which counts past its end: the rows that it holds are then copied, and where there are
-// more the literal is resolved again.
+// Resolves the literal over a small room for rows first, past whose end rows are only counted. If all rows are in the small room they are copied
+// from there; else the literal is resolved again.
 fn write(
     s: &[u8],
     base: usize,
@@ -45,7 +44,7 @@ fn write(
     names: &[u8],
     marks: &[u32],
 ) -> Answer
-    requires { ⌜ (base + length (now s) ≤ 16777215) × (32768 ≤ length (now scratch)) × (now names ≡ allNames) × (now marks ≡ numbers composites) ⌝ }
+    requires { ⌜ (base + length (now s) ≤ mostBytes) × (leastScratch ≤ length (now scratch)) × (now names ≡ allNames) × (now marks ≡ numbers composites) ⌝ }
     ensures { λ r. ⌜ Writes (valueOf (resolveLiteral verbatim (now (s .entry)) base)) (now (chunks .entry)) (now (text .entry)) r
         (now (chunks .exit)) (now (text .exit)) ⌝ }
 {
@@ -83,7 +82,7 @@ fn write(
     }
 }
 
-// The same for a literal of a file, after what every call asks.
+// Resolves a literal of a file, after the checks that every call makes first.
 fn literal(
     file: &[u8],
     start: usize,
@@ -130,7 +129,7 @@ fn literal(
     )
 }
 
-// Resolves the literal that stands in a file from a place to another: its chunks' rows, five numbers to a row, and their text; or the refusal,
+// Resolves the literal that stands in a file from one place to another: its chunks' rows, five numbers to a row, and their text; or the refusal,
 // which leaves both as they were. The scratch holds zeros afterwards, whatever it held.
 pub fn resolve_literal(
     file: &[u8],

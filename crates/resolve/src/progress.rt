@@ -7,12 +7,14 @@ use literal::parse::Parsed;
 use literal::rows;
 use literal::rows::Rows;
 use row::fault::Fault;
+use row::limits::MOST_WRITTEN;
 ghost use mathlib.Core.Path.{_≡_};
 ghost use mathlib.Core.List.{List, [], _∷_, _++_};
 ghost use Prim.Native.Nat.{ℕ, _+_, _*_, _≤_};
 ghost use lib.ListN.{length, take, drop};
 ghost use lib.Seq.{sets};
 ghost use Rattle.text.specs.Scan.{part};
+ghost use Rattle.row.specs.Limits.{mostBytes, mostNames};
 ghost use Rattle.chunk.specs.declared.form.Kind.the-variants.{Normal};
 ghost use Rattle.chunk.specs.Chunk.{Chunk, chunk};
 ghost use Rattle.turn.specs.Content.{flatten};
@@ -20,10 +22,7 @@ ghost use Rattle.literal.specs.Rows.{RowsHold};
 ghost use Rattle.literal.specs.Literal.{resolveLiteral};
 ghost use Rattle.resolve.specs.Resolves.{fits as fitsOf};
 ghost use Rattle.resolve.specs.Runs.{ofLiteral};
-ghost use Rattle.resolve.specs.Progress.{Has, answerOf, Bounded, Adds, Appends, SaysRun, BoundedWent, Ready};
-
-// The most rows and the most bytes of text that are written: the numbers of a row have 32 bits.
-const MOST_WRITTEN: usize = 4_294_000_000;
+ghost use Rattle.resolve.specs.Progress.{Has, answerOf, Bounded, Adds, Appends, SaysRun, BoundedWent, ReadyTables};
 
 // The rows, bytes of text and names so far; or that there is more of them than can be written.
 pub struct Progress {
@@ -71,7 +70,7 @@ pub fn begin() -> Progress
     }
 }
 
-// Chunks whose rows are written already, with their text, which stands in `from`.
+// Appends chunks whose rows are written already: counts them, and copies their text, which stands in `from`, from `first` to `last`.
 fn append(
     st: Progress,
     rows: Rows,
@@ -103,7 +102,7 @@ fn append(
     }
 }
 
-// A literal, which stands at `base` in the file.
+// Appends the chunks of a literal, which stands at `base` in the file.
 pub fn literal(
     s: &[u8],
     base: usize,
@@ -115,7 +114,7 @@ pub fn literal(
     known: &[u8],
     marks: &[u32],
 ) -> Went
-    requires { ⌜ Ready (now scratch) (now known) (now marks) × Bounded st × (base + length (now s) ≤ 16777215) ⌝ }
+    requires { ⌜ ReadyTables (now scratch) (now known) (now marks) × Bounded st × (base + length (now s) ≤ mostBytes) ⌝ }
     ensures { λ r. ⌜ SaysRun (ofLiteral (resolveLiteral verb (now (s .entry)) base) (st .names)) st (now (chunks .entry)) (now (text .entry)) r
         (now (chunks .exit)) (now (text .exit)) ⌝ }
     ensures { λ r. ⌜ BoundedWent r ⌝ }
@@ -128,7 +127,7 @@ pub fn literal(
     }
 }
 
-// A month word used in the file from a place to another: its text is one Normal chunk.
+// Appends the text of a month word, which stands in `words`, as one Normal chunk. The word is used in the file from `start` to `end`.
 pub fn month(
     words: &[u8],
     from: usize,
@@ -164,7 +163,7 @@ pub fn month(
 
 // One name more.
 pub fn counted(st: Progress) -> Progress
-    requires { ⌜ Bounded st × (st .names + 1 ≤ 4096) ⌝ }
+    requires { ⌜ Bounded st × (st .names + 1 ≤ mostNames) ⌝ }
     ensures { λ r. ⌜ (r .names ≡ st .names + 1) × Bounded r ⌝ }
     ensures { λ r. ⌜ ((ps : List Chunk) (b₀ t₀ b t : List ℕ) → Has ps b₀ t₀ st b t → Has ps b₀ t₀ r b t) ⌝ }
 {
@@ -187,7 +186,7 @@ pub fn fits(st: Progress, chunks: &[u32], text: &[u8]) -> bool
     !st.over & (rows.n <= chunks.len() / 5) & (st.bytes <= text.len())
 }
 
-// The numbers in front, so many of them.
+// Copies the first n numbers.
 pub fn copy_numbers(from: &[u32], n: usize, out: &mut [u32])
     requires { ⌜ (n ≤ length (now from)) × (n ≤ length (now out)) ⌝ }
     ensures { λ _. ⌜ now (out .exit) ≡ take n (now (from .entry)) ++ drop n (now (out .entry)) ⌝ }
@@ -199,7 +198,7 @@ pub fn copy_numbers(from: &[u32], n: usize, out: &mut [u32])
     }
 }
 
-// The rows and the text of a value that were written over a small room, over another.
+// Copies the rows and the text of a value from the small room, where they were written, to another room.
 pub fn copy_out(st: Progress, few: &[u32], short: &[u8], chunks: &mut [u32], text: &mut [u8])
     requires { ⌜ (st .rows .n * 5 ≤ length (now few)) × (st .rows .n * 5 ≤ length (now chunks)) ×
         (st .bytes ≤ length (now short)) × (st .bytes ≤ length (now text)) × Bounded st ⌝ }

@@ -1,5 +1,4 @@
--- The proof of specs/Laid.antt, by the laws of rows as numbers.
---     laid
+-- The proof of specs/Laid.antt, by the laws of rows as numbers: `laid`.
 -- Assumes nothing.
 use Rattle.row.specs.Laid.{Laid}
 use Rattle.row.proofs.numbers.Flat as flat

@@ -1,5 +1,4 @@
--- The proof of specs/Ruled.antt, by the laws of the row rules.
---     ruled
+-- The proof of specs/Ruled.antt, by the laws of the row rules: `ruled`.
 -- Assumes nothing.
 use Rattle.row.specs.Ruled.{Ruled}
 use Rattle.row.proofs.rules.Append as append

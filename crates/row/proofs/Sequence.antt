@@ -14,7 +14,7 @@ use Rattle.row.specs.declared.form.Kind.the-variants as kind
 use Rattle.row.specs.Row.{Row, kindOf}
 use Rattle.row.specs.Rules.{Await, part, type, key, value, chunk, chunks, cause, wrong}
 use Rattle.row.specs.Rules.{isKind, only, orChunk, begun, next, isDetail, run, whole, isRows}
-use Rattle.row.specs.Sequence.{Plain, Cause, Element, literal, name, Elements, one, more, Named, named, Fields, field, Part}
+use Rattle.row.specs.Sequence.{Plain, Cause, Element, literal, name, Elements, one, more, Named, named, Fields, field, Item}
 use Rattle.row.specs.Sequence.{Sequence, Check, entry, definition, preamble, damage}
 use Rattle.row.specs.Sequence as grammar
 use Rattle.row.proofs.rules.Append.{run-append, run-wrong, rows-append}
@@ -61,7 +61,7 @@ unfolding run
 fields-on a x grammar.Fields.none = x
 fields-on a x (field {f} {rs} n fs) = rw (run-append a f rs, named-on kind.FieldName true a refl (open-field x) n) (fields-on (chunks true) filled fs)
 
-part-on : {p : List Row} → Part p → isRows p ≡ true
+part-on : {p : List Row} → Item p → isRows p ≡ true
 unfolding isRows next run
 part-on (entry {e} {t} {k} {fs} x y z w) =
     rw (row-on kind.Entry (part false) (t ∷ k ∷ fs) refl x, row-on kind.EntryType type (k ∷ fs) refl y, row-on kind.Key key fs refl z)
@@ -101,9 +101,9 @@ record Elemented (f : Bool) (rs : List Row) : Type 0 where
 data Valued (f : Bool) : List Row → Type 0 where
   valued : {v : Row} {rs : List Row} → Plain kind.Value v → Elemented f rs → Valued f (v ∷ rs)
 
-data Further (f : Bool) (rs : List Row) : Type 0 where
-  some : Elemented f rs → Further f rs
-  over : After f rs → Further f rs
+data ElementsOrOver (f : Bool) (rs : List Row) : Type 0 where
+  some : Elemented f rs → ElementsOrOver f rs
+  over : After f rs → ElementsOrOver f rs
 
 data Keyed : List Row → Type 0 where
   keyed : {k : Row} {rs : List Row} → Plain kind.Key k → Fielded rs → Keyed (k ∷ rs)
@@ -121,7 +121,7 @@ Rest type rs = Typed rs
 Rest key rs = Keyed rs
 Rest (value f) rs = Valued f rs
 Rest (chunk f) rs = Elemented f rs
-Rest (chunks f) rs = Further f rs
+Rest (chunks f) rs = ElementsOrOver f rs
 Rest cause rs = Caused rs
 Rest wrong rs = ⊥
 
@@ -154,7 +154,7 @@ field-first {n} x (valued {v} y w) =
 damage-first : {d : Row} {rs : List Row} → Plain kind.Damage d → Caused rs → Sequence (d ∷ rs)
 damage-first x (caused y z) = grammar.Sequence.part (damage x y) z
 
-element-first : (f : Bool) {r : Row} {rs : List Row} → Element r → Further f rs → Elemented f (r ∷ rs)
+element-first : (f : Bool) {r : Row} {rs : List Row} → Element r → ElementsOrOver f rs → Elemented f (r ∷ rs)
 element-first f {r} {rs} x (some w) =
     record { es = r ∷ w .es; others = w .others; elements = more x (w .elements); after = w .after; same = ap (λ (l : List Row). r ∷ l) (w .same) }
 element-first f {r} {rs} x (over a) = record { es = r ∷ []; others = rs; elements = one x; after = a; same = refl }
@@ -218,7 +218,7 @@ module _ (r : Row) (rs : List Row) (d : isDetail (r .kind) (r .detail) ≡ true)
   next-rest key h = let t = passes _ (part true) rs h in keyed (plain kind.Key r refl (t .0) d) (go (part true) (t .1))
   next-rest (value f) h = let t = passes _ (chunk f) rs h in valued (plain kind.Value r refl (t .0) d) (go (chunk f) (t .1))
   next-rest (chunk f) h = element-rest f wrong (Elemented f (r ∷ rs)) (λ x. x) (λ k. absurd (go wrong k)) h
-  next-rest (chunks f) h = element-rest f (begun f (r .kind)) (Further f (r ∷ rs)) some (λ k. over (begun-rest f k)) h
+  next-rest (chunks f) h = element-rest f (begun f (r .kind)) (ElementsOrOver f (r ∷ rs)) some (λ k. over (begun-rest f k)) h
   next-rest cause h = let t = passes _ (part false) rs h in caused (cause-of r (t .0) d) (go (part false) (t .1))
   next-rest wrong h = go wrong h
 

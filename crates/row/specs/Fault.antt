@@ -3,7 +3,7 @@
 --     faultAt         a refusal at an empty place
 --     nowhere         a refusal without a place of its own, which is at 0..0
 --     Answered        the call gives an answer over some lent output
--- Which of them a call can answer is a theorem beside the call's contract: `Refusals.antt` of the crates above.
+-- Which of them a call can answer is a theorem beside the call's contract: `Refusals` of the crates above.
 -- Assumes nothing.
 use Prim.Native.Nat.{ℕ}
 use mathlib.Core.List.{List}

@@ -51,7 +51,7 @@ bit m k = eqb (m / 2 ^ k % 2) 1
 unfoldable pub takenOf : ℕ → ℕ → ℕ → Bool
 takenOf may k d = cond (eqb d 0) (cond (ltb k 10) (bit may k) false) (isDetail k d && eqb may 0x400)
 
--- after a row of kind k that may come, where m is what may come after a literal or a name
+-- the masks after a row of kind k that may come, where m is the mask of what may come after a literal or a name
 unfoldable pub afterOf : ℕ → ℕ → Masks
 afterOf m k =
     cond (eqb k 1) (masks 0x004 0x3D3)

@@ -61,7 +61,7 @@ unfoldable pub flat : List Row → List ℕ
 flat [] = []
 flat (r ∷ rs) = r .kind ∷ r .detail ∷ r .start ∷ r .end ∷ flat rs
 
--- row n, where it fits whole; else nothing
+-- the lent numbers with r written as row n, where that row fits whole; else as they were
 unfoldable pub putRow : List ℕ → ℕ → Row → List ℕ
 putRow [] n r = []
 putRow (a ∷ []) n r = a ∷ []
@@ -70,7 +70,7 @@ putRow (a ∷ b ∷ c ∷ []) n r = a ∷ b ∷ c ∷ []
 putRow (a ∷ b ∷ c ∷ d ∷ l) zero r = r .kind ∷ r .detail ∷ r .start ∷ r .end ∷ l
 putRow (a ∷ b ∷ c ∷ d ∷ l) (suc n) r = a ∷ b ∷ c ∷ d ∷ putRow l n r
 
--- rows from row n on, each only where it fits
+-- the lent numbers with these rows written from row n on, each only where it fits
 unfoldable pub overlay : List ℕ → ℕ → List Row → List ℕ
 overlay b n [] = b
 overlay b n (r ∷ rs) = overlay (putRow b n r) (suc n) rs

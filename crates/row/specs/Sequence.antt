@@ -41,20 +41,20 @@ pub data Fields : List Row → Type 0 where
   none : Fields []
   field : {f rs : List Row} → Named kind.FieldName f → Fields rs → Fields (f ++ rs)
 
-pub data Part : List Row → Type 0 where
+pub data Item : List Row → Type 0 where
   -- "1, 2, 3, then per field 4, 5 .."
-  entry : {e t k : Row} {fs : List Row} → Plain kind.Entry e → Plain kind.EntryType t → Plain kind.Key k → Fields fs → Part (e ∷ t ∷ k ∷ fs)
+  entry : {e t k : Row} {fs : List Row} → Plain kind.Entry e → Plain kind.EntryType t → Plain kind.Key k → Fields fs → Item (e ∷ t ∷ k ∷ fs)
   -- "8, 5 and at least one of 6 or 7"
-  definition : {d : List Row} → Named kind.DefinitionName d → Part d
+  definition : {d : List Row} → Named kind.DefinitionName d → Item d
   -- "0 alone"
-  preamble : {r : Row} → Plain kind.Preamble r → Part (r ∷ [])
+  preamble : {r : Row} → Plain kind.Preamble r → Item (r ∷ [])
   -- "9 then 10"
-  damage : {d c : Row} → Plain kind.Damage d → Cause c → Part (d ∷ c ∷ [])
+  damage : {d c : Row} → Plain kind.Damage d → Cause c → Item (d ∷ c ∷ [])
 
 -- "the sequence is made of"
 pub data Sequence : List Row → Type 0 where
   none : Sequence []
-  part : {p rs : List Row} → Part p → Sequence rs → Sequence (p ++ rs)
+  part : {p rs : List Row} → Item p → Sequence rs → Sequence (p ++ rs)
 
 pub record Check : Type 0 where
   pub accepts : (rs : List Row) → (isRows rs ≡ true) ↔ Sequence rs

@@ -22,7 +22,7 @@ pub enum State {
     Wrong,
 }
 
-// What stands where a value row must: it, and the place after it, or anything else.
+// What stands where a value row must stand: a value row, and the place after it; or anything else.
 pub enum Found {
     Value(usize),
     Other,
@@ -86,7 +86,7 @@ fn next(state: State, kind: u32) -> State
     }
 }
 
-// After a row of the kind with the detail.
+// What may come after a row of the kind with the detail.
 fn step(state: State, kind: u32, detail: u32) -> State
     ensures { λ r. ⌜ r ≡ stateOf (cond (isDetail kind detail) (next (awaitOf state) kind) wrong) ⌝ }
 {

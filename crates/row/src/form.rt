@@ -19,6 +19,15 @@ pub enum Kind {
     Cause,
 }
 
+// The numbers of the kinds that rows are searched for.
+pub const VALUE: u32 = 5;
+
+pub const LITERAL: u32 = 6;
+
+pub const NAME: u32 = 7;
+
+pub const DEFINITION_NAME: u32 = 8;
+
 fn kind_number(kind: Kind) -> u32
     ensures { λ r. ⌜ r ≡ kindOf kind ⌝ }
 {
@@ -28,10 +37,10 @@ fn kind_number(kind: Kind) -> u32
         Kind::EntryType => 2,
         Kind::Key => 3,
         Kind::FieldName => 4,
-        Kind::Value => 5,
-        Kind::Literal => 6,
-        Kind::Name => 7,
-        Kind::DefinitionName => 8,
+        Kind::Value => VALUE,
+        Kind::Literal => LITERAL,
+        Kind::Name => NAME,
+        Kind::DefinitionName => DEFINITION_NAME,
         Kind::Damage => 9,
         Kind::Cause => 10,
     }

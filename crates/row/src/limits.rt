@@ -1,7 +1,25 @@
-// Document 01's limits [01:From file to field]. Each is said here once for the code, and in specs/Limits.antt once for the contracts.
+// Document 01's limits [01:From file to field], and one of our own. Each is said here once for the code, and in specs/Limits.antt once for the
+// contracts.
 
 // The longest file.
 pub const MOST_BYTES: usize = 16_777_215;
 
-// So the last place of a row.
+// The last place that a row can have: the end of the longest file.
 pub const LAST_PLACE: u32 = MOST_BYTES as u32;
+
+// The longest literal that is resolved.
+pub const MOST_LITERAL: usize = 16_384;
+
+// The least scratch of a call that resolves.
+pub const LEAST_SCRATCH: usize = 32_768;
+
+// How many arguments of commands may be open at once.
+pub const MOST_ARGUMENTS: usize = 64;
+
+// How many names may be open at once, and how many a field may resolve.
+pub const MOST_OPEN: usize = 32;
+
+pub const MOST_NAMES: usize = 4_096;
+
+// Our own: the most chunk rows and the most bytes of text that are written, since the numbers of a chunk row have 32 bits.
+pub const MOST_WRITTEN: usize = 4_294_000_000;

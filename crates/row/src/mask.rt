@@ -1,6 +1,6 @@
 // The row check by masks, for loops that judge many rows: the kinds that may come next are the bits of a number, and a row costs a shift
 // where check.rt matches on a state. Both are proved against specs/Rules.antt, the one definition of a right sequence: the laws `masks-step`
-// and `masks-whole` of proofs/Masks.antt say that the masks lead where the rules lead.
+// and `masks-whole` of proofs/rules/Masks.antt say that the masks lead where the rules lead.
 use crate::check;
 ghost use mathlib.Core.Path.{_≡_};
 ghost use mathlib.Core.Bool.{false};
@@ -11,7 +11,7 @@ ghost use Rattle.row.specs.Masks.{masksOf, takenOf, afterOf, stepOf, end
 // the next literal or name: another of these, a new part of the sequence, and in an entry a field.
 pub struct Masks(pub u32, pub u32);
 
-// Before the first row.
+// The masks before the first row.
 pub fn first() -> Masks
     ensures { λ r. ⌜ r ≡ masksOf (part false) ⌝ }
 {
@@ -31,7 +31,7 @@ fn is_taken(may: u32, kind: u32, detail: u32) -> bool
     false
 }
 
-// After a row of the kind, which may come.
+// The masks after a row of the kind, which may come.
 fn after(more: u32, kind: u32) -> Masks
     ensures { λ r. ⌜ r ≡ afterOf more kind ⌝ }
 {
@@ -48,7 +48,7 @@ fn after(more: u32, kind: u32) -> Masks
     }
 }
 
-// After a row of the kind with the detail. Once a row breaks the rules, nothing may come.
+// The masks after a row of the kind with the detail. Once a row breaks the rules, nothing may come.
 pub fn step(masks: Masks, kind: u32, detail: u32) -> Masks
     ensures { λ r. ⌜ r ≡ stepOf masks kind detail ⌝ }
 {

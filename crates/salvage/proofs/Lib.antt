@@ -6,11 +6,11 @@ pub mod cutting
 pub mod rows
 -- the ways through the functions of the code
 pub mod ways
--- the proof of specs/Demand3.antt
+-- the proof of specs/Demand3.antt: one author's damaged file never costs another's entry
 pub mod Demand3
--- the proof of specs/Worked.antt
+-- the proof of specs/Worked.antt: two cases that compute
 pub mod Worked
--- the proof of specs/Refusals.antt
+-- the proof of specs/Refusals.antt: which refusals salvage can answer
 pub mod Refusals
 -- any two outcomes that the public contract allows are the same
 pub mod Unique

@@ -108,5 +108,5 @@ pub record Demand3 : Type 0 where
   pub checked : (s : List ℕ) → length s ≤ mostBytes → isRows (salvageOf s) ≡ true
   pub rising : (s : List ℕ) → Rising 0 (salvageOf s)
   pub inside : (s : List ℕ) → SpansIn (length s) (salvageOf s)
-  -- and they are at most one more than the bytes
+  -- Besides: the rows are at most one more than the bytes
   pub few : (s : List ℕ) → length (salvageOf s) ≤ suc (length s)

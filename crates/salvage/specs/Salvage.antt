@@ -2,7 +2,7 @@
 -- Each piece is checked for UTF-8 and read alone. Of a refused piece only kinds 9 (the piece) and 10 remain."
 --     cut             the pieces of a file
 --     told            the rows that a piece gives
---     salvageOf       those of a file, each piece at its place
+--     salvageOf       the rows that a file gives, each piece at its place
 --     Salvage         the contract of `salvage`
 -- Assumes nothing.
 use Prim.Native.Nat.{ℕ, _+_}

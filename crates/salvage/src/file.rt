@@ -13,7 +13,7 @@ ghost use mathlib.Core.Bool.{true};
 ghost use Prim.Native.Nat.{min};
 ghost use Rattle.row.specs.Rules.{clean};
 ghost use Rattle.salvage.specs.Salvage.{salvageOf, Salvage};
-ghost use Rattle.salvage.specs.Inner.{ValidTo, FileToRead, Fills, Counted};
+ghost use Rattle.salvage.specs.Inner.{ValidTo, FileToRead, FillsRows, RowsToWrite};
 
 // The end of the longest front of a file that is valid UTF-8. The pieces in it need no check of their own.
 fn valid_to(s: &[u8]) -> usize
@@ -35,7 +35,7 @@ fn least(a: usize, b: usize) -> usize
 // counted.
 fn read_pieces(s: &[u8], rows: &mut [u32], valid: usize) -> Tally
     requires { ⌜ FileToRead (now s) valid ⌝ }
-    ensures { λ r. ⌜ Fills (now (s .entry)) (now (rows .entry)) r (now (rows .exit)) ⌝ }
+    ensures { λ r. ⌜ FillsRows (now (s .entry)) (now (rows .entry)) r (now (rows .exit)) ⌝ }
 {
     let mut at = 0;
     let mut n = 0;
@@ -63,7 +63,7 @@ fn read_pieces(s: &[u8], rows: &mut [u32], valid: usize) -> Tally
 
 // The answer for a file without damage. Its rows are those of strict reading, which needs no pieces.
 fn write_sound(s: &[u8], rows: &mut [u32], n: usize) -> Reading
-    requires { ⌜ Counted (now s) n × (clean (salvageOf (now s)) ≡ true) ⌝ }
+    requires { ⌜ RowsToWrite (now s) n × (clean (salvageOf (now s)) ≡ true) ⌝ }
     ensures { λ r. ⌜ Salvage (now (s .entry)) (now (rows .entry)) r (now (rows .exit)) ⌝ }
 {
     if rows.len() / 4 < n {
@@ -79,7 +79,7 @@ fn write_sound(s: &[u8], rows: &mut [u32], n: usize) -> Reading
 
 // The answer for a file with damage. The pieces are lent only the numbers that the rows will fill, so that none of the others change.
 fn write_damaged(s: &[u8], rows: &mut [u32], n: usize, valid: usize) -> Reading
-    requires { ⌜ Counted (now s) n × FileToRead (now s) valid ⌝ }
+    requires { ⌜ RowsToWrite (now s) n × FileToRead (now s) valid ⌝ }
     ensures { λ r. ⌜ Salvage (now (s .entry)) (now (rows .entry)) r (now (rows .exit)) ⌝ }
 {
     if rows.len() / 4 < n {

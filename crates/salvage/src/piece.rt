@@ -14,7 +14,7 @@ ghost use Rattle.row.specs.Row.{moved, overlay};
 ghost use Rattle.raw.specs.Read.{strict};
 ghost use Rattle.raw.specs.Says.{Says, Within};
 ghost use Rattle.salvage.specs.Salvage.{head, newline, damaged};
-ghost use Rattle.salvage.specs.Inner.{Ends, Puts, PieceToRead, DamageToWrite};
+ghost use Rattle.salvage.specs.Inner.{PieceEnds, PutsPiece, PieceToRead, DamageToWrite};
 
 // A number of rows, and whether damage is among them.
 pub enum Tally {
@@ -37,7 +37,7 @@ fn begins(s: &[u8], i: usize) -> bool
 // short piece than the blocks of `find`.
 fn short_length(s: &[u8], at: usize) -> usize
     requires { ⌜ at + 8 ≤ length (now s) ⌝ }
-    ensures { λ r. ⌜ (0 < r → Ends (now (s .entry)) at (at + r)) ⌝ }
+    ensures { λ r. ⌜ (0 < r → PieceEnds (now (s .entry)) at (at + r)) ⌝ }
 {
     let mut k = 1;
     while k < 8 {
@@ -52,7 +52,7 @@ fn short_length(s: &[u8], at: usize) -> usize
 // The end of the piece that begins at a place, however long: each "@" is found, and the byte before it tells.
 fn far_end(s: &[u8], at: usize) -> usize
     requires { ⌜ at < length (now s) ⌝ }
-    ensures { λ r. ⌜ Ends (now (s .entry)) at r ⌝ }
+    ensures { λ r. ⌜ PieceEnds (now (s .entry)) at r ⌝ }
 {
     let mut i = at;
     loop {
@@ -70,7 +70,7 @@ fn far_end(s: &[u8], at: usize) -> usize
 // The end of the piece that begins at a place: after the first newline that a head follows, or at the end of the file.
 pub fn piece_end(s: &[u8], at: usize) -> usize
     requires { ⌜ at < length (now s) ⌝ }
-    ensures { λ r. ⌜ Ends (now (s .entry)) at r ⌝ }
+    ensures { λ r. ⌜ PieceEnds (now (s .entry)) at r ⌝ }
 {
     if 8 <= s.len() - at {
         let k = short_length(s, at);
@@ -111,7 +111,7 @@ fn write_damage(w: &[u8], base: usize, rows: &mut [u32], fault: Fault)
 // overwritten by its damage and cause, or stands behind these, where the rows of later pieces go.
 pub fn read_piece(w: &[u8], base: usize, rows: &mut [u32], valid: bool) -> Tally
     requires { ⌜ PieceToRead (now w) base valid ⌝ }
-    ensures { λ r. ⌜ Puts (now (w .entry)) base (now (rows .entry)) r (now (rows .exit)) ⌝ }
+    ensures { λ r. ⌜ PutsPiece (now (w .entry)) base (now (rows .entry)) r (now (rows .exit)) ⌝ }
 {
     match read_alone(w, base, rows, valid) {
         Answer::Next { at: _, n } => Tally::Sound(n),

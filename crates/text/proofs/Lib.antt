@@ -6,9 +6,9 @@ pub mod general
 pub mod sequences
 -- classes, blocks and the scanner
 pub mod scanning
--- the proof of specs/Rfc3629.antt
+-- the proof of specs/Rfc3629.antt: UTF-8 is as RFC 3629 has it
 pub mod Rfc3629
--- the proof of specs/Boundaries.antt
+-- the proof of specs/Boundaries.antt: the scanner goes from boundary to boundary
 pub mod Boundaries
 -- the proof of specs/Seeing.antt: what the scanner sees, for the crates above
 pub mod Seeing

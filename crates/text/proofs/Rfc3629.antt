@@ -1,5 +1,4 @@
--- The proof of specs/Rfc3629.antt, by the laws of Octets, ScalarValues and CutPlaces in sequences/.
---     rfc3629
+-- The proof of specs/Rfc3629.antt, by the laws of Octets, ScalarValues and CutPlaces in sequences/: `rfc3629`.
 -- Assumes nothing.
 use Rattle.text.specs.Rfc3629.{Rfc3629}
 use Rattle.text.proofs.sequences.Octets as octets

@@ -1,5 +1,4 @@
--- The proof of specs/Seeing.antt, by the laws of scanning/.
---     seeing
+-- The proof of specs/Seeing.antt, by the laws of scanning/: `seeing`.
 -- Assumes nothing.
 use Rattle.text.specs.Seeing.{Seeing}
 use Rattle.text.proofs.scanning.Seen as seen

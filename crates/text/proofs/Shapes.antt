@@ -1,7 +1,8 @@
--- The proof of specs/Shapes.antt, by the laws of sequences/.
---     shapes
+-- The proof of specs/Shapes.antt, by the laws of sequences/: `shapes`.
 -- Assumes nothing.
-use Rattle.text.specs.Shapes.{Shapes}
+use mathlib.Core.List.{[], _∷_}
+use Rattle.text.specs.Utf8.{octets as codes}
+use Rattle.text.specs.Shapes.{one, Shapes}
 use Rattle.text.proofs.sequences.Alternatives as alternatives
 use Rattle.text.proofs.sequences.Lengths as lengths
 use Rattle.text.proofs.sequences.ScalarValues as values
@@ -22,4 +23,6 @@ shapes = record {
   octets-char = octets.octets-char;
   octets-append = octets.octets-append;
   octets-after = octets.octets-after;
+  ascii-text = λ b h. octets.octets-char (b ∷ []) (lengths.shape-char (one h));
+  char-text = λ c e. octets.octets-char (codes c) (values.writes c e);
 }

@@ -2,6 +2,8 @@
 
 -- what follows from a test that passes, and tests that only ASCII passes
 pub mod Tests
+-- lists, and the numbers that count in them
+pub mod Lists
 -- a fact about every number below a bound, from one test that the checker computes at each of them
 pub mod Below
 -- a text from a place on, octet by octet
@@ -9,6 +11,6 @@ pub mod Places
 -- a part of a text, from one place to another
 pub mod Parts
 -- texts compared byte by byte
-pub mod Same
+pub mod SameBytes
 -- what it means that a contract allows one outcome only
 pub mod Outcomes

@@ -62,9 +62,10 @@ pub record Letters (s : List ℕ) (i r : ℕ) : Type 0 where
   pub to : r ≤ max i (length s)
   pub letters : (k : ℕ) → i ≤ k → k < r → letterOf (getD s k 0) ≡ true
 
--- white space of ASCII; and what ends a key or may not be one, as far as ASCII goes
+-- white space of ASCII
 abbrev pub blankOf : ℕ → Bool
 blankOf b = eqb b 0x20 || within (0x09 – 0x0D) b
 
+-- a byte that may end a key. Any other byte is ASCII and part of a key, so `eat_key` passes it without a closer look
 abbrev pub rareOf : ℕ → Bool
 rareOf b = (leb b 0x20 || eqb b 0x2C) || leb 0x7D b

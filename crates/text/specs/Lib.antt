@@ -4,7 +4,8 @@ pub mod Utf8
 pub mod Strings
 pub mod Class
 pub mod Scan
-pub mod Same
+pub mod SameBytes
+pub mod Every
 pub mod Rfc3629
 pub mod Boundaries
 pub mod Block

@@ -1,4 +1,4 @@
--- What the definitions of `Utf8` settle, each a sentence of demand 2's "UTF-8 is proved against RFC 3629".
+-- What the definitions of `Utf8` settle. Demand 2: "UTF-8, white space and accent composition are proved against RFC 3629 and Unicode".
 -- The proof is `rfc3629` of proofs/Rfc3629.antt. Assumes nothing.
 use Prim.Native.Nat.{ℕ, _+_, _≤_, _<_}
 use mathlib.Core.Path.{_≡_}

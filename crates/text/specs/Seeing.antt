@@ -30,7 +30,7 @@ pub record Seeing : Type 0 where
   pub see-inside : (s : List ℕ) (i : ℕ) → Inside s i (see s i)
   pub see-ahead : (s : List ℕ) (p c n : ℕ) → see s p ≡ Char c n → (p < n) × (n ≤ length s)
   pub char-inside : (s : List ℕ) (i : ℕ) {g : Seen} {c n : ℕ} → Inside s i g → g ≡ Char c n → (i < n) × (n ≤ length s)
-  -- a text shows the same moved behind another, and before one that goes on no character of it
+  -- a text shows the same where it stands behind another text, and where one follows it that does not begin with a tail
   pub see-up : (a s : List ℕ) (p : ℕ) → see (a ++ s) (p + length a) ≡ seenUp (length a) (see s p)
   pub see-front : (s t : List ℕ) (p : ℕ) → within tail (getD t 0 256) ≡ false → p < length s → see (s ++ t) p ≡ see s p
   -- a scan ends at the end of the text, goes on past a character that passes the test, and ends at one that does not

@@ -43,7 +43,7 @@ pub record Shapes : Type 0 where
   pub shape-char : {w : List ℕ} → Shape w → isChar w ≡ true
   -- it has an octet, and four at most
   pub char-some : (w : List ℕ) → isChar w ≡ true → (0 < length w) × (length w ≤ 4)
-  -- its first octet is no tail, where it stands in a text too; d is what stands past the end. Its other octets are tails
+  -- its first octet is no tail, also where a text follows; d is what `getD` gives past the end. Its other octets are tails
   pub char-first : (w t : List ℕ) (d : ℕ) → isChar w ≡ true → within tail (getD (w ++ t) 0 d) ≡ false
   pub char-further : (w : List ℕ) (n d : ℕ) → isChar w ≡ true → 0 < n → n < length w → within tail (getD w n d) ≡ true
   -- the sequence that a text begins with lies inside it, and a text that begins with a tail begins with none
@@ -52,7 +52,10 @@ pub record Shapes : Type 0 where
   -- the scanner reads its value, and what `encode` writes of a scalar value has this value
   pub code-char : (w t : List ℕ) → isChar w ≡ true → code (w ++ t) ≡ value w
   pub reads : (c : ℕ) → isScalar c ≡ true → value (octets c) ≡ c
-  -- a sequence is UTF-8, so are two texts put together, and so is what follows a text that is, where the whole is
+  -- a sequence is UTF-8; two texts that are UTF-8 are so when put together; where a text and a beginning of it are UTF-8, so is the rest
   pub octets-char : (w : List ℕ) → isChar w ≡ true → Octets w
   pub octets-append : {u t : List ℕ} → Octets u → Octets t → Octets (u ++ t)
   pub octets-after : {u : List ℕ} (t : List ℕ) → Octets u → Octets (u ++ t) → Octets t
+  -- an octet of ASCII is a text that is UTF-8, and so is what `encode` writes of a scalar value
+  pub ascii-text : (b : ℕ) → b ≤ 0x7F → Octets (b ∷ [])
+  pub char-text : (c : ℕ) → isScalar c ≡ true → Octets (octets c)

@@ -141,6 +141,6 @@ pub record Encode (c : ℕ) (b : List ℕ) (r : Encoded) (b′ : List ℕ) : Typ
   pub answer : r ≡ cond (isScalar c) (cond (fits c b) (encoded.Wrote (length (octets c))) encoded.NoRoom) encoded.NotScalar
   pub bytes : b′ ≡ cond (isScalar c && fits c b) (octets c ++ drop (length (octets c)) b) b
 
--- a place of the text, or its end, where no octet goes on a sequence; past the end 256 stands, which is no octet
+-- a place of the text, or its end, at which no tail of a sequence stands. Past the end `getD` gives 256, which is no octet
 unfoldable pub isBoundary : List ℕ → ℕ → Bool
 isBoundary s n = leb n (length s) && not (within tail (getD s n 256))

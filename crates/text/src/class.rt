@@ -110,7 +110,8 @@ pub fn holds(t: Test, c: u32) -> bool
     }
 }
 
-// A test by what passes it: of ASCII a bit for each character, the first 64 in low and the others in high; and whether nothing else does.
+// A test, by what passes it: a bit for each character of ASCII, the first 64 in `low` and the others in `high`; and in `narrow`, whether no
+// character beyond ASCII passes.
 pub struct Masks {
     pub low: u64,
     pub high: u64,

@@ -18,7 +18,7 @@ pub enum Seen {
     Char { code: u32, next: usize },
 }
 
-// What is not ASCII, mostly: out of the way of the callers' loops.
+// `peek` where the byte is not ASCII, kept out of the callers' loops. It is right at any byte.
 fn peek_wide(s: &[u8], at: usize) -> Seen
     requires { ⌜ at < length (now s) ⌝ }
     ensures { λ r. ⌜ r ≡ see (now (s .entry)) at ⌝ }
@@ -126,7 +126,7 @@ fn eat_rest(s: &[u8], at: usize, t: Test, want: bool) -> usize
     i
 }
 
-// The same, with a loop of its own over ASCII, which is small enough to be made for each test.
+// `eat_rest`, with a loop of its own over ASCII, which is small enough to be made for each test.
 fn eat_run(s: &[u8], at: usize, t: Test, want: bool) -> usize
     ensures { λ r. ⌜ (r ≡ skip (wants t want) (now (s .entry)) at) × Ahead (now (s .entry)) at r ⌝ }
 {
@@ -163,7 +163,7 @@ pub fn eat_if(s: &[u8], at: usize, t: Test) -> usize
     at
 }
 
-// The same for one character of ASCII.
+// The place after the character x of ASCII, if it stands at the place; else the place itself.
 pub fn eat_byte(s: &[u8], at: usize, x: u8) -> usize
     requires { ⌜ x < 0x80 ⌝ }
     ensures { λ r. ⌜ (r ≡ pastOne (single x) at (see (now (s .entry)) at)) × Ahead (now (s .entry)) at r ⌝ }
@@ -189,7 +189,8 @@ fn is_letter(b: u8) -> bool
     ((0x61 <= b) & (b <= 0x7a)) | ((0x41 <= b) & (b <= 0x5a))
 }
 
-// By comparisons, with nothing called in the loop: small enough to stand in each caller. Most white space is U+0020, and most of what ends it is ASCII.
+// By comparisons, with nothing called in the loop: small enough to stand in each caller. Most white space is U+0020, and most of what ends it is
+// ASCII.
 pub fn eat_whitespace(s: &[u8], at: usize) -> usize
     ensures { λ r. ⌜ (r ≡ skip isWhitespace (now (s .entry)) at) × Ahead (now (s .entry)) at r ⌝ }
 {
@@ -292,7 +293,7 @@ fn least(a: usize, b: usize) -> usize
     if a < b { a } else { b }
 }
 
-// The text from a place to another, as far as it goes.
+// The text from one place to another, as far as it goes.
 pub fn from(s: &[u8], start: usize, at: usize) -> &[u8]
     ensures { λ r. ⌜ now r ≡ part (now (s .entry)) start at ⌝ }
 {

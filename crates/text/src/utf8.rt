@@ -62,7 +62,7 @@ fn goes_second(a: u8, b: u8) -> bool
     }
 }
 
-// Whether the octets behind a, which starts a sequence of n at a place, go on that sequence.
+// Whether the octets behind a, which starts a sequence of n octets at a place, continue that sequence.
 fn goes_on(s: &[u8], at: usize, a: u8, n: usize) -> bool
     requires { ⌜ (at + n ≤ length (now s)) × (2 ≤ n) × (n ≤ 4) ⌝ }
     ensures { λ r. ⌜ r ≡ begins (seconds a ∷ replicate (n - 2) tail) (drop (at + 1) (now (s .entry))) ⌝ }
@@ -161,8 +161,8 @@ fn wide_at(s: &[u8]) -> usize
     at
 }
 
-// `validate`, quicker for a text of a few bytes: one that is ASCII, or whose first octet that is not begins no sequence, is told here, with
-// nothing prepared for blocks.
+// `validate`, quicker for a text of a few bytes: a text that is ASCII, or whose first octet beyond ASCII begins no sequence, is settled here,
+// with nothing prepared for blocks.
 pub fn validate_short(s: &[u8]) -> Validity
     ensures { λ r. ⌜ r ≡ validityOf (now (s .entry)) ⌝ }
 {
@@ -179,7 +179,7 @@ pub fn validate_short(s: &[u8]) -> Validity
     validate(s)
 }
 
-// The low six bits of an octet that goes on a sequence.
+// The low six bits of an octet that continues a sequence.
 fn six(b: u8) -> u32
     ensures { λ r. ⌜ r ≡ b % 64 ⌝ }
 {

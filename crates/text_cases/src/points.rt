@@ -7,7 +7,7 @@ use text::utf8::Decoded;
 use text::utf8::Encoded;
 use text::utf8::Validity;
 
-// How many code points there were of each kind, by the number of their octets.
+// How many code points there are with each number of octets; `none` counts those that are no scalar values.
 struct Tally {
     none: u32,
     one: u32,

@@ -8,7 +8,7 @@ pub fn say(s: &[u8]) {
     io::write_all(1, s);
 }
 
-// The code points that the scanner sees, one after the other.
+// Prints the code points that the scanner sees, one after the other.
 fn walk(s: &[u8]) {
     let mut at = 0;
     loop {
@@ -70,7 +70,7 @@ pub fn rfc() {
     );
 }
 
-// The Unicode Standard, section 3.9: the tables of ill-formed sequences, 3-8 to 3-11, and the older 3-8.
+// The Unicode Standard, section 3.9: the tables of ill-formed sequences, 3-8 to 3-11, and table 3-8 of Unicode 6.0.
 pub fn unicode() {
     show(
         b"Unicode 3-8, not the shortest form",

@@ -6,3 +6,5 @@ pub mod contents
 pub mod ways
 -- the proof of specs/Turning.antt: turns and what they see, for the crate above
 pub mod Turning
+-- any two answers that a contract allows are the same
+pub mod Unique

@@ -1,4 +1,4 @@
--- One law for each way through a function, over what its calls told.
+-- One law for each way through a function, over what its calls answered.
 
 -- chains of tests, as the code joins them and as the definitions do
 pub mod TestChains
@@ -6,7 +6,7 @@ pub mod TestChains
 pub mod TextTurns
 -- the ways through the functions of src/turn.rt
 pub mod TextWays
--- what the functions of src/turn.rt answer, in the form of their proofs
+-- `other`, `back_blank` and `back_control`: what they answer, in the form of their proofs
 pub mod TextAnswers
 -- what `command`, `backslash` and `text_at` answer, in the form of their proofs; and which bytes end a text or a chunk
 pub mod CommandAnswers

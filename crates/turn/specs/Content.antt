@@ -37,6 +37,7 @@ pub data Part : Type 0 where
   cut : ℕ → ℕ → ℕ → Part
   math : List ℕ → ℕ → ℕ → Part
 
+-- a reader of content emits parts
 abbrev pub Reader : Type 0
 Reader = ReaderOf Part
 
@@ -54,6 +55,7 @@ state cs k t a = record { done = cs; kind = k; text = t; start = a }
 abbrev pub pushed : State → ℕ → List Chunk
 pushed σ e = σ .done ++ chunk (σ .kind) (σ .text) (σ .start) e ∷ []
 
+-- the state after one part more
 abbrev pub step : State → Part → State
 step σ (put w) = state (σ .done) (σ .kind) (σ .text ++ w) (σ .start)
 step σ (cut d e b) = state (pushed σ e) (defaultChunk d) [] b
@@ -82,6 +84,7 @@ chunksOf p e xs = let σ : State = steps (beginning p) xs in closed σ e (σ .te
 abbrev pub refusedByte : Reason → ℕ → Fault
 refusedByte reason p = record { reason = reason; start = p; end = p + 1 }
 
+-- puts the text w, and reads nothing
 abbrev pub write : List ℕ → Reader
 write w s p = ok p (put w ∷ [])
 
@@ -89,12 +92,14 @@ write w s p = ok p (put w ∷ [])
 abbrev pub copy : Reader
 copy s p = ok (nextOf p (see s p)) (put (part s p (nextOf p (see s p))) ∷ [])
 
+-- eats the characters that pass the test t, and puts nothing
 abbrev pub past : (ℕ → Bool) → Reader
 past t s p = ok (skip t s p) []
 
 -- ---- [resolve.rs:command]
 
--- "A command's argument ends at its counted brace with no regard for backslashes" [01:Resolving and writing]: with d braces open inside it
+-- "A command's argument ends at its counted brace with no regard for backslashes" [01:Resolving and writing]: one turn of the search for that
+-- brace, with d braces open inside the argument
 unfoldable pub endTurn : ℕ → Reader
 endTurn zero =
     past (fails test.Brace) then
@@ -107,16 +112,17 @@ endTurn (suc d) =
     (when (is 0x7B) (turn (suc (suc d)))
     (refuse UnexpectedEof))
 
+-- the place of the brace that closes an argument
 unfoldable pub argumentEnd : Reader
 argumentEnd = many endTurn 0
 
--- what a command comes to whose argument begins at p and was read as an outcome
+-- what a command comes to, by the outcome of reading its argument, which begins at p
 abbrev pub ran : ℕ → List ℕ → OutOf Part → (List ℕ → OutOf Part) → OutOf Part
 ran p name (ok q xs) g = g (executeCommand name (given (formatVerbatim (chunksOf p q xs))))
 ran p name (again q xs a) g = g (executeCommand name (given (formatVerbatim (chunksOf p q xs))))
 ran p name (bad f) g = bad f
 
--- by where an argument ends
+-- what g gives for the place where an argument ends; or the refusal, where it has no end
 abbrev pub endsAt : OutOf Part → (ℕ → OutOf Part) → OutOf Part
 endsAt (ok e xs) g = g e
 endsAt (again e xs a) g = g e
@@ -128,15 +134,17 @@ braced argument name s b =
     endsAt (argumentEnd s b) (λ e.
     ran b name (argument (take e s) b) (λ w. ok (e + 1) (put w ∷ [])))
 
+-- an opening brace is seen
 abbrev pub opensAt : Seen → Bool
 opensAt End = false
 opensAt (Char c n) = eqb c 0x7B
 
--- whether a command takes the one character behind it: its name is the character c, from p to e, where the first character ends at n; white
--- space goes on from e to w
+-- whether a command takes the one character behind it as its argument. Its name begins with the character c, which ends at n; the name ends
+-- at e, and the white space behind it at w
 abbrev pub takesOne : ℕ → ℕ → ℕ → ℕ → List ℕ → Bool
 takesOne c n e w s = not (opensAt (see s w)) && eqb n e && not (eqb c 0x2D) && isSingleCharFunc c (not (eqb e w))
 
+-- a command whose name stands from p to e, by what follows: the one character that it takes, an argument in braces, or no argument
 unfoldable pub withName : Reader → ℕ → ℕ → ℕ → ℕ → ℕ → Reader
 withName argument c p n e w s q =
     cond (takesOne c n e w s)
@@ -154,7 +162,7 @@ command argument c n s p = withName argument c p n (nameEnd c n s) (skip isWhite
 
 -- ---- [resolve.rs:backslash], behind the backslash
 
--- a character that stands for itself: `^` and `~` are names of commands instead
+-- a character that stands for itself behind a backslash: `^` and `~` are names of commands instead
 abbrev pub isEscape : Bool → ℕ → Bool
 isEscape verb c = not (mark (0x5E ∷ 0x7E ∷ []) c) && isEscapable c verb true
 
@@ -162,6 +170,7 @@ isEscape verb c = not (mark (0x5E ∷ 0x7E ∷ []) c) && isEscapable c verb true
 abbrev pub begins : ℕ → Bool
 begins c = not (isWhitespace c) && not (isControl c)
 
+-- by what is seen behind the backslash
 abbrev pub backslashAt : Reader → Bool → List ℕ → ℕ → Seen → OutOf Part
 backslashAt argument true s p End = ok p (put (0x5C ∷ []) ∷ [])
 backslashAt argument false s p End = bad (faultAt UnexpectedEof p)
@@ -175,7 +184,7 @@ backslashAt argument false s p (Char c n) =
 unfoldable pub backslash : Reader → Bool → Reader
 backslash argument verb s p = backslashAt argument verb s p (see s p)
 
--- ---- [resolve.rs:math], at the dollar sign, where a chunk with d braces open ends
+-- ---- [resolve.rs:math], at the dollar sign, where the chunk under construction ends; d braces are open
 
 unfoldable pub maths : ℕ → Reader
 maths d s p =
@@ -188,6 +197,7 @@ maths d s p =
 abbrev pub turnaround : ℕ → Reader
 turnaround d s p = ok (p + 1) (cut d p (p + 1) ∷ [])
 
+-- at a closing brace, which is refused where no brace is open
 unfoldable pub closing : ℕ → Reader
 closing zero s p = bad (refusedByte UnexpectedClosingBrace p)
 closing (suc d) s p = again (p + 1) (cut d p (p + 1) ∷ []) d
@@ -214,11 +224,12 @@ contentTurn argument verb d =
     (sees any (copy then turn d)
     stop))))))
 
+-- content, where `argument` reads what stands in a command's braces
 unfoldable pub contentBy : Reader → Bool → Reader
 contentBy argument verb = many (contentTurn argument verb) 0
 
--- what stands in a command's braces, with n arguments left to open. "A command's argument is never verbatim" [01:From file to field]; one too
--- many is refused at "the byte of the argument's opening brace" [01:Numbers a caller can get]
+-- what stands in a command's braces, with n arguments left to open. "A command's argument is never verbatim" [01:From file to field]; an
+-- argument too many is refused at "the byte of the argument's opening brace" [01:Numbers a caller can get]
 unfoldable pub inside : ℕ → Reader
 inside zero s p = bad (refusedByte TooDeep (p - 1))
 inside (suc n) s p = contentBy (inside n) false s p
@@ -228,6 +239,7 @@ content n verb = contentBy (inside n) verb
 
 -- ---- [resolve.rs:flatten]
 
+-- "Flattening joins neighbours of the same kind, Normal or Verbatim" [01:Resolving and writing]
 abbrev pub joins : Kind → Kind → Bool
 joins Normal Normal = true
 joins Normal Verbatim = false
@@ -241,6 +253,7 @@ joins Math k = false
 abbrev pub join : Chunk → Chunk → Chunk
 join c d = chunk (c .kind) (c .text ++ d .text) (c .start) (d .end)
 
+-- c is the chunk that the next ones are joined to, as long as they join
 unfoldable pub flattenFrom : Chunk → List Chunk → List Chunk
 flattenFrom c [] = c ∷ []
 flattenFrom c (d ∷ cs) = cond (joins (c .kind) (d .kind)) (flattenFrom (join c d) cs) (c ∷ flattenFrom d cs)

@@ -19,10 +19,11 @@ ghost use Rattle.text.specs.Class.{isWhitespace, isControl};
 ghost use Rattle.text.specs.Scan.{see, nextOf, part, Ahead};
 ghost use Rattle.command.specs.Execute.{given, absent};
 ghost use Rattle.turn.specs.Content.{isEscape, begins, argumentEnd, nameEnd, opensAt, takesOne};
-ghost use Rattle.turn.specs.Turns.{isPlain, isSign, endsText, Ordinary, Behind, Command, Steps, Runs, Wrote, Grows, Took, SaysText, GrowsText, ReadyText, endOf, EndInside};
+ghost use Rattle.turn.specs.Turns.{isPlain, isSign, endsText, Ordinary, Behind, Command, CopiesOne, CopiesAll, Wrote};
+ghost use Rattle.turn.specs.Turns.{Grows, Took, SaysText, GrowsText, ReadyText, endOf, EndInside};
 
-// What came of it: the content has ended; text was written, up to a place of the content and a new end of the text; it is refused; or a command
-// has an argument in braces: what its name means, where the name ends, and where the argument begins and ends.
+// What came of a turn: the content has ended; text was written, up to a place of the content and a new end of the text; the content is refused;
+// or a command has an argument in braces: what its name means, where the name ends, and where the argument begins and ends.
 pub enum Text {
     End,
     Put {
@@ -51,13 +52,15 @@ fn is_escape(c: u32, verb: bool) -> bool
     (c != 0x5e) & (c != 0x7e) & biblatex::is_escapable(c, verb, true)
 }
 
+// The bytes that stand for themselves, whatever follows them.
 fn is_plain(b: u8) -> bool
     ensures { λ r. ⌜ r ≡ isPlain b ⌝ }
 {
     (0x20 < b) & (b < 0x7f) & (b != 0x24) & (b != 0x2d) & (b != 0x5c) & (b != 0x7b) & (b != 0x7d)
 }
 
-// Whether a character is white space. Most that are not ASCII are settled by where they stand: none is white between 0xA0 and 0x1680, nor past 0x3000.
+// Whether a character is white space. Most characters beyond ASCII are settled by their number: none is white space between 0xA0 and 0x1680, nor
+// past 0x3000.
 fn is_white(c: u32) -> bool
     ensures { λ r. ⌜ r ≡ isWhitespace c ⌝ }
 {
@@ -67,10 +70,10 @@ fn is_white(c: u32) -> bool
     class::is_whitespace(c)
 }
 
-// The place after a blank by itself, or after a character of several bytes that is no white space; at any other, the place itself.
+// The place after a single blank, or after a character of several bytes that is no white space; at anything else, the place itself.
 fn past_rare(s: &[u8], at: usize) -> usize
     requires { ⌜ at < length (now s) ⌝ }
-    ensures { λ r. ⌜ Steps (now (s .entry)) at r ⌝ }
+    ensures { λ r. ⌜ CopiesOne (now (s .entry)) at r ⌝ }
 {
     if s[at] == 0x20 {
         let after = scanner::eat_whitespace(s, at);
@@ -95,7 +98,7 @@ fn past_rare(s: &[u8], at: usize) -> usize
 
 // The place after the characters from a place on that stand for themselves, and single blanks between them.
 fn run(s: &[u8], at: usize) -> usize
-    ensures { λ r. ⌜ Runs (now (s .entry)) at r ⌝ }
+    ensures { λ r. ⌜ CopiesAll (now (s .entry)) at r ⌝ }
 {
     let mut i = at;
     while i < s.len() {
@@ -133,7 +136,7 @@ fn hyphens(s: &[u8], at: usize, out: &mut [u8], len: usize) -> Grown
     Grown { at: three, len: l }
 }
 
-// White space, which is one blank; or any other character.
+// White space, which is written as one blank; or any other character, which is copied.
 fn other(s: &[u8], verb: bool, at: usize, out: &mut [u8], len: usize) -> Grown
     requires { ⌜ (at < length (now s)) × Ordinary verb (getD (now s) at 0) × (getD (now s) at 0 ≡ 0x5C → ⊥) × (getD (now s) at 0 ≡ 0x2D → verb ≡ true)
         × (len + 2 * length (now s) ≤ length (now out) + 2 * at) ⌝ }
@@ -174,7 +177,7 @@ fn is_sign(b: u8, verb: bool) -> bool
     (b == 0x7b) | (b == 0x7d) | ((b == 0x24) & !verb)
 }
 
-// Whether such a byte stands at a place.
+// Whether a chunk ends before the byte at a place.
 pub fn sign_at(s: &[u8], verb: bool, at: usize) -> bool
     ensures { λ r. ⌜ r ≡ isSign verb (getD (now (s .entry)) at 0) ⌝ }
 {
@@ -184,7 +187,7 @@ pub fn sign_at(s: &[u8], verb: bool, at: usize) -> bool
     is_sign(s[at], verb)
 }
 
-// Whether text ends before a byte: a backslash too.
+// Whether text ends before a byte: a backslash, or one before which a chunk ends.
 fn ends_text(b: u8, verb: bool) -> bool
     ensures { λ r. ⌜ r ≡ endsText verb b ⌝ }
 {
@@ -215,7 +218,8 @@ fn texts(s: &[u8], verb: bool, at: usize, out: &mut [u8], len: usize) -> Grown
     }
 }
 
-// A backslash before white space, which is written with it, and then as one blank: the blank behind a backslash is not eaten.
+// A backslash before white space. Both are written, and then one blank for the white space, which the backslash does not eat: `\ ` gives two
+// blanks.
 fn back_blank(s: &[u8], at: usize, code: u32, next: usize, out: &mut [u8], len: usize) -> Text
     requires { ⌜ Behind (now s) at code next × (isWhitespace code ≡ true) × (len + 2 * length (now s) ≤ length (now out) + 2 * at) ⌝ }
     ensures { λ r. ⌜ SaysText false (now (s .entry)) at len (now (out .entry)) r (now (out .exit)) ⌝ }
@@ -230,7 +234,7 @@ fn back_blank(s: &[u8], at: usize, code: u32, next: usize, out: &mut [u8], len: 
     }
 }
 
-// A backslash before a control character, which is written with it and once more.
+// A backslash before a control character. Both are written, and then the character again, which the backslash does not eat.
 fn back_control(s: &[u8], at: usize, code: u32, next: usize, out: &mut [u8], len: usize) -> Text
     requires { ⌜ Behind (now s) at code next × (isWhitespace code ≡ false) × (isControl code ≡ true) ×
         (len + 2 * length (now s) ≤ length (now out) + 2 * at) ⌝ }
@@ -281,6 +285,7 @@ fn name_end(s: &[u8], code: u32, next: usize) -> usize
     scanner::eat_id(s, next)
 }
 
+// Whether an opening brace stands at a place.
 fn opens_at(s: &[u8], at: usize) -> bool
     ensures { λ r. ⌜ r ≡ opensAt (see (now (s .entry)) at) ⌝ }
 {
@@ -299,7 +304,7 @@ fn takes_one(s: &[u8], code: u32, next: usize, end: usize, after: usize) -> bool
     !opens & (next == end) & (code != 0x2d) & single
 }
 
-// A command that takes the one character behind it, from `after` on, or nothing at the end.
+// A command that takes the one character at `after` as its argument; at the end of the content, an empty argument.
 fn one(
     s: &[u8],
     at: usize,
@@ -433,7 +438,7 @@ fn backslash(
     }
 }
 
-// A turn at a place with no brace, nor a dollar sign unless the field is verbatim; or several turns, over a run of characters.
+// One turn or several that only write text, from a place at which no brace stands, and no dollar sign unless the field is verbatim.
 pub fn text_at(
     s: &[u8],
     verb: bool,

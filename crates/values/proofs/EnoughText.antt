@@ -1,21 +1,22 @@
 -- How much text a value can need: `enough-text`.
 -- Assumes nothing.
-use Prim.Native.Nat.{ℕ, zero, suc, _+_, _-_, _*_, _≤_, min}
+use Prim.Native.Nat.{ℕ, zero, suc, _+_, _-_, _*_, _≤_}
 use native.Mathlib.Nat.{add-mul}
 use native.Mathlib.Omega.{arith}
 use mathlib.Core.Path.{_≡_, refl, ap, sym, subst, _∙_}
 use mathlib.Core.Bool.{Bool, true, false, cond}
 use mathlib.Core.List.{List, [], _∷_, _++_}
-use lib.ListN.{length, drop, length-append, length-take}
+use lib.ListN.{length, drop, length-append}
 use lib.Dec.{ltb}
-use Rattle.text.specs.Scan.{part}
 use Rattle.row.specs.declared.form.Kind.the-variants.{Literal}
 use Rattle.row.specs.declared.fault.Fault.{Fault}
 use Rattle.row.specs.Row.{Row}
 use Rattle.row.specs.Rules.{isKind}
 use Rattle.lookup.specs.declared.plain.Found.{Found}
 use Rattle.lookup.specs.declared.plain.Found.the-variants as found
-use Rattle.text.specs.Same.{sameBytes}
+use Rattle.text.specs.SameBytes.{sameBytes}
+use Rattle.text.proofs.general.Parts.{part-size}
+use Rattle.row.specs.Limits.{mostOpen, mostNames}
 use Rattle.lookup.specs.Names.{lastNamed}
 use Rattle.chunk.specs.Chunk.{Chunk}
 use Rattle.turn.specs.Content.{flatten}
@@ -28,8 +29,8 @@ use Rattle.resolve.specs.Resolves.{Value, resolved, refused}
 use Rattle.resolve.specs.Checks.{Lent, Month}
 use Rattle.resolve.specs.Runs.{Run, done, stop, ofLiteral}
 use Rattle.values.specs.Field.{isElement, elements, behind, onward, walk, flattened, parseField}
-use Rattle.values.specs.Field.{element, Meaning, definition, month, unknown, monthOf, orMonth, spelt, meaningOf, onPath, known, mostOpen}
-use Rattle.values.specs.Field.{mostNames, opened, name, ofRun, fieldOf}
+use Rattle.values.specs.Field.{element, Meaning, definition, month, unknown, monthOf, orMonth, spelt, meaningOf, onPath, known}
+use Rattle.values.specs.Field.{opened, name, ofRun, fieldOf}
 use Rattle.values.specs.EnoughText.{literalBytes, monthBytes, most, EnoughText}
 
 abbrev size : List Chunk → ℕ
@@ -60,10 +61,6 @@ element-bytes (r ∷ rs) = by (isElement r) (element-bytes rs)
         → literalBytes (cond w (r ∷ elements rs) []) ≤ cond (isKind Literal (r .kind)) (r .end - r .start) 0 + literalBytes rs
     by true h = omega arith
     by false h = omega arith
-
--- a literal's text has at most twice its bytes
-part-size : (s : List ℕ) (a e : ℕ) → length (part s a e) ≤ e - a
-part-size s a e = let h = length-take (min e (length s) - a) (drop a s) in omega arith
 
 -- ---- what a run of elements costs: `most` for each name, and what its own literals may need
 
@@ -96,7 +93,7 @@ module _ (l : Lent) (verb : Bool) where
       by (stop f) d = tt
   onward-costs w v n (stop f) g c h = tt
 
-  -- a name costs what its names do
+  -- the use of a name needs no bytes besides those for the names that it resolves
   abbrev Each : (Row → ℕ → Run) → Type 0
   Each one = (r : Row) (n : ℕ) → Costs 0 n (one r n)
 

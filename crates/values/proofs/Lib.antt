@@ -4,7 +4,11 @@
 pub mod naming
 -- the ways through each function
 pub mod ways
--- what a value resolves to depends on its own rows, the definitions and the month words alone
+-- the proof of specs/OwnRows.antt: what a value resolves to depends on its own rows, the definitions and the month words alone
 pub mod OwnRows
--- how much text a value can need
+-- the proof of specs/EnoughText.antt: how much text a value can need
 pub mod EnoughText
+-- the proof of specs/Refusals.antt: which refusals a value can come to, and their places
+pub mod Refusals
+-- any two answers that a contract allows are the same
+pub mod Unique

@@ -14,21 +14,23 @@ use Rattle.row.specs.Row.{Row}
 use Rattle.row.specs.Rules.{isKind}
 use Rattle.lookup.specs.declared.plain.Found.{Found}
 use Rattle.lookup.specs.declared.plain.Found.the-variants as found
-use Rattle.text.specs.Same.{sameBytes}
+use Rattle.text.specs.SameBytes.{sameBytes}
+use Rattle.text.proofs.general.Tests.{true-not-false}
+use Rattle.row.specs.Limits.{mostLiteral, mostArguments, mostOpen, mostNames}
 use Rattle.lookup.specs.Names.{isNamed, later, lastNamed}
 use Rattle.raw.specs.Reader.{OutOf, ok, again, bad}
 use Rattle.chunk.specs.declared.form.Kind.the-variants.{Normal}
 use Rattle.chunk.specs.Chunk.{Chunk, chunk}
 use Rattle.turn.specs.Content.{Part, content, chunksOf, joins, join, flattenFrom}
-use Rattle.literal.specs.Literal.{mostLiteral, mostArguments, chunkUp, resolvedOf, tooLong, resolveLiteral}
+use Rattle.literal.specs.Literal.{chunkUp, resolvedOf, tooLong, resolveLiteral}
 use Rattle.literal.specs.Literal as literal
 use Rattle.resolve.specs.Resolves.{Value, resolved, refused}
 use Rattle.resolve.specs.Checks.{Month, Lent}
 use Rattle.resolve.specs.Runs.{Run, done, stop, ofLiteral}
 use Rattle.values.specs.Field.{elements, behind, onward, walk, flattened, parseField, element, Meaning}
-use Rattle.values.specs.Field.{definition, month, unknown, monthOf, orMonth, spelt, meaningOf, onPath, atUse, known, mostOpen, mostNames}
+use Rattle.values.specs.Field.{definition, month, unknown, monthOf, orMonth, spelt, meaningOf, onPath, atUse, known}
 use Rattle.values.specs.Field.{opened, name, ofRun, fieldOf}
-use Rattle.values.specs.OwnRows.{asTheyAre, leftOut, Element, elementIn, elementsIn, valueIn, Definition, definitionIn, definitionsFrom}
+use Rattle.values.specs.OwnRows.{asTheyAre, leftOut, SpeltElement, elementIn, elementsIn, valueIn, Definition, definitionIn, definitionsFrom}
 use Rattle.values.specs.OwnRows.{definitionsOf, chunkWith, faultWith, withPlaces, OwnRows}
 
 -- ---- a definition's row, and which definition of the file it is
@@ -42,19 +44,16 @@ data At : List Row → ℕ → ℕ → Type 0 where
   next : {r : Row} {rs : List Row} {i k : ℕ} → isDefinition r ≡ true → At rs i k → At (r ∷ rs) (suc i) (suc k)
   pass : {r : Row} {rs : List Row} {i k : ℕ} → isDefinition r ≡ false → At rs i k → At (r ∷ rs) (suc i) k
 
-apart : {A : Type 0} (b : Bool) → b ≡ true → b ≡ false → A
-apart b p q = let z : _≡_ {A = ℕ} 0 1 = ap (λ (c : Bool). cond c 0 1) (sym p ∙ q) in absurd (omega arith)
-
--- two rows are the same exactly if their definitions are
+-- two definition rows are the same exactly if the numbers of their definitions are
 same-row : {rs : List Row} {i j k m : ℕ} → At rs i k → At rs j m → eqb i j ≡ eqb k m
 same-row (here p) (here q) = refl
 same-row (here p) (next {i = j} {k = m} q y) = eqb·zero-suc j ∙ sym (eqb·zero-suc m)
-same-row (here p) (pass q y) = apart _ p q
+same-row (here p) (pass q y) = true-not-false _ p q
 same-row (next {i = i} {k = k} p x) (here q) = eqb·suc-zero i ∙ sym (eqb·suc-zero k)
 same-row (next {i = i} {k = k} p x) (next {i = j} {k = m} q y) = eqb·suc-suc i j ∙ same-row x y ∙ sym (eqb·suc-suc k m)
-same-row (next p x) (pass q y) = apart _ p q
-same-row (pass p x) (here q) = apart _ q p
-same-row (pass p x) (next q y) = apart _ q p
+same-row (next p x) (pass q y) = true-not-false _ p q
+same-row (pass p x) (here q) = true-not-false _ q p
+same-row (pass p x) (next q y) = true-not-false _ q p
 same-row (pass {i = i} p x) (pass {i = j} q y) = eqb·suc-suc i j ∙ same-row x y
 
 -- ---- the search for a name, among rows and among definitions
@@ -92,7 +91,7 @@ finds tell l w (r ∷ rs) = by (isDefinition r) refl (finds tell l w rs)
 
 -- ---- the elements of a definition
 
-unfoldable valueNo : List Definition → ℕ → List Element
+unfoldable valueNo : List Definition → ℕ → List SpeltElement
 valueNo [] k = []
 valueNo (d ∷ ds) zero = d .value
 valueNo (d ∷ ds) (suc k) = valueNo ds k
@@ -106,17 +105,17 @@ value-at tell l (here p) = rw p refl
 value-at tell l (next {r} {rs} {i} p x) = rw p (ap (λ (n : ℕ). elementsIn tell l (drop n (r ∷ rs))) (behind-one i) ∙ value-at tell l x)
 value-at tell l (pass {r} {rs} {i} p x) = rw p (ap (λ (n : ℕ). elementsIn tell l (drop n (r ∷ rs))) (behind-one i) ∙ value-at tell l x)
 
--- ---- runs told with places
+-- ---- runs, with their places as `tell` gives them
 
 abbrev runWith : (ℕ → ℕ) → Run → Run
 runWith tell (done cs n) = done (map (chunkWith tell) cs) n
 runWith tell (stop f) = stop (faultWith tell f)
 
-abbrev firstOr : Element → List Element → Element
+abbrev firstOr : SpeltElement → List SpeltElement → SpeltElement
 firstOr d [] = d
 firstOr d (x ∷ xs) = x
 
--- places that are told alike still are when all are moved alike
+-- two places that `tell` does not tell apart are not told apart either when both are moved by k
 abbrev Steady : (ℕ → ℕ) → Type 0
 Steady tell = (a b k : ℕ) → tell a ≡ tell b → (tell (k + a) ≡ tell (k + b)) × (tell (a + k) ≡ tell (b + k))
 
@@ -159,11 +158,11 @@ module _ (tell : ℕ → ℕ) where
   cond-same : (w v : Bool) (x y z u : Run) → w ≡ v → runWith tell x ≡ runWith tell z → runWith tell y ≡ runWith tell u
       → runWith tell (cond w x y) ≡ runWith tell (cond v z u)
   cond-same true true x y z u e p q = p
-  cond-same true false x y z u e p q = apart true refl e
-  cond-same false true x y z u e p q = apart true refl (sym e)
+  cond-same true false x y z u e p q = true-not-false true refl e
+  cond-same false true x y z u e p q = true-not-false true refl (sym e)
   cond-same false false x y z u e p q = q
 
-  -- a literal with the same bytes that begins at a place told alike
+  -- a literal with the same bytes resolves alike at two places that `tell` does not tell apart
   literal-same : Steady tell → (verb : Bool) (s : List ℕ) (a b n : ℕ) → tell a ≡ tell b
       → runWith tell (ofLiteral (resolveLiteral verb s a) n) ≡ runWith tell (ofLiteral (resolveLiteral verb s b) n)
   unfolding resolveLiteral
@@ -187,7 +186,7 @@ module _ (tell : ℕ → ℕ) where
 
 module _ (tell : ℕ → ℕ) (steady : Steady tell) (verb : Bool) (l l′ : Lent) (ms : l .months ≡ l′ .months)
     (ds : definitionsOf tell l ≡ definitionsOf tell l′) where
-  -- elements of the one and the other that are told alike come to what is told alike
+  -- elements of the two files that are alike, as `tell` gives their places, come to runs that are alike
   abbrev Each : (Row → ℕ → Run) → (Row → ℕ → Run) → Type 0
   Each one two = (r r′ : Row) (n : ℕ) → elementIn tell l r ≡ elementIn tell l′ r′ → runWith tell (one r n) ≡ runWith tell (two r′ n)
 
@@ -203,9 +202,9 @@ module _ (tell : ℕ → ℕ) (steady : Steady tell) (verb : Bool) (l l′ : Len
 
   element-same : (one two : Row → ℕ → Run) → Each one two → Each (element l verb one) (element l′ verb two)
   element-same one two h r r′ n e =
-      cond-same tell (isKind Literal (r .kind)) (isKind Literal (r′ .kind)) _ (one r n) _ (two r′ n) (ap (λ (x : Element). isKind Literal (x .kind)) e)
-      (ap (λ (x : Element). runWith tell (ofLiteral (resolveLiteral verb (x .bytes) (r .start)) n)) e
-      ∙ literal-same tell steady verb (spelt l′ r′) (r .start) (r′ .start) n (ap (λ (x : Element). x .start) e))
+      cond-same tell (isKind Literal (r .kind)) (isKind Literal (r′ .kind)) _ (one r n) _ (two r′ n) (ap (λ (x : SpeltElement). isKind Literal (x .kind)) e)
+      (ap (λ (x : SpeltElement). runWith tell (ofLiteral (resolveLiteral verb (x .bytes) (r .start)) n)) e
+      ∙ literal-same tell steady verb (spelt l′ r′) (r .start) (r′ .start) n (ap (λ (x : SpeltElement). x .start) e))
       (h r r′ n e)
 
   parse-same : (one two : Row → ℕ → Run) → Each one two → (rs rs′ : List Row) (n : ℕ) → elementsIn tell l rs ≡ elementsIn tell l′ rs′
@@ -217,34 +216,34 @@ module _ (tell : ℕ → ℕ) (steady : Steady tell) (verb : Bool) (l l′ : Len
 
   -- ---- what a name means in both
 
-  data Means : Meaning → Meaning → Type 0 where
-    one : {i j k : ℕ} → At (l .rows) i k → At (l′ .rows) j k → Means (definition i) (definition j)
-    text : {t : List ℕ} → Means (month t) (month t)
-    unheard : Means unknown unknown
+  data MeansSame : Meaning → Meaning → Type 0 where
+    one : {i j k : ℕ} → At (l .rows) i k → At (l′ .rows) j k → MeansSame (definition i) (definition j)
+    text : {t : List ℕ} → MeansSame (month t) (month t)
+    unheard : MeansSame unknown unknown
 
-  month-same : (w : List ℕ) (xs : List Month) → Means (monthOf w xs) (monthOf w xs)
+  month-same : (w : List ℕ) (xs : List Month) → MeansSame (monthOf w xs) (monthOf w xs)
   unfolding monthOf
   month-same w [] = unheard
   month-same w (m ∷ xs) = by (sameBytes (m .word) w) (month-same w xs)
     where
-      by : (b : Bool) → Means (monthOf w xs) (monthOf w xs) → Means (cond b (month (m .text)) (monthOf w xs)) (cond b (month (m .text)) (monthOf w xs))
+      by : (b : Bool) → MeansSame (monthOf w xs) (monthOf w xs) → MeansSame (cond b (month (m .text)) (monthOf w xs)) (cond b (month (m .text)) (monthOf w xs))
       by true h = text
       by false h = h
 
   abbrev wordIn : Lent → List ℕ → Meaning
   wordIn k w = orMonth (lastNamed (k .file) w (k .rows)) (monthOf w (k .months))
 
-  word-same : (w : List ℕ) → Means (wordIn l w) (wordIn l′ w)
+  word-same : (w : List ℕ) → MeansSame (wordIn l w) (wordIn l′ w)
   word-same w =
       by (finds tell l w (l .rows))
       (subst (λ (xs : List Definition). Met (l′ .rows) (lastNamed (l′ .file) w (l′ .rows)) (lastIn w xs)) (sym ds) (finds tell l′ w (l′ .rows)))
     where
-      by : {f g o : Found} → Met (l .rows) f o → Met (l′ .rows) g o → Means (orMonth f (monthOf w (l .months))) (orMonth g (monthOf w (l′ .months)))
-      by none none = subst (λ (xs : List Month). Means (monthOf w (l .months)) (monthOf w xs)) ms (month-same w (l .months))
+      by : {f g o : Found} → Met (l .rows) f o → Met (l′ .rows) g o → MeansSame (orMonth f (monthOf w (l .months))) (orMonth g (monthOf w (l′ .months)))
+      by none none = subst (λ (xs : List Month). MeansSame (monthOf w (l .months)) (monthOf w xs)) ms (month-same w (l .months))
       by (some x) (some y) = one x y
 
-  meaning-same : (r r′ : Row) → elementIn tell l r ≡ elementIn tell l′ r′ → Means (meaningOf l r) (meaningOf l′ r′)
-  meaning-same r r′ e = subst (λ (x : Element). Means (meaningOf l r) (wordIn l′ (x .bytes))) e (word-same (spelt l r))
+  meaning-same : (r r′ : Row) → elementIn tell l r ≡ elementIn tell l′ r′ → MeansSame (meaningOf l r) (meaningOf l′ r′)
+  meaning-same r r′ e = subst (λ (x : SpeltElement). MeansSame (meaningOf l r) (wordIn l′ (x .bytes))) e (word-same (spelt l r))
 
   -- ---- the definitions that are being resolved in both
 
@@ -264,19 +263,19 @@ module _ (tell : ℕ → ℕ) (steady : Steady tell) (verb : Bool) (l l′ : Len
   -- ---- uses of names
 
   use-same : (reason : Reason) (r r′ : Row) → elementIn tell l r ≡ elementIn tell l′ r′ → runWith tell (atUse reason r) ≡ runWith tell (atUse reason r′)
-  use-same reason r r′ e = ap (λ (x : Element). stop (record { reason = reason; start = x .start; end = x .end })) e
+  use-same reason r r′ e = ap (λ (x : SpeltElement). stop (record { reason = reason; start = x .start; end = x .end })) e
 
-  known-same : {p q : List ℕ} {m m′ : Meaning} → Paths p q → Means m m′ → (r r′ : Row) (go go′ : Run) → elementIn tell l r ≡ elementIn tell l′ r′
+  known-same : {p q : List ℕ} {m m′ : Meaning} → Paths p q → MeansSame m m′ → (r r′ : Row) (go go′ : Run) → elementIn tell l r ≡ elementIn tell l′ r′
       → runWith tell go ≡ runWith tell go′ → runWith tell (known p r m go) ≡ runWith tell (known q r′ m′ go′)
   known-same ps (one x y) r r′ go go′ e h = cond-same tell _ _ (atUse Cyclic r) go (atUse Cyclic r′) go′ (on-path-same x y ps) (use-same Cyclic r r′ e) h
   known-same ps text r r′ go go′ e h = h
   known-same ps unheard r r′ go go′ e h = use-same UnknownAbbreviation r r′ e
 
-  opened-same : {m m′ : Meaning} → Means m m′ → (r r′ : Row) (n : ℕ) (f g : ℕ → Run) → elementIn tell l r ≡ elementIn tell l′ r′
+  opened-same : {m m′ : Meaning} → MeansSame m m′ → (r r′ : Row) (n : ℕ) (f g : ℕ → Run) → elementIn tell l r ≡ elementIn tell l′ r′
       → ((i j k : ℕ) → At (l .rows) i k → At (l′ .rows) j k → runWith tell (f i) ≡ runWith tell (g j))
       → runWith tell (opened r n m f) ≡ runWith tell (opened r′ n m′ g)
   opened-same (one {i} {j} {k} x y) r r′ n f g e h = h i j k x y
-  opened-same (text {t}) r r′ n f g e h = ap (λ (x : Element). done (chunk Normal t (x .start) (x .end) ∷ []) (suc n)) e
+  opened-same (text {t}) r r′ n f g e h = ap (λ (x : SpeltElement). done (chunk Normal t (x .start) (x .end) ∷ []) (suc n)) e
   opened-same unheard r r′ n f g e h = use-same UnknownAbbreviation r r′ e
 
   name-same : (left : ℕ) {p q : List ℕ} → Paths p q → Each (name l verb left p) (name l′ verb left q)

@@ -1,4 +1,4 @@
--- One law for each way through a function, over what its calls told.
+-- One law for each way through a function, over what its calls answered.
 
 -- the elements of a value one behind the other: runs, and what the code has of them
 pub mod RunWays

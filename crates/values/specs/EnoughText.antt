@@ -25,7 +25,7 @@ unfoldable pub monthBytes : List Month → ℕ
 monthBytes [] = 0
 monthBytes (m ∷ ms) = length (m .text) + monthBytes ms
 
--- what a value adds to the text by itself, and each name that it resolves
+-- the most text that a value needs for itself, and for each name that it resolves
 abbrev pub most : Lent → ℕ
 most l = 2 * literalBytes (l .rows) + monthBytes (l .months)
 

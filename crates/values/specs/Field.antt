@@ -17,7 +17,8 @@ use Rattle.row.specs.Row.{Row}
 use Rattle.row.specs.Rules.{isKind}
 use Rattle.lookup.specs.declared.plain.Found.{Found}
 use Rattle.lookup.specs.declared.plain.Found.the-variants as found
-use Rattle.text.specs.Same.{sameBytes}
+use Rattle.text.specs.SameBytes.{sameBytes}
+use Rattle.row.specs.Limits.{mostOpen, mostNames}
 use Rattle.lookup.specs.Names.{lastNamed}
 use Rattle.chunk.specs.declared.form.Kind.the-variants.{Normal}
 use Rattle.chunk.specs.Chunk.{Chunk, chunk}
@@ -29,18 +30,21 @@ use Rattle.resolve.specs.Checks.{Month, Lent}
 
 -- ---- the elements of a value
 
--- the literals and names that stand in front
+-- a literal or a name
 abbrev pub isElement : Row → Bool
 isElement r = isKind Literal (r .kind) || isKind Name (r .kind)
 
+-- the literals and names that stand in front
 unfoldable pub elements : List Row → List Row
 elements [] = []
 elements (r ∷ rs) = cond (isElement r) (r ∷ elements rs) []
 
+-- a run with the chunks cs before its own
 abbrev pub behind : List Chunk → Run → Run
 behind cs (done ds n) = done (cs ++ ds) n
 behind cs (stop f) = stop f
 
+-- a run, and behind it the run that g gives for the number of names so far
 abbrev pub onward : Run → (ℕ → Run) → Run
 onward (done cs n) g = behind cs (g n)
 onward (stop f) g = stop f
@@ -58,13 +62,14 @@ flattened (stop f) = stop f
 abbrev pub parseField : (Row → ℕ → Run) → List Row → ℕ → Run
 parseField one rs n = flattened (walk one rs n)
 
--- a literal, or a name by what names come to
+-- what an element comes to: a literal is resolved, and `name` says what a name comes to
 abbrev pub element : Lent → Bool → (Row → ℕ → Run) → Row → ℕ → Run
 element l verb name r n =
     cond (isKind Literal (r .kind)) (ofLiteral (resolveLiteral verb (part (l .file) (r .start) (r .end)) (r .start)) n) (name r n)
 
 -- ---- names
 
+-- what a name means: the definition in a row, the text of a month, or nothing
 pub data Meaning : Type 0 where
   definition : ℕ → Meaning
   month : List ℕ → Meaning
@@ -96,30 +101,24 @@ onPath i (j ∷ js) = eqb i j || onPath i js
 abbrev pub atUse : Reason → Row → Run
 atUse reason r = stop (record { reason = reason; start = r .start; end = r .end })
 
--- the definitions whose rows are `path` are being resolved. "A name is cyclic exactly if it is already being resolved"
+-- the refusal of a name that is unknown or cyclic; any other name goes on. The definitions whose rows are `path` are being resolved. "A name is
+-- cyclic exactly if it is already being resolved"
 abbrev pub known : List ℕ → Row → Meaning → Run → Run
 known path r (definition i) go = cond (onPath i path) (atUse Cyclic r) go
 known path r (month t) go = go
 known path r unknown go = atUse UnknownAbbreviation r
 
--- [01:From file to field] "names 32 deep, and a field resolves at most 4,096 names"
-abbrev pub mostOpen : ℕ
-mostOpen = 32
-
-abbrev pub mostNames : ℕ
-mostNames = 4096
-
 -- a definition stands in row i, and its value's elements behind its value row
 abbrev pub elementsOf : Lent → ℕ → List Row
 elementsOf l i = elements (drop (i + 2) (l .rows))
 
--- what a name means, its definition by `value`
+-- what a name comes to that may be opened: what `value` gives for its definition, or the text of a month
 abbrev pub opened : Row → ℕ → Meaning → (ℕ → Run) → Run
 opened r n (definition i) value = value i
 opened r n (month t) value = done (chunk Normal t (r .start) (r .end) ∷ []) (suc n)
 opened r n unknown value = atUse UnknownAbbreviation r
 
--- the name in row r, with so many left to open. "At one use: 12, 13, 14, 15"
+-- what the use of a name in row r comes to, with so many names left to open and n resolved so far. "At one use: 12, 13, 14, 15"
 unfoldable pub name : Lent → Bool → ℕ → List ℕ → Row → ℕ → Run
 name l verb zero path r n = known path r (meaningOf l r) (atUse TooDeep r)
 name l verb (suc left) path r n =

@@ -1,4 +1,5 @@
 pub mod Field
 pub mod OwnRows
 pub mod EnoughText
+pub mod Refusals
 pub mod Uses

@@ -1,8 +1,9 @@
 -- What a value resolves to depends on its own elements and their bytes, on the definitions and on the month words alone: whatever else stands
 -- in the file or among the rows, such as the entries of other authors, changes nothing of it. The proof is `own-rows` of proofs/OwnRows.antt.
---     Element, valueIn                  the elements of a value, with their bytes
+--     SpeltElement, valueIn             the elements of a value, with their bytes
 --     Definition, definitionsOf         the definitions in the order of their rows, with their names' bytes and their elements
---     asTheyAre, leftOut, withPlaces    places told, or not told
+--     asTheyAre, leftOut                two ways to give a place: as it is, or left out
+--     withPlaces                        what a value resolves to, with its places given in one of these ways
 --     OwnRows                           the theorem, with places and without
 -- Assumes nothing.
 use Prim.Native.Nat.{ℕ, suc}
@@ -19,7 +20,7 @@ use Rattle.resolve.specs.Resolves.{Value, resolved, refused}
 use Rattle.resolve.specs.Checks.{Lent}
 use Rattle.values.specs.Field.{elements, spelt, fieldOf}
 
--- ---- places. What stands in front of an element moves it: so an element, and what it resolves to, is told with its places or without
+-- ---- places. What stands in front of an element moves it: so elements, and what they resolve to, are compared with their places or without
 
 abbrev pub asTheyAre : ℕ → ℕ
 asTheyAre place = place
@@ -29,25 +30,25 @@ leftOut place = 0
 
 -- ---- elements and definitions, with the bytes of their rows
 
-pub record Element : Type 0 where
+pub record SpeltElement : Type 0 where
   pub kind : ℕ
   pub bytes : List ℕ
   pub start : ℕ
   pub end : ℕ
 
-abbrev pub elementIn : (ℕ → ℕ) → Lent → Row → Element
+abbrev pub elementIn : (ℕ → ℕ) → Lent → Row → SpeltElement
 elementIn tell l r = record { kind = r .kind; bytes = spelt l r; start = tell (r .start); end = tell (r .end) }
 
-abbrev pub elementsIn : (ℕ → ℕ) → Lent → List Row → List Element
+abbrev pub elementsIn : (ℕ → ℕ) → Lent → List Row → List SpeltElement
 elementsIn tell l rs = map (elementIn tell l) (elements rs)
 
 -- the value whose row is number i
-abbrev pub valueIn : (ℕ → ℕ) → Lent → ℕ → List Element
+abbrev pub valueIn : (ℕ → ℕ) → Lent → ℕ → List SpeltElement
 valueIn tell l i = elementsIn tell l (drop (suc i) (l .rows))
 
 pub record Definition : Type 0 where
   pub name : List ℕ
-  pub value : List Element
+  pub value : List SpeltElement
 
 -- a definition's row, and the rows behind it: its value row and the elements
 abbrev pub definitionIn : (ℕ → ℕ) → Lent → Row → List Row → Definition
@@ -82,8 +83,8 @@ pub record Alike (tell : ℕ → ℕ) (l l′ : Lent) (i j : ℕ) : Type 0 where
   pub value : valueIn tell l i ≡ valueIn tell l′ j
 
 pub record OwnRows : Type 0 where
-  -- then they resolve to the same
+  -- values that are alike resolve to the same
   pub same : (l l′ : Lent) (verb : Bool) (i j : ℕ) → Alike asTheyAre l l′ i j → fieldOf l verb i ≡ fieldOf l′ verb j
-  -- and where they or the definitions stand at other places, to the same but for the places: kinds and texts of chunks, the number of names,
-  -- or the reason of a refusal
+  -- values that are alike but for their places, or those of the definitions, resolve to the same but for the places: to the same kinds and texts
+  -- of chunks and the same number of names, or to a refusal with the same reason
   pub elsewhere : (l l′ : Lent) (verb : Bool) (i j : ℕ) → Alike leftOut l l′ i j → withPlaces leftOut (fieldOf l verb i) ≡ withPlaces leftOut (fieldOf l′ verb j)

@@ -1,7 +1,7 @@
--- The contracts' words for names and for the cycle of value and name: src/months.rt, src/elements.rt.
+-- Definitions for the contracts of src/months.rt and src/elements.rt: names, and value and name, which call each other.
 --     MonthFound, Means, allowedOf     what a name means in lent numbers and bytes, and whether its use is allowed
 --     firstElement, valueFrom          the elements of a value
---     Sound                            what value and name ask
+--     ReadyValue                       what value and name require
 -- Assumes nothing.
 use Prim.Native.Nat.{ℕ, zero, suc, _≤_, _<_}
 use mathlib.Core.Path.{_≡_}
@@ -14,10 +14,11 @@ use Rattle.row.specs.declared.fault.Reason.the-variants.{UnknownAbbreviation, C
 use Rattle.row.specs.Row.{Row}
 use Rattle.row.specs.declared.form.Kind.the-variants.{Literal, Name}
 use Rattle.row.specs.Rules.{isKind}
+use Rattle.row.specs.Limits.{mostBytes, mostOpen, mostNames}
 use Rattle.lookup.specs.RowIndex.{Indexed}
 use Rattle.resolve.specs.Checks.{Lent, monthsOf, areLent}
 use Rattle.resolve.specs.Runs.{Run}
-use Rattle.resolve.specs.Progress.{Ready}
+use Rattle.resolve.specs.Progress.{ReadyTables}
 use Rattle.values.specs.declared.months.Month as code
 use Rattle.values.specs.declared.months.Month.the-variants as found
 use Rattle.values.specs.declared.elements.Meaning as code-meaning
@@ -26,15 +27,15 @@ use Rattle.values.specs.declared.elements.Element.{Element}
 use Rattle.values.specs.declared.elements.Element.the-variants as element
 use Rattle.values.specs.declared.elements.Allowed.{Allowed}
 use Rattle.values.specs.declared.elements.Allowed.the-variants as allowed
-use Rattle.values.specs.Field.{Meaning, definition, month, unknown, monthOf, onPath, mostNames, walk, elements, name}
+use Rattle.values.specs.Field.{Meaning, definition, month, unknown, monthOf, onPath, walk, elements, name}
 use Rattle.values.specs.Field as field
 
--- the text from a to e is the one that the list has for the name
+-- the text from a to e is the one that the list has for the name; or the list has no such word
 abbrev pub MonthFound : List ℕ → List ℕ → List ℕ → code.Month → Type 0
 MonthFound l words name (found.Text a e) = (monthOf name (monthsOf l words) ≡ month (part words a e)) × (a ≤ e) × (e ≤ length words)
 MonthFound l words name found.Nothing = monthOf name (monthsOf l words) ≡ unknown
 
--- the code's word for a meaning
+-- what the code says that a name means is what the definition says
 abbrev pub Means : List ℕ → Meaning → code-meaning.Meaning → Type 0
 Means words (definition i) (meaning.Definition j) = j ≡ i
 Means words (definition i) (meaning.Month a e) = ⊥
@@ -47,10 +48,10 @@ Means words unknown (meaning.Month a e) = ⊥
 Means words unknown meaning.Unknown = Unit {0}
 
 -- a definition's row is one of the n rows
-abbrev pub Inside : ℕ → code-meaning.Meaning → Type 0
-Inside n (meaning.Definition i) = i < n
-Inside n (meaning.Month a e) = Unit {0}
-Inside n meaning.Unknown = Unit {0}
+abbrev pub RowInside : ℕ → code-meaning.Meaning → Type 0
+RowInside n (meaning.Definition i) = i < n
+RowInside n (meaning.Month a e) = Unit {0}
+RowInside n meaning.Unknown = Unit {0}
 
 -- the first of the rows, if it is an element
 abbrev pub firstElement : List Row → Element
@@ -60,25 +61,26 @@ firstElement (r ∷ rs) =
     (cond (isKind Name (r .kind)) (element.Name (r .start) (r .end))
     element.Nothing)
 
--- the elements in front of the rows rs, with so many names left to open, the definitions `path` being resolved and n names so far
+-- the elements in front of the rows rs, with `left` names left to open, the definitions `path` being resolved and n names so far
 abbrev pub valueFrom : Lent → Bool → ℕ → List ℕ → List Row → ℕ → Run
 valueFrom l verb left path rs n = walk (field.element l verb (name l verb left path)) (elements rs) n
 
--- "At one use: 12, 13, 14, 15", with so many names left to open and n resolved
+-- "At one use: 12, 13, 14, 15": the last two, with `left` names left to open and n resolved
 abbrev pub limits : ℕ → ℕ → Allowed
 limits zero n = allowed.No TooDeep
 limits (suc left) n = cond (ltb n mostNames) allowed.Yes (allowed.No TooManyNames)
 
+-- whether the use of a name is allowed
 abbrev pub allowedOf : code-meaning.Meaning → List ℕ → ℕ → ℕ → Allowed
 allowedOf (meaning.Definition i) path left n = cond (onPath i path) (allowed.No Cyclic) (limits left n)
 allowedOf (meaning.Month a e) path left n = limits left n
 allowedOf meaning.Unknown path left n = allowed.No UnknownAbbreviation
 
--- what value and name ask: rows and months are right, the index is one, and the definitions that are being resolved stand in a list with a
--- place for each name that may be opened
-pub record Sound (file rows months words heads next w byName byMark held : List ℕ) (left : ℕ) : Type 0 where
-  pub short : length file ≤ 16777215
+-- what value and name require: rows and months are right, the index belongs to these rows, and the definitions that are being resolved stand
+-- in a list with a place for each name that may be opened
+pub record ReadyValue (file rows months words heads next w byName byMark held : List ℕ) (left : ℕ) : Type 0 where
+  pub short : length file ≤ mostBytes
   pub lent : areLent file rows months words ≡ true
   pub index : Indexed file rows heads next
-  pub ready : Ready w byName byMark
-  pub path : (length held ≡ 32) × (left ≤ 32)
+  pub ready : ReadyTables w byName byMark
+  pub path : (length held ≡ mostOpen) × (left ≤ mostOpen)

@@ -10,6 +10,10 @@ use resolve::progress::Progress;
 use resolve::progress::Went;
 use row::fault::Fault;
 use row::fault::Reason;
+use row::form::LITERAL;
+use row::form::NAME;
+use row::limits::MOST_NAMES;
+use row::limits::MOST_OPEN;
 use text::scanner;
 ghost use mathlib.Core.Path.{_≡_};
 ghost use mathlib.Core.Bool.{true};
@@ -18,17 +22,13 @@ ghost use lib.ListN.{length, take, drop};
 ghost use Rattle.row.specs.declared.form.Kind.the-variants as kind;
 ghost use Rattle.row.specs.Row.{row};
 ghost use Rattle.row.specs.Numbers.{rowsOf};
+ghost use Rattle.row.specs.Limits.{mostOpen};
 ghost use Rattle.lookup.specs.RowIndex.{Indexed};
 ghost use Rattle.resolve.specs.Checks.{areMonths, lentOf};
 ghost use Rattle.resolve.specs.Progress.{Bounded, SaysRun, BoundedWent};
 ghost use Rattle.values.specs.Field as field;
 ghost use Rattle.values.specs.Field.{meaningOf, onPath};
-ghost use Rattle.values.specs.Uses.{Means, Inside, limits as limitsOf, allowedOf, firstElement, valueFrom, Sound};
-
-// How many names may be open at once, and how many a field may resolve [01:From file to field].
-pub const MOST_OPEN: usize = 32;
-
-const MOST_NAMES: usize = 4_096;
+ghost use Rattle.values.specs.Uses.{Means, RowInside, limits as limitsOf, allowedOf, firstElement, valueFrom, ReadyValue};
 
 // What a name means: the definition in a row, or a month word with its text.
 pub enum Meaning {
@@ -50,7 +50,7 @@ pub enum Allowed {
     No(Reason),
 }
 
-// The month list is asked only if there is no definition.
+// What the name means that stands in the file from `start` to `end`. The month list is asked only if there is no definition.
 fn meaning_of(
     file: &[u8],
     rows: &[u32],
@@ -64,7 +64,7 @@ fn meaning_of(
     requires { ⌜ Indexed (now file) (now rows) (now heads) (now next) × (areMonths (now months) (now words) ≡ true) ⌝ }
     ensures { λ r. ⌜ Means (now (words .entry))
         (meaningOf (lentOf (now (file .entry)) (now (rows .entry)) (now (months .entry)) (now (words .entry))) (row kind.Name start end)) r ⌝ }
-    ensures { λ r. ⌜ Inside (length (now (rows .entry)) / 4) r ⌝ }
+    ensures { λ r. ⌜ RowInside (length (now (rows .entry)) / 4) r ⌝ }
 {
     match index::find(file, rows, heads, next, start, end) {
         Found::Row(i) => {
@@ -93,6 +93,7 @@ fn on_path(path: &[usize], used: usize, i: usize) -> bool
     false
 }
 
+// Whether one more name may be opened: there is one left to open, and the number of names is below 01's limit.
 fn limits(left: usize, names: usize) -> Allowed
     ensures { λ r. ⌜ r ≡ limitsOf left names ⌝ }
 {
@@ -105,10 +106,10 @@ fn limits(left: usize, names: usize) -> Allowed
     Allowed::Yes
 }
 
-// At one use: unknown, cyclic, too deep, too many names.
+// Whether a name may be opened. At one use the refusals come in this order: unknown, cyclic, too deep, too many names.
 fn may_open(m: Meaning, path: &[usize], left: usize, names: usize) -> Allowed
-    requires { ⌜ (length (now path) ≡ 32) × (left ≤ 32) ⌝ }
-    ensures { λ r. ⌜ r ≡ allowedOf m (take (32 - left) (now (path .entry))) left names ⌝ }
+    requires { ⌜ (length (now path) ≡ mostOpen) × (left ≤ mostOpen) ⌝ }
+    ensures { λ r. ⌜ r ≡ allowedOf m (take (mostOpen - left) (now (path .entry))) left names ⌝ }
 {
     match m {
         Meaning::Definition(i) => {
@@ -133,16 +134,16 @@ pub fn element_at(rows: &[u32], i: usize) -> Element
     let kind = rows[i];
     let start = lent::place(rows[i + 2]);
     let end = lent::place(rows[i + 3]);
-    if kind == 6 {
+    if kind == LITERAL {
         return Element::Literal { start, end };
     }
-    if kind == 7 {
+    if kind == NAME {
         return Element::Name { start, end };
     }
     Element::Nothing
 }
 
-// The elements of a value from number `at` of the rows on, with so many names left to open.
+// The elements of a value from number `at` of the rows on, with `left` names left to open.
 pub fn value(
     file: &[u8],
     rows: &[u32],
@@ -161,12 +162,12 @@ pub fn value(
     chunks: &mut [u32],
     text: &mut [u8],
 ) -> Went
-    requires { ⌜ Sound (now file) (now rows) (now months) (now words) (now heads) (now next) (now scratch) (now known) (now marks) (now path) left ×
+    requires { ⌜ ReadyValue (now file) (now rows) (now months) (now words) (now heads) (now next) (now scratch) (now known) (now marks) (now path) left ×
         Bounded first × (at % 4 ≡ 0) × (at ≤ length (now rows) + 8) ⌝ }
     ensures { λ r. ⌜ SaysRun (valueFrom (lentOf (now (file .entry)) (now (rows .entry)) (now (months .entry)) (now (words .entry)))
-        verb left (take (32 - left) (now (path .entry))) (rowsOf (drop at (now (rows .entry)))) (first .names)) first
+        verb left (take (mostOpen - left) (now (path .entry))) (rowsOf (drop at (now (rows .entry)))) (first .names)) first
         (now (chunks .entry)) (now (text .entry)) r (now (chunks .exit)) (now (text .exit)) ⌝ }
-    ensures { λ r. ⌜ BoundedWent r × (take (32 - left) (now (path .exit)) ≡ take (32 - left) (now (path .entry))) ⌝ }
+    ensures { λ r. ⌜ BoundedWent r × (take (mostOpen - left) (now (path .exit)) ≡ take (mostOpen - left) (now (path .entry))) ⌝ }
 {
     let mut st = first;
     let mut i = at;
@@ -229,7 +230,7 @@ pub fn value(
     }
 }
 
-// A name that is used in the file from a place to another.
+// A name that is used in the file from `start` to `end`.
 fn name(
     file: &[u8],
     rows: &[u32],
@@ -249,12 +250,12 @@ fn name(
     chunks: &mut [u32],
     text: &mut [u8],
 ) -> Went
-    requires { ⌜ Sound (now file) (now rows) (now months) (now words) (now heads) (now next) (now scratch) (now known) (now marks) (now path) left ×
+    requires { ⌜ ReadyValue (now file) (now rows) (now months) (now words) (now heads) (now next) (now scratch) (now known) (now marks) (now path) left ×
         Bounded st × (start ≤ 4294967295) × (end ≤ 4294967295) ⌝ }
     ensures { λ r. ⌜ SaysRun (field.name (lentOf (now (file .entry)) (now (rows .entry)) (now (months .entry)) (now (words .entry)))
-        verb left (take (32 - left) (now (path .entry))) (row kind.Name start end) (st .names)) st
+        verb left (take (mostOpen - left) (now (path .entry))) (row kind.Name start end) (st .names)) st
         (now (chunks .entry)) (now (text .entry)) r (now (chunks .exit)) (now (text .exit)) ⌝ }
-    ensures { λ r. ⌜ BoundedWent r × (take (32 - left) (now (path .exit)) ≡ take (32 - left) (now (path .entry))) ⌝ }
+    ensures { λ r. ⌜ BoundedWent r × (take (mostOpen - left) (now (path .exit)) ≡ take (mostOpen - left) (now (path .entry))) ⌝ }
 {
     let m = meaning_of(file, rows, heads, next, months, words, start, end);
     match may_open(m, path, left, st.names) {

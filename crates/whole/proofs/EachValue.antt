@@ -13,8 +13,9 @@ use Rattle.row.specs.declared.fault.Reason.the-variants.{NoRoom, BadRows}
 use Rattle.row.specs.Fault.{nowhere}
 use Rattle.row.specs.Row.{Row}
 use Rattle.row.specs.Numbers.{rowsOf}
+use Rattle.row.specs.Limits.{leastScratch}
 use Rattle.chunk.specs.declared.answer.Checked.the-variants as checked
-use Rattle.resolve.specs.Resolves.{Value, refused, leastScratch, checkedFile, after}
+use Rattle.resolve.specs.Resolves.{Value, refused, checkedFile, after}
 use Rattle.resolve.specs.Checks.{Lent, areLent, isValue, isRight, lentOf}
 use Rattle.values.specs.Field.{fieldOf}
 use Rattle.fields.specs.OneField.{valueAt}
@@ -77,7 +78,7 @@ row-at rs (r ∷ ss) i k e h = by (isValueRow r) refl k (λ k. row-at rs ss (suc
 
 -- ---- the call
 
--- a call for one value that asks the same comes to the value
+-- a call for one value, lent the same, passes its checks and comes to the value
 value-is : (file rows months words : List ℕ) (i : ℕ) (verb : Bool) (w : ℕ) → checkedFile file ≡ checked.Passed → areLent file rows months words ≡ true
     → leb leastScratch w ≡ true → isValue (drop i (rowsOf rows)) ≡ true
     → fieldOf (lentOf file rows months words) verb i ≡ valueAt file rows i verb months words w

@@ -19,7 +19,7 @@ use Rattle.whole.specs.WholeFile.{isValueRow, flag, resultsFrom, chunksI
 use Rattle.whole.specs.WellFormedFile.{AllPass, WellFormedFile}
 use Rattle.whole.proofs.ways.FileWays.{asked-of}
 
--- every value of these passes
+-- every value that is resolved from l passes the writers' check
 abbrev Good : Lent → Type 0
 Good l = (verb : Bool) (i n : ℕ) (cs : List Chunk) → fieldOf l verb i ≡ resolved cs n → Passes cs
 

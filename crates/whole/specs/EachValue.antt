@@ -23,6 +23,7 @@ valueRowsFrom i (r ∷ rs) = cond (isValueRow r) (i ∷ valueRowsFrom (suc i) rs
 abbrev pub valueRows : List ℕ → List ℕ
 valueRows rows = valueRowsFrom 0 (rowsOf rows)
 
+-- value k
 abbrev pub valueNo : List Value → ℕ → Value
 valueNo vs k = getD vs k (refused (nowhere BadRows))
 

@@ -3,3 +3,4 @@ pub mod Filing
 pub mod Bounds
 pub mod WellFormedFile
 pub mod EachValue
+pub mod Refusals

@@ -1,4 +1,5 @@
 // How much a value can come to at most, told from the places of its literals. That is little work beside resolving it.
+use row::limits::MOST_WRITTEN;
 use values::elements;
 use values::elements::Element;
 ghost use Prim.Native.Nat.{_+_, _/_, _<_};
@@ -12,10 +13,7 @@ pub enum Most {
     Unknown,
 }
 
-// The most rows and the most bytes of text that are written.
-pub const MOST_WRITTEN: usize = 4_294_000_000;
-
-// A literal comes to at most one chunk more than it has bytes, and its text has at most twice its bytes.
+// What the value of row i comes to at most. A literal comes to at most one chunk more than it has bytes, and its text has at most twice its bytes.
 pub fn most_of(rows: &[u32], i: usize) -> Most
     requires { ⌜ i < length (now rows) / 4 ⌝ }
     ensures { λ r. ⌜ MostOf (drop (i + 1) (rowsOf (now (rows .entry)))) r ⌝ }

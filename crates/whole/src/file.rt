@@ -3,7 +3,6 @@
 // A refusal of the call must leave its outputs as they were, so it is settled first that there is room for all values. A bound says so for
 // little work where much room is lent. Only where it does not, the values are counted before they are written.
 use crate::bound;
-use crate::bound::MOST_WRITTEN;
 use crate::bound::Most;
 use chunk::answer::Checked;
 use command::names as commands;
@@ -13,12 +12,14 @@ use fields::field;
 use lookup::index;
 use resolve::answer;
 use resolve::answer::Answer;
-use resolve::answer::LEAST_SCRATCH;
 use resolve::lent;
 use resolve::progress::Went;
 use row::fault;
 use row::fault::Fault;
 use row::fault::Reason;
+use row::form::VALUE;
+use row::limits::LEAST_SCRATCH;
+use row::limits::MOST_WRITTEN;
 ghost use mathlib.Core.Path.{_≡_};
 ghost use mathlib.Core.Bool.{true, false};
 ghost use mathlib.Core.List.{List, [], _∷_};
@@ -27,6 +28,7 @@ ghost use lib.ListN.{length, drop};
 ghost use lib.Seq.{sets};
 ghost use Rattle.row.specs.Fault.{nowhere as nowhereOf};
 ghost use Rattle.row.specs.Numbers.{rowsOf};
+ghost use Rattle.row.specs.Limits.{mostBytes, leastScratch, mostWritten};
 ghost use Rattle.lookup.specs.Names.{rowNo};
 ghost use Rattle.lookup.specs.RowIndex.{Indexed};
 ghost use Rattle.resolve.specs.Resolves.{Value};
@@ -34,7 +36,7 @@ ghost use Rattle.resolve.specs.Checks.{lentOf, areLent};
 ghost use Rattle.resolve.specs.Progress.{BoundedWent, BoundedAnswer};
 ghost use Rattle.whole.specs.declared.file.Filed.the-variants as filed;
 ghost use Rattle.whole.specs.WholeFile.{isValueRow, flag, values as valuesOf, results, fitsAll, all, WritesAll, allOf, ResolvesFile};
-ghost use Rattle.whole.specs.Filing.{Filing, Bounded, CountsAll, AddsTo, AddsCounted, AddsAnswer, FitsBehind, sixOf, WroteAll, Begun, Wrote};
+ghost use Rattle.whole.specs.Filing.{Filing, BoundedTotals, CountsAll, AddsTo, AddsCounted, AddsAnswer, FitsBehind, sixOf, WroteAll, CountedTo, WroteTo};
 ghost use Rattle.whole.specs.Bounds.{CoversAll, CoversTo, CoversCounted, Covered};
 
 // The values, chunk rows and bytes of text that were written; or a refusal of the whole call.
@@ -54,9 +56,6 @@ pub struct Totals {
     pub bytes: usize,
     pub over: bool,
 }
-
-// The number of a value's kind.
-const VALUE: u32 = 5;
 
 fn narrow(n: usize) -> u32
     requires { ⌜ n ≤ 4294967295 ⌝ }
@@ -98,8 +97,8 @@ fn flag_at(flags: &[u8], k: usize) -> bool
 
 // One value more. Where there is more than can be written, it is no longer counted.
 fn add(t: Totals, rows: usize, bytes: usize, over: bool) -> Totals
-    requires { ⌜ Bounded t × (rows ≤ 4294000000) × (bytes ≤ 4294000000) × (t .values ≤ 4611686018427387904) ⌝ }
-    ensures { λ r. ⌜ AddsTo t rows bytes over r × Bounded r × CoversTo t rows bytes over r ⌝ }
+    requires { ⌜ BoundedTotals t × (rows ≤ mostWritten) × (bytes ≤ mostWritten) × (t .values ≤ 4611686018427387904) ⌝ }
+    ensures { λ r. ⌜ AddsTo t rows bytes over r × BoundedTotals r × CoversTo t rows bytes over r ⌝ }
 {
     let n = t.rows + rows;
     let m = t.bytes + bytes;
@@ -119,10 +118,10 @@ fn add(t: Totals, rows: usize, bytes: usize, over: bool) -> Totals
     }
 }
 
-// What a value came to that was counted.
+// Adds what a value came to that was counted.
 fn add_counted(t: Totals, w: Went) -> Totals
-    requires { ⌜ Bounded t × BoundedWent w × (t .values ≤ 4611686018427387904) ⌝ }
-    ensures { λ r. ⌜ AddsCounted t w r × Bounded r × CoversCounted t w r ⌝ }
+    requires { ⌜ BoundedTotals t × BoundedWent w × (t .values ≤ 4611686018427387904) ⌝ }
+    ensures { λ r. ⌜ AddsCounted t w r × BoundedTotals r × CoversCounted t w r ⌝ }
 {
     match w {
         Went::Refused(_) => add(t, 0, 0, false),
@@ -134,7 +133,7 @@ fn add_counted(t: Totals, w: Went) -> Totals
 }
 
 fn none() -> Totals
-    ensures { λ r. ⌜ CountsAll [] r × Bounded r × (r .values ≡ 0) × (r .over ≡ false) ⌝ }
+    ensures { λ r. ⌜ CountsAll [] r × BoundedTotals r × (r .values ≡ 0) × (r .over ≡ false) ⌝ }
 {
     Totals {
         values: 0,
@@ -159,7 +158,7 @@ fn count(
 ) -> Totals
     requires { ⌜ Filing (now file) (now rows) (now flags) (now months) (now words) (now heads) (now next) (now scratch) (now known) (now marks) ⌝ }
     ensures { λ r. ⌜ CountsAll (results (lentOf (now (file .entry)) (now (rows .entry)) (now (months .entry)) (now (words .entry)))
-        (now (flags .entry))) r × Bounded r ⌝ }
+        (now (flags .entry))) r × BoundedTotals r ⌝ }
 {
     let mut t = none();
     let mut i = 0;
@@ -187,7 +186,7 @@ fn count(
     t
 }
 
-// Row i behind what the rows before it come to at most, if it is a value.
+// Adds what row i comes to at most, if it is a value, to what the rows before it come to at most.
 fn bound_row(
     file: &[u8],
     rows: &[u32],
@@ -203,9 +202,9 @@ fn bound_row(
     scratch: &mut [u8],
 ) -> Totals
     requires { ⌜ Filing (now file) (now rows) (now flags) (now months) (now words) (now heads) (now next) (now scratch) (now known) (now marks) ×
-        (i < length (now rows) / 4) × Bounded t × Covered (lentOf (now file) (now rows) (now months) (now words)) (now flags) i t ⌝ }
+        (i < length (now rows) / 4) × BoundedTotals t × Covered (lentOf (now file) (now rows) (now months) (now words)) (now flags) i t ⌝ }
     ensures { λ r. ⌜ Covered (lentOf (now (file .entry)) (now (rows .entry)) (now (months .entry)) (now (words .entry))) (now (flags .entry)) (i + 1) r
-        × Bounded r ⌝ }
+        × BoundedTotals r ⌝ }
 {
     if !is_value(rows, i) {
         return t;
@@ -247,7 +246,7 @@ fn most_of_all(
 ) -> Totals
     requires { ⌜ Filing (now file) (now rows) (now flags) (now months) (now words) (now heads) (now next) (now scratch) (now known) (now marks) ⌝ }
     ensures { λ r. ⌜ CoversAll (results (lentOf (now (file .entry)) (now (rows .entry)) (now (months .entry)) (now (words .entry)))
-        (now (flags .entry))) r × Bounded r ⌝ }
+        (now (flags .entry))) r × BoundedTotals r ⌝ }
 {
     let mut t = none();
     let mut i = 0;
@@ -273,7 +272,7 @@ fn most_of_all(
 
 // Whether there is room for all that was counted; or, where a bound was counted, whether there surely is.
 fn fits(t: Totals, answers: &[u32], chunks: &[u32], text: &[u8]) -> bool
-    requires { ⌜ Bounded t ⌝ }
+    requires { ⌜ BoundedTotals t ⌝ }
     ensures { λ r. ⌜ ((vs : List Value) → CountsAll vs t → r ≡ fitsAll vs (now (answers .entry)) (now (chunks .entry)) (now (text .entry))) ×
         ((vs : List Value) → CoversAll vs t → r ≡ true → fitsAll vs (now (answers .entry)) (now (chunks .entry)) (now (text .entry)) ≡ true) ⌝ }
 {
@@ -356,11 +355,11 @@ fn put_answer(
     answers[at + 5] = to;
 }
 
-// The answer row of a value whose rows and text stand behind those of the values before it.
+// Writes the answer row of a value, whose rows and text stand behind those of the values before it.
 fn answer_row(answers: &mut [u32], t: Totals, a: Answer) -> Totals
-    requires { ⌜ Bounded t × BoundedAnswer a × FitsBehind t a × (t .values < length (now answers) / 6) × (t .values ≤ 4611686018427387904) ⌝ }
+    requires { ⌜ BoundedTotals t × BoundedAnswer a × FitsBehind t a × (t .values < length (now answers) / 6) × (t .values ≤ 4611686018427387904) ⌝ }
     ensures { λ r. ⌜ now (answers .exit) ≡ sets (now (answers .entry)) (t .values * 6) (sixOf t a) ⌝ }
-    ensures { λ r. ⌜ AddsAnswer t a r × Bounded r ⌝ }
+    ensures { λ r. ⌜ AddsAnswer t a r × BoundedTotals r ⌝ }
 {
     match a {
         Answer::Refused(f) => {
@@ -393,7 +392,7 @@ fn answer_row(answers: &mut [u32], t: Totals, a: Answer) -> Totals
     }
 }
 
-// Row i behind what the rows before it came to, if it is a value. There is room for all values.
+// Writes row i, if it is a value, behind what the rows before it came to. There is room for all values.
 fn write_row(
     file: &[u8],
     rows: &[u32],
@@ -412,11 +411,11 @@ fn write_row(
     text: &mut [u8],
 ) -> Totals
     requires { ⌜ Filing (now file) (now rows) (now flags) (now months) (now words) (now heads) (now next) (now scratch) (now known) (now marks) ×
-        (i < length (now rows) / 4) × Begun (lentOf (now file) (now rows) (now months) (now words)) (now flags) i t ×
+        (i < length (now rows) / 4) × CountedTo (lentOf (now file) (now rows) (now months) (now words)) (now flags) i t ×
         (fitsAll (results (lentOf (now file) (now rows) (now months) (now words)) (now flags)) (now answers) (now chunks) (now text) ≡ true) ⌝ }
-    ensures { λ r. ⌜ ((q b x : List ℕ) → Wrote (lentOf (now (file .entry)) (now (rows .entry)) (now (months .entry)) (now (words .entry))) (now (flags .entry)) i
+    ensures { λ r. ⌜ ((q b x : List ℕ) → WroteTo (lentOf (now (file .entry)) (now (rows .entry)) (now (months .entry)) (now (words .entry))) (now (flags .entry)) i
         q b x t (now (answers .entry)) (now (chunks .entry)) (now (text .entry)) →
-        Wrote (lentOf (now (file .entry)) (now (rows .entry)) (now (months .entry)) (now (words .entry))) (now (flags .entry)) (i + 1)
+        WroteTo (lentOf (now (file .entry)) (now (rows .entry)) (now (months .entry)) (now (words .entry))) (now (flags .entry)) (i + 1)
         q b x r (now (answers .exit)) (now (chunks .exit)) (now (text .exit))) ⌝ }
 {
     if !is_value(rows, i) {
@@ -490,7 +489,7 @@ fn write(
     t
 }
 
-// After what every call asks, with the index built.
+// Writes all values if there is room for them. The checks have passed, and the index is built.
 fn indexed(
     file: &[u8],
     rows: &[u32],
@@ -504,8 +503,8 @@ fn indexed(
     chunks: &mut [u32],
     text: &mut [u8],
 ) -> Filed
-    requires { ⌜ (length (now file) ≤ 16777215) × (areLent (now file) (now rows) (now months) (now words) ≡ true) ×
-        Indexed (now file) (now rows) (now heads) (now next) × (valuesOf (rowsOf (now rows)) ≤ length (now flags)) × (32768 ≤ length (now scratch)) ⌝ }
+    requires { ⌜ (length (now file) ≤ mostBytes) × (areLent (now file) (now rows) (now months) (now words) ≡ true) ×
+        Indexed (now file) (now rows) (now heads) (now next) × (valuesOf (rowsOf (now rows)) ≤ length (now flags)) × (leastScratch ≤ length (now scratch)) ⌝ }
     ensures { λ r. ⌜ WritesAll (all (results (lentOf (now (file .entry)) (now (rows .entry)) (now (months .entry)) (now (words .entry))) (now (flags .entry))))
         (now (answers .entry)) (now (chunks .entry)) (now (text .entry)) r (now (answers .exit)) (now (chunks .exit)) (now (text .exit)) ⌝ }
 {
@@ -564,7 +563,7 @@ fn nowhere(reason: Reason) -> Filed
     })
 }
 
-// What every call asks, and then the values.
+// The checks that every call makes first, then the index and the values.
 fn whole(
     file: &[u8],
     rows: &[u32],

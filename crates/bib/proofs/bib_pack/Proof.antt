@@ -1,6 +1,6 @@
 -- `bib::bib_pack` meets its contract. Assumes nothing.
 use borrow.Author.Needs.{needs}
-use Rattle.bib.proofs.Exports.{exported}
+use Rattle.bib.proofs.telling.Exports.{exported}
 use Rattle.bib.proofs.bib_pack.Statement.{statement}
 use Rattle.bib.proofs.bib_pack.Tie as tie
 

@@ -1,6 +1,6 @@
 -- `bib::bib_resolve_file` meets its contract. Assumes nothing.
 use borrow.Author.Needs.{needs}
-use Rattle.bib.proofs.Exports.{exported-file}
+use Rattle.bib.proofs.telling.Exports.{exported-file}
 use Rattle.bib.proofs.bib_resolve_file.Statement.{statement}
 use Rattle.bib.proofs.bib_resolve_file.Tie as tie
 

@@ -1,6 +1,6 @@
 -- `bib::bib_resolve_literal` meets its contract. Assumes nothing.
 use borrow.Author.Needs.{needs}
-use Rattle.bib.proofs.Exports.{exported-resolving}
+use Rattle.bib.proofs.telling.Exports.{exported-resolving}
 use Rattle.bib.proofs.bib_resolve_literal.Statement.{statement}
 use Rattle.bib.proofs.bib_resolve_literal.Tie as tie
 

@@ -2,7 +2,7 @@
 use mathlib.Core.Path.{ap, _∙_}
 use borrow.Author.Needs.{needs}
 use Rattle.bib.specs.Export.{ofReading}
-use Rattle.bib.proofs.Exports.{exported}
+use Rattle.bib.proofs.telling.Exports.{exported}
 use Rattle.bib.proofs.bib_salvage.Statement.{statement}
 use Rattle.bib.proofs.bib_salvage.Tie as tie
 

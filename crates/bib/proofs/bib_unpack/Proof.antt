@@ -1,6 +1,6 @@
 -- `bib::bib_unpack` meets its contract. Assumes nothing.
 use borrow.Author.Needs.{needs}
-use Rattle.bib.proofs.Exports.{exported}
+use Rattle.bib.proofs.telling.Exports.{exported}
 use Rattle.bib.proofs.bib_unpack.Statement.{statement}
 use Rattle.bib.proofs.bib_unpack.Tie as tie
 

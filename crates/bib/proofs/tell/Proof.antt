@@ -1,7 +1,7 @@
 -- `bib::tell` meets its contract. Assumes nothing.
 use mathlib.Core.Path.{refl}
 use borrow.Author.Needs.{needs}
-use Rattle.bib.proofs.Exports.{told-refused}
+use Rattle.bib.proofs.telling.Exports.{told-refused}
 use Rattle.bib.proofs.tell.Statement.{statement}
 use Rattle.bib.proofs.tell.Tie as tie
 

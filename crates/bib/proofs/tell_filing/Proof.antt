@@ -1,7 +1,7 @@
 -- `bib::tell_filing` meets its contract. Assumes nothing.
 use mathlib.Core.Path.{refl}
 use borrow.Author.Needs.{needs}
-use Rattle.bib.proofs.Exports.{told-filing}
+use Rattle.bib.proofs.telling.Exports.{told-filing}
 use Rattle.bib.proofs.tell_filing.Statement.{statement}
 use Rattle.bib.proofs.tell_filing.Tie as tie
 

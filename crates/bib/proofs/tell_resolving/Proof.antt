@@ -1,7 +1,7 @@
 -- `bib::tell_resolving` meets its contract. Assumes nothing.
 use mathlib.Core.Path.{refl}
 use borrow.Author.Needs.{needs}
-use Rattle.bib.proofs.Exports.{told-resolving}
+use Rattle.bib.proofs.telling.Exports.{told-resolving}
 use Rattle.bib.proofs.tell_resolving.Statement.{statement}
 use Rattle.bib.proofs.tell_resolving.Tie as tie
 

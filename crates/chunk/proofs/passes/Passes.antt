@@ -1,6 +1,6 @@
 -- A pass over chunk rows, for both writers: `from b cs` is what a writer makes of the chunks cs where its flag is b.
 --     Passing, passed, at-end      the loop: its invariant, its turn, and its end
---     row-here                     a row that passed the check has a range of the text
+--     row-here                     the text of a row that passed the check lies inside the lent text
 --     fills-more, fills-bytes      what the pass answers
 -- Assumes nothing.
 use Prim.Native.Nat.{ℕ, _+_, _≤_, _<_}
@@ -27,8 +27,8 @@ boundary-inside : (t : List ℕ) (n : ℕ) → isBoundary t n ≡ true → n ≤
 unfolding isBoundary
 boundary-inside t n e = leb-true _ _ (both-true (leb n (length t)) (not (within tail (getD t n 256))) e .0)
 
-row-sound : (t : List ℕ) (r : ChunkRow) → isChunk t r ≡ true → (r .from ≤ r .to) × (r .to ≤ length t)
-row-sound t r e =
+row-inside : (t : List ℕ) (r : ChunkRow) → isChunk t r ≡ true → (r .from ≤ r .to) × (r .to ≤ length t)
+row-inside t r e =
     let b = both-true _ _ (both-true (leb (r .kind) 2) _ e .1) in
     (leb-true _ _ (b .0), boundary-inside t (r .to) (both-true (isBoundary t (r .from)) (isBoundary t (r .to)) (b .1) .1))
 
@@ -47,13 +47,13 @@ pub record Passing (from : Bool → List Chunk → List ℕ) (w t l o₀ : List 
   pub long : length o ≡ length o₀
 
 module _ {from : Bool → List Chunk → List ℕ} {w t l o₀ : List ℕ} {n₀ : ℕ} {o : List ℕ} {b : Bool} {n i : ℕ}
-    (g : Passing from w t l o₀ n₀ o b n i) (sound : areChunks t l ≡ true) where
+    (g : Passing from w t l o₀ n₀ o b n i) (all-chunks : areChunks t l ≡ true) where
   module _ (h : i < length l) where
     both : (isChunk t (rowAt l i) ≡ true) × (everyChunk t (chunkRows (drop (i + 5) l)) ≡ true)
-    both = both-true _ _ (opened (g .checks) h ∙ sound)
+    both = both-true _ _ (opened (g .checks) h ∙ all-chunks)
 
     pub row-here : {k f e : ℕ} → Stores l i k f e → (f ≤ e) × (e ≤ length t)
-    row-here s = let y = row-sound t (rowAt l i) (both .0) in (omega (arith, y .0, s .from, s .to), omega (arith, y .1, s .to))
+    row-here s = let y = row-inside t (rowAt l i) (both .0) in (omega (arith, y .0, s .from, s .to), omega (arith, y .1, s .to))
 
     -- the row at i is written as v, and leaves the flag d
     pub passed : {v : List ℕ} {d : Bool} {r : ℕ} {o′ : List ℕ} →

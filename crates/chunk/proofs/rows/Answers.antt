@@ -1,7 +1,8 @@
 -- What the check and the writers answer.
---     ill-formed, bad-rows, sound, are-chunks    the check
---     refused, no-room, wrote                    a writer, by what the check says and its first pass counts
---     written                                    what a writer has written
+--     ill-formed, bad-rows, passed    what the check answers
+--     are-chunks                      what is so where the check passes
+--     refused, no-room, wrote         what a writer answers, by the check's answer and by what its first pass counts
+--     written                         what a writer has written
 -- Assumes nothing.
 use Prim.Native.Nat.{ℕ}
 use native.Mathlib.Omega.{arith}
@@ -34,25 +35,25 @@ pub ill-formed : (t l : List ℕ) (n : ℕ) → validityOf t ≡ validity.IllFor
 unfolding checkedOf
 ill-formed t l n e = sym (ap (rowsChecked t l) e)
 
-pub sound : (t l : List ℕ) → validityOf t ≡ validity.Valid → areChunks t l ≡ true → checked.Passed ≡ checkedOf t l
+pub passed : (t l : List ℕ) → validityOf t ≡ validity.Valid → areChunks t l ≡ true → checked.Passed ≡ checkedOf t l
 unfolding checkedOf
-sound t l e h = sym (ap (rowsChecked t l) e ∙ rw h refl)
+passed t l e h = sym (ap (rowsChecked t l) e ∙ rw h refl)
 
 pub bad-rows : (t l : List ℕ) → validityOf t ≡ validity.Valid → areChunks t l ≡ false → checked.Refused (nowhere BadRows) ≡ checkedOf t l
 unfolding checkedOf
 bad-rows t l e h = sym (ap (rowsChecked t l) e ∙ rw h refl)
 
-both-sound : (t l : List ℕ) (v : Validity) → checked.Passed ≡ rowsChecked t l v → (v ≡ validity.Valid) × (areChunks t l ≡ true)
-both-sound t l validity.Valid e = (refl, by (areChunks t l) e)
+both-passed : (t l : List ℕ) (v : Validity) → checked.Passed ≡ rowsChecked t l v → (v ≡ validity.Valid) × (areChunks t l ≡ true)
+both-passed t l validity.Valid e = (refl, by (areChunks t l) e)
   where
     by : (x : Bool) → checked.Passed ≡ cond x checked.Passed (checked.Refused (nowhere BadRows)) → x ≡ true
     by true e = refl
     by false e = let z : _≡_ {A = ℕ} 0 1 = cc in absurd (omega arith)
-both-sound t l (validity.IllFormed n) e = let z : _≡_ {A = ℕ} 0 1 = cc in absurd (omega arith)
+both-passed t l (validity.IllFormed n) e = let z : _≡_ {A = ℕ} 0 1 = cc in absurd (omega arith)
 
 pub are-chunks : (t l : List ℕ) → checkedOf t l ≡ checked.Passed → (validityOf t ≡ validity.Valid) × (areChunks t l ≡ true)
 unfolding checkedOf
-are-chunks t l e = both-sound t l (validityOf t) (sym e)
+are-chunks t l e = both-passed t l (validityOf t) (sym e)
 
 -- ---- a writer
 

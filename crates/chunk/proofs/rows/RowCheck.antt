@@ -1,8 +1,8 @@
 -- The check of chunk rows.
 --     rows-open, rows-end          the rows from a number on: the next and those behind it, or none
 --     told                         the test of a row, by the numbers that the code reads
---     check-turn, check-stop       at a row that is a chunk's; at one that is not
---     check-count, check-done      where the numbers are no whole number of rows; where the check ends
+--     check-turn, check-stop       the loop goes on at a row that passes the test, and stops at one that does not
+--     check-count, check-done      the answer where the numbers are no whole count of rows; the answer behind the last row
 -- Assumes nothing.
 use Prim.Native.Nat.{ℕ, _+_, _-_, _%_, _≤_, _<_}
 use native.Mathlib.Omega.{arith}
@@ -12,6 +12,7 @@ use mathlib.Core.List.{List, [], _∷_}
 use lib.ListN.{length, getD, drop, drop-of-length-le}
 use borrow.Author.Tests.{eq-eqb, ne-eqb}
 use Rattle.text.proofs.general.Places.{drop-next, drop-more}
+use Rattle.text.specs.Every.{every}
 use Rattle.chunk.specs.Chunk.{ChunkRow, chunkRow, chunkRows, Stores, isChunk, everyChunk, areChunks}
 
 -- the row of the five numbers from i on
@@ -36,7 +37,7 @@ told t l {i} {k} {a} {e} r h =
     let two = ap₂ (λ (x y : ℕ). isChunk t (chunkRow x y e 0 0)) (r .kind) (r .from) in
     sym (two ∙ ap (λ (y : ℕ). isChunk t (chunkRow (getD l i 0) (getD l (i + 1) 0) y 0 0)) (r .to)) ∙ h
 
--- ---- the loop, where the rows before number i are chunks'
+-- ---- the loop, where the rows before number i passed the test
 
 pub record Checking (t l : List ℕ) (i : ℕ) : Type 0 where
   pub same : everyChunk t (chunkRows (drop i l)) ≡ areChunks t l
@@ -53,7 +54,7 @@ module _ {t l : List ℕ} {i : ℕ} (g : Checking t l i) where
     five = omega (arith, g .whole)
 
     pub opened : isChunk t (rowAt l i) && everyChunk t (chunkRows (drop (i + 5) l)) ≡ areChunks t l
-    unfolding everyChunk
+    unfolding every
     opened = sym (ap (everyChunk t) (rows-open l i five)) ∙ g .same
 
     pub check-turn : isChunk t (rowAt l i) ≡ true → Checking t l (i + 5)
@@ -63,7 +64,7 @@ module _ {t l : List ℕ} {i : ℕ} (g : Checking t l i) where
     check-stop e = rw e at opened
 
   pub check-done : length l ≤ i → true ≡ areChunks t l
-  unfolding everyChunk
+  unfolding every
   check-done h = sym (ap (everyChunk t) (rows-end l i h)) ∙ g .same
 
 pub check-count : (t l : List ℕ) → (length l % 5 ≡ 0 → ⊥) → false ≡ areChunks t l

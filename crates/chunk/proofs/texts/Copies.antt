@@ -1,6 +1,6 @@
 -- Bytes of a text copied over lent bytes, one by one.
 --     copy-start, copy-on, copied    where the loop begins, its turn, and its end
---     copy-past                     copying past the end of the lent bytes changes nothing
+--     copy-past                      copying past the end of the lent bytes changes nothing
 -- Assumes nothing.
 use Prim.Native.Nat.{ℕ, _+_, _-_, _≤_, _<_}
 use mathlib.Core.Path.{_≡_, sym, ap}

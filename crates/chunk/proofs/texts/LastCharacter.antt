@@ -5,7 +5,7 @@
 --     code-seen                             the code point of the character at a place
 --     white-none, white-last                whether a text ends in white space
 -- Assumes nothing.
-use Prim.Native.Nat.{ℕ, suc, _+_, _-_, _≤_, _<_, min}
+use Prim.Native.Nat.{ℕ, suc, _+_, _-_, _≤_, _<_}
 use native.Mathlib.Omega.{arith}
 use mathlib.Core.Path.{_≡_, refl, sym, ap, _∙_}
 use mathlib.Core.Bool.{Bool, true, false, cond}
@@ -21,7 +21,8 @@ use Rattle.text.specs.declared.scanner.Seen.the-variants.{End, Char}
 use Rattle.text.proofs.general.Places.{boundary-in}
 use Rattle.text.proofs.Shapes.{shapes}
 use Rattle.chunk.specs.Format.{lastFrom, lastAt, lastCode, endsWhite}
-use Rattle.text.proofs.general.Parts.{part-none, part-more, length-part, drop-take, drop-part}
+use Rattle.text.proofs.general.Parts.{part-none, part-more, length-part, drop-part, part-drop}
+use Rattle.text.proofs.general.Lists.{add-over}
 
 -- ---- the place of the last character
 
@@ -33,10 +34,7 @@ last-snoc [] best i b = ap (cond (within tail b) best) (zeroed i)
     zeroed i = omega arith
 last-snoc (a ∷ t) best i b =
     last-snoc t (cond (within tail a) best i) (suc i) b
-    ∙ ap (cond (within tail b) (lastFrom (cond (within tail a) best i) (suc i) t)) (moved i (length t))
-  where
-    moved : (i n : ℕ) → suc i + n ≡ i + suc n
-    moved i n = omega arith
+    ∙ ap (cond (within tail b) (lastFrom (cond (within tail a) best i) (suc i) t)) (add-over i (length t))
 
 -- one step back, from i to j
 module _ (t : List ℕ) (a i j : ℕ) (h : a ≤ j) (e : i ≡ j + 1) (l : i ≤ length t) where
@@ -121,11 +119,8 @@ code-seen t v at to r r₁ e l n h q =
     ∙ ap (λ (x : List ℕ). codeIn (seeFrom x at)) same
     ∙ seen (part t at to) at (omega (arith, length-part t at to (omega arith) n))
   where
-    least : (to n : ℕ) → to ≤ n → to ≡ min to n
-    least to n h = omega arith
-
     same : drop at (take to t) ≡ part t at to
-    same = drop-take at to t ∙ ap (λ (m : ℕ). take (m - at) (drop at t)) (least to (length t) n)
+    same = sym (part-drop t at to n)
 
 -- ---- white space
 

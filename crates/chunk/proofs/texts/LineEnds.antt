@@ -92,7 +92,7 @@ module _ {t : List ℕ} {a e : ℕ} {w₀ : Bool} {o₀ : List ℕ} {n : ℕ} {o
   on : (v : List ℕ) (x : Written) → before (g .text ++ v) x ≡ before (g .text) (before v x)
   on v x = ap (λ (y : List ℕ). written y (x .white)) (append-assoc (g .text) v (x .text))
 
-  -- after a run that ends at k
+  -- the turn over a run that ends at k
   pub runs : {k r : ℕ} {o′ : List ℕ} {w′ : Bool} → i < k → k ≤ e → plain (part t i k) ≡ true → stops (part t k e) ≡ true →
       w′ ≡ endsWhite (part t i k) → Puts o j (part t i k) r o′ → length o′ ≡ length o → Lining t a e w₀ o₀ n o′ w′ k r
   runs {k} h m p s q y z = record {

@@ -10,7 +10,7 @@ use mathlib.Core.Bool.{Bool, true, false, not, _&&_, _||_}
 use mathlib.Core.List.{List, [], _∷_}
 use lib.Dec.{eqb, leb}
 use borrow.Author.Tests.{ne-eqb, leb-true}
-use Rattle.text.specs.Utf8.{isChar, Octets, isScalar, octets, value, gather}
+use Rattle.text.specs.Utf8.{isChar, isScalar, octets, value, gather}
 use Rattle.text.specs.Class.{mark}
 use Rattle.text.proofs.general.Tests.{both-true}
 use Rattle.text.specs.Shapes.{Shape, one, two, three, four}
@@ -21,9 +21,6 @@ use Rattle.chunk.specs.Inner.{plain}
 
 pub ascii : (b : ℕ) → b ≤ 0x7F → isChar (b ∷ []) ≡ true
 ascii b h = shapes .shape-char (one h)
-
-pub ascii-text : (b : ℕ) → b ≤ 0x7F → Octets (b ∷ [])
-ascii-text b h = shapes .octets-char (b ∷ []) (ascii b h)
 
 -- octets above ASCII are no line ends, and are not escaped
 pub high-line : (b : ℕ) → 0x80 ≤ b → isLineEnd b ≡ false
@@ -51,11 +48,12 @@ high-escape verb b h =
     by true = refl
     by false = refl
 
--- a sequence is a character of ASCII, or has no octet of ASCII
+-- no octet is ASCII
 pub data High : List ℕ → Type 0 where
   end : High []
   on : {b : ℕ} {w : List ℕ} → 0x80 ≤ b → High w → High (b ∷ w)
 
+-- a character of ASCII, or a sequence with no octet of ASCII
 pub data Kept : List ℕ → Type 0 where
   low : {b : ℕ} → b ≤ 0x7F → Kept (b ∷ [])
   high : {w : List ℕ} → High w → Kept w

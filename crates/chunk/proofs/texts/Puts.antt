@@ -9,11 +9,8 @@ use mathlib.Core.Path.{_≡_, refl, sym, ap, subst, _∙_}
 use mathlib.Core.List.{List, [], _∷_, _++_}
 use lib.ListN.{length, drop, set, length-append, length-set}
 use lib.Seq.{sets, sets-eq, set-out}
+use Rattle.text.proofs.general.Lists.{sets-append}
 use Rattle.chunk.specs.Put.{Puts}
-
-sets-append : (v w o : List ℕ) (n : ℕ) → sets o n (v ++ w) ≡ sets (sets o n v) (n + length v) w
-sets-append [] w o n = ap (λ (k : ℕ). sets o k w) (omega arith)
-sets-append (b ∷ v) w o n = sets-append v w (set o n b) (suc n) ∙ ap (λ (k : ℕ). sets (sets (set o n b) (suc n) v) k w) (omega arith)
 
 sets-past : (w o : List ℕ) (n : ℕ) → length o ≤ n → sets o n w ≡ o
 sets-past [] o n h = refl

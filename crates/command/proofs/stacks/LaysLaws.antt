@@ -17,7 +17,7 @@ use Rattle.text.specs.Utf8.{isScalar, octets, further, fits, Encode}
 use Rattle.text.specs.declared.utf8.Encoded.{Encoded}
 use Rattle.text.specs.declared.utf8.Encoded.the-variants as encoded
 use Rattle.text.specs.Scan.{part}
-use Rattle.text.proofs.general.Parts.{part-more, length-part, drop-take}
+use Rattle.text.proofs.general.Parts.{part-more, length-part, part-drop}
 use Rattle.command.specs.Stack.{Lays}
 use Rattle.command.proofs.stacks.MoreParts.{take-part}
 
@@ -39,7 +39,7 @@ lays-on n w v o r o₁ r₁ o₂ h k = record {
     sum : (n r r₁ a b c : ℕ) → r ≡ n + a → r₁ ≡ r + b → c ≡ a + b → r₁ ≡ n + c
     sum n r r₁ a b c p q s = omega arith
 
--- what stands from a to e lies on what stands below a
+-- what stands from a to e already counts as laid behind what stands below a
 pub lays-still : (o : List ℕ) (a e : ℕ) → a ≤ e → e ≤ length o → Lays a (part o a e) o e o
 lays-still o a e h l = record {
   end = back a e (length (part o a e)) h (length-part o a e h l);
@@ -55,7 +55,7 @@ lays-still o a e h l = record {
 
 -- ---- `copy` and `push`
 
--- after one octet more
+-- `copy` after one octet more
 pub copy-on : (s o₀ o : List ℕ) (a i j n x : ℕ) → a ≤ i → i < length s → j < length o → x ≡ getD s i 0
     → take j o ≡ take n o₀ ++ part s a i → take (j + 1) (set o j x) ≡ take n o₀ ++ part s a (i + 1)
 copy-on s o₀ o a i j n x h l k e q =
@@ -91,7 +91,7 @@ wipe-all o i n e k q = sym (take-length o) ∙ ap (λ (m : ℕ). take m o) (sym 
 
 -- ---- `put_code`
 
--- the number of octets written and one more; so a refusal is 0
+-- the number of octets written plus one, so that a refusal is 0
 abbrev pub wroteOf : Encoded → ℕ
 wroteOf (encoded.Wrote n) = suc n
 wroteOf encoded.NotScalar = 0
@@ -184,11 +184,8 @@ lays-below n w o r o′ h l =
 -- the text that was laid stands from n to r
 pub lays-part : (n : ℕ) (w o : List ℕ) (r : ℕ) (o′ : List ℕ) → Lays n w o r o′ → n ≤ length o → r ≤ length o′ → part o′ n r ≡ w
 lays-part n w o r o′ h l k =
-    ap (λ (m : ℕ). take (m - n) (drop n o′)) (least r (length o′) k) ∙ sym (drop-take n r o′) ∙ ap (drop n) (h .text)
+    part-drop o′ n r k ∙ ap (drop n) (h .text)
     ∙ ap (λ (m : ℕ). drop m (take n o ++ w)) (sym (length-take-le n o l)) ∙ drop-append-seam (take n o) w
-  where
-    least : (r k : ℕ) → r ≤ k → min r k ≡ r
-    least r k h = omega arith
 
 pub lays-over : (n : ℕ) (w o o₁ : List ℕ) (r : ℕ) (o′ : List ℕ) → take n o₁ ≡ take n o → Lays n w o₁ r o′ → Lays n w o r o′
 lays-over n w o o₁ r o′ e h = record { end = h .end; text = h .text ∙ ap (λ (t : List ℕ). t ++ w) e }
@@ -198,13 +195,8 @@ module _ (n : ℕ) (w o : List ℕ) (f : ℕ) (o₁ v : List ℕ) (e : ℕ) (o�
     (l : n ≤ length o) (k : f ≤ length o₁) (m : e ≤ length o₂) where
   pub both-first : part o₂ n f ≡ w
   both-first =
-      ap (λ (i : ℕ). take (i - n) (drop n o₂)) (least f (length o₂) e (omega (arith, y .end)) m) ∙ sym (drop-take n f o₂)
-      ∙ ap (drop n) (lays-below f v o₁ e o₂ y k)
-      ∙ drop-take n f o₁ ∙ ap (λ (i : ℕ). take (i - n) (drop n o₁)) (sym (least f (length o₁) f (omega arith) k))
+      part-drop o₂ n f (omega (arith, y .end, m)) ∙ ap (drop n) (lays-below f v o₁ e o₂ y k) ∙ sym (part-drop o₁ n f k)
       ∙ lays-part n w o f o₁ x l k
-    where
-      least : (f k e : ℕ) → f ≤ e → e ≤ k → min f k ≡ f
-      least f k e h i = omega arith
 
   pub both-second : part o₂ f e ≡ v
   both-second = lays-part f v o₁ e o₂ y k m

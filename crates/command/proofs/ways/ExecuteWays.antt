@@ -20,8 +20,8 @@ use Rattle.command.specs.declared.meaning.Meaning.the-variants.{Itself, 
 use Rattle.command.specs.Stack.{Lays}
 use Rattle.text.specs.Strings.{utf8}
 use Rattle.text.proofs.general.Parts.{length-part}
-use Rattle.text.specs.Same.{sameBytes}
-use Rattle.command.specs.Commands.{Named, commands, meaningIn, meaningOf}
+use Rattle.text.specs.SameBytes.{sameBytes}
+use Rattle.command.specs.Commands.{CommandRow, commands, meaningIn, meaningOf}
 use Rattle.command.specs.Execute.{executed, given, absent, leading, Sane}
 use Rattle.command.proofs.stacks.LaysLaws.{lays-as, lays-on, lays-still}
 
@@ -41,10 +41,10 @@ leads-unknown n name o k r₁ o₁ r₂ o₂ r o′ e x y z =
 
 module _ (name : List ℕ) (m : Meaning) (o : List ℕ) (at from to : ℕ) (af : at ≤ from) (ft : from ≤ to) (l : to ≤ length o)
     (q : part o at from ≡ leading name m) where
-  abbrev Runs : ℕ → List ℕ → Type 0
-  Runs r o′ = Lays at (executed name (given (part o from to)) m) o r o′
+  abbrev Executes : ℕ → List ℕ → Type 0
+  Executes r o′ = Lays at (executed name (given (part o from to)) m) o r o′
 
-  pub runs-as : (k : Meaning) (w : List ℕ) (r : ℕ) (o′ : List ℕ) → m ≡ k → w ≡ executed name (given (part o from to)) k → Lays at w o r o′ → Runs r o′
+  pub runs-as : (k : Meaning) (w : List ℕ) (r : ℕ) (o′ : List ℕ) → m ≡ k → w ≡ executed name (given (part o from to)) k → Lays at w o r o′ → Executes r o′
   runs-as k w r o′ e h x = lays-as at w _ o r o′ (h ∙ sym (ap (executed name (given (part o from to))) e)) x
 
   pub no-lead : (k : Meaning) → m ≡ k → leading name k ≡ [] → from ≡ at
@@ -52,7 +52,7 @@ module _ (name : List ℕ) (m : Meaning) (o : List ℕ) (at from to : ℕ) (af :
 
   -- a command that writes nothing before its argument may write over it
   pub as-from : (k : Meaning) (w : List ℕ) (r : ℕ) (o′ : List ℕ) → m ≡ k → leading name k ≡ [] → w ≡ executed name (given (part o from to)) k
-      → Lays from w o r o′ → Runs r o′
+      → Lays from w o r o′ → Executes r o′
   as-from k w r o′ e n h x = runs-as k w r o′ e h (subst (λ (i : ℕ). Lays i w o r o′) (no-lead k e n) x)
 
   joined : Lays at (leading name m ++ part o from to) o to o
@@ -60,12 +60,12 @@ module _ (name : List ℕ) (m : Meaning) (o : List ℕ) (at from to : ℕ) (af :
       lays-as at (part o at from ++ part o from to) _ o to o (ap (λ (t : List ℕ). t ++ part o from to) q)
       (lays-on at (part o at from) (part o from to) o from o to o (lays-still o at from af (omega (arith, ft, l))) (lays-still o from to ft l))
 
-  pub copyright : m ≡ Copyright → Runs to o
+  pub copyright : m ≡ Copyright → Executes to o
   copyright e =
       runs-as Copyright (octets 0xA9 ++ part o from to) to o e refl
       (lays-as at (leading name m ++ part o from to) _ o to o (ap (λ (k : Meaning). leading name k ++ part o from to) e) joined)
 
-  pub unknown : (r : ℕ) (o′ : List ℕ) → m ≡ Unknown → Lays to (0x7D ∷ []) o r o′ → Runs r o′
+  pub unknown : (r : ℕ) (o′ : List ℕ) → m ≡ Unknown → Lays to (0x7D ∷ []) o r o′ → Executes r o′
   unknown r o′ e x =
       runs-as Unknown ((leading name m ++ part o from to) ++ 0x7D ∷ []) r o′ e
       (ap (λ (k : Meaning). (leading name k ++ part o from to) ++ 0x7D ∷ []) e ∙ shape name (part o from to) (0x7D ∷ []))
@@ -98,7 +98,7 @@ sane Copyright = true
 sane Hyphenation = true
 sane Unknown = true
 
-abbrev allSane : List Named → Bool
+abbrev allSane : List CommandRow → Bool
 allSane [] = true
 allSane (r ∷ rs) = sane (r .means) && allSane rs
 
@@ -111,7 +111,7 @@ is-sane Copyright t = tt
 is-sane Hyphenation t = tt
 is-sane Unknown t = tt
 
-in-sane : (rs : List Named) (name : List ℕ) → allSane rs ≡ true → Sane (meaningIn rs name)
+in-sane : (rs : List CommandRow) (name : List ℕ) → allSane rs ≡ true → Sane (meaningIn rs name)
 unfolding meaningIn
 in-sane [] name t = tt
 in-sane (r ∷ rs) name t =

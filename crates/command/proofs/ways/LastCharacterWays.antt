@@ -16,15 +16,15 @@ use Rattle.text.specs.Utf8.{isScalar, octets, width, value, gather}
 use Rattle.text.specs.Scan.{part, code}
 use Rattle.compose.specs.declared.Composed.{Composed}
 use Rattle.compose.specs.declared.Composed.the-variants as composed
-use Rattle.compose.specs.Lookup.{Row, numbers, lookup}
+use Rattle.compose.specs.Lookup.{Composite, numbers, lookup}
 use Rattle.compose.specs.Composites.{composites}
 use Rattle.compose.specs.Halving.{halved}
-use Rattle.compose.specs.Composition.{every}
 use Rattle.compose.proofs.Composition.{composition}
 use Rattle.text.proofs.general.Tests.{both-true}
 use Rattle.command.specs.Stack.{Lays}
 use Rattle.chunk.specs.Format.{lastAt, lastCode}
 use Rattle.text.proofs.general.Parts.{length-part, drop-part}
+use Rattle.text.specs.Every.{every}
 use Rattle.chunk.proofs.texts.LastCharacter.{last-less}
 use Rattle.command.specs.Execute.{front, dotted, bare, marked, withMark, lastCharCombine, given}
 use Rattle.command.proofs.stacks.MoreParts.{take-part}
@@ -33,7 +33,7 @@ use Rattle.command.proofs.stacks.LaysLaws.{lays-as, lays-on, octets-few
 -- ---- the characters that are written
 
 -- a row of the composition table: the composed character is a scalar value, and has at most three octets unless its letter has four
-abbrev fine : Row → Bool
+abbrev fine : Composite → Bool
 fine r = isScalar (r .char) && (leb (r .char) 0xFFFF || leb 0x10000 (r .letter))
 
 all-fine : every fine composites ≡ true
@@ -145,7 +145,7 @@ module _ (o : List ℕ) (a e : ℕ) (ae : a ≤ e) (eo : e ≤ length o) where
 pub looked : (t : List ℕ) (d m c : ℕ) (r x : Composed) → r ≡ halved t d m → t ≡ numbers composites → d ≡ dotted c → r ≡ x
     → lookup composites (dotted c) m ≡ x
 looked t d m c r x h e q f =
-    sym (composition .halves (dotted c) m) ∙ sym (ap₂ (λ (s : List ℕ) (n : ℕ). halved s n m) e q) ∙ sym h ∙ f
+    sym (composition .by-halving (dotted c) m) ∙ sym (ap₂ (λ (s : List ℕ) (n : ℕ). halved s n m) e q) ∙ sym h ∙ f
 
 -- ---- there is room for what is written
 

@@ -1,12 +1,12 @@
 -- The list of commands, and the rows of bytes in which src/names.rt has it: for src/meaning.rt.
---     other, at-key                      names of one octet, which the checker computes from the list
---     left-on, left-off, other-length    two ranges of bytes, compared octet by octet
---     Going, is-here, missed, found, ended, room       the search, one row after another
+--     other, at-key                                 names of one octet: what they mean is computed from the list
+--     left-on, left-off, other-length               two ranges of bytes, compared octet by octet
+--     Going, is-here, missed, found, ended, room    the search, one row after another
 -- Assumes nothing.
 use Prim.Native.Nat.{ℕ, suc, _+_, _-_, _≤_, _<_, min}
 use native.Mathlib.Omega.{arith}
 use mathlib.Core.Path.{_≡_, refl, sym, ap, ap₂, _∙_}
-use mathlib.Core.Bool.{Bool, true, false, cond, _||_}
+use mathlib.Core.Bool.{Bool, true, false, cond}
 use mathlib.Core.List.{List, [], _∷_, _++_}
 use lib.ListN.{length, getD, take, drop, length-drop, length-append}
 use lib.Seq.{getD-drop, drop-drop, take-append-seam, drop-append-seam}
@@ -19,20 +19,21 @@ use Rattle.command.specs.declared.meaning.Meaning.{Meaning}
 use Rattle.command.specs.declared.meaning.Meaning.the-variants.{Unknown}
 use Rattle.text.specs.Strings.{utf8}
 use Rattle.text.proofs.general.Parts.{part-head, length-part}
-use Rattle.text.specs.Same.{sameBytes}
-use Rattle.text.proofs.general.Same.{same-length}
-use Rattle.command.specs.Commands.{Named, commands, meaningIn, meaningOf}
-use Rattle.command.specs.Names.{Row, codeOf, decoded, flat, meaningBy, rowOf, rowsOf, long, names}
+use Rattle.text.specs.SameBytes.{sameBytes}
+use Rattle.text.proofs.general.SameBytes.{same-length}
+use Rattle.text.proofs.general.Tests.{both-false}
+use Rattle.command.specs.Commands.{CommandRow, commands, meaningIn, meaningOf}
+use Rattle.command.specs.Names.{NameRow, codeOf, decoded, flat, meaningBy, rowOf, rowsOf, long, names}
 use Rattle.command.proofs.stacks.MoreParts.{part-empty}
 
 -- ---- names of one octet
 
 -- the rows whose names have n octets
-unfoldable pub only : ℕ → List Named → List Named
+unfoldable pub only : ℕ → List CommandRow → List CommandRow
 only n [] = []
 only n (r ∷ rs) = cond (eqb (length (utf8 (r .name))) n) (r ∷ only n rs) (only n rs)
 
-only-says : (cs : List Named) (name : List ℕ) (n : ℕ) → length name ≡ n → meaningIn cs name ≡ meaningIn (only n cs) name
+only-says : (cs : List CommandRow) (name : List ℕ) (n : ℕ) → length name ≡ n → meaningIn cs name ≡ meaningIn (only n cs) name
 unfolding meaningIn only
 only-says [] name n h = refl
 only-says (r ∷ cs) name n h = by (eqb (length (utf8 (r .name))) n) refl (only-says cs name n h)
@@ -46,19 +47,15 @@ one-says : (b : ℕ) → meaningOf (b ∷ []) ≡ meaningIn (only 1 commands) (b
 one-says b = only-says commands (b ∷ []) 1 refl
 
 -- the first octets of names
-unfoldable firsts : List Named → List ℕ
+unfoldable firsts : List CommandRow → List ℕ
 firsts [] = []
 firsts (r ∷ rs) = getD (utf8 (r .name)) 0 0 ∷ firsts rs
 
-neither : (a b : Bool) → (a || b) ≡ false → (a ≡ false) × (b ≡ false)
-neither true b h = let z : _≡_ {A = ℕ} 0 1 = cc in absurd (omega arith)
-neither false b h = (refl, h)
-
-none : (rs : List Named) (b : ℕ) → mark (firsts rs) b ≡ false → Unknown ≡ meaningIn rs (b ∷ [])
+none : (rs : List CommandRow) (b : ℕ) → mark (firsts rs) b ≡ false → Unknown ≡ meaningIn rs (b ∷ [])
 unfolding meaningIn firsts sameBytes
 none [] b h = refl
 none (r ∷ rs) b h =
-    let n = neither (eqb b (getD (utf8 (r .name)) 0 0)) (mark (firsts rs) b) h in
+    let n = both-false (eqb b (getD (utf8 (r .name)) 0 0)) (mark (firsts rs) b) h in
     rw (differs (utf8 (r .name)) (n .0)) (none rs b (n .1))
   where
     differs : (t : List ℕ) → eqb b (getD t 0 0) ≡ false → sameBytes t (b ∷ []) ≡ false
@@ -135,20 +132,20 @@ abbrev rest : List Meaning → List Meaning
 rest [] = []
 rest (m ∷ ms) = ms
 
-unfoldable told : List Named → List Meaning
+unfoldable told : List CommandRow → List Meaning
 told [] = []
 told (r ∷ rs) = decoded (codeOf (rowOf r .x) (rowOf r .y) (rowOf r .z)) ∷ told rs
 
-unfoldable meant : List Named → List Meaning
+unfoldable meant : List CommandRow → List Meaning
 meant [] = []
 meant (r ∷ rs) = r .means ∷ meant rs
 
-rows-say : (cs : List Named) (name : List ℕ) → told cs ≡ meant cs → meaningBy (rowsOf cs) name ≡ meaningIn cs name
+rows-say : (cs : List CommandRow) (name : List ℕ) → told cs ≡ meant cs → meaningBy (rowsOf cs) name ≡ meaningIn cs name
 unfolding told meant meaningBy rowsOf meaningIn
 rows-say [] name h = refl
 rows-say (r ∷ cs) name h = ap₂ (cond (sameBytes (utf8 (r .name)) name)) (ap head h) (rows-say cs name (ap rest h))
 
-long-says : (cs : List Named) (name : List ℕ) → (length name ≡ 1 → ⊥) → meaningIn (long cs) name ≡ meaningIn cs name
+long-says : (cs : List CommandRow) (name : List ℕ) → (length name ≡ 1 → ⊥) → meaningIn (long cs) name ≡ meaningIn cs name
 unfolding meaningIn long
 long-says [] name h = refl
 long-says (r ∷ cs) name h = by (eqb (length (utf8 (r .name))) 1) refl (long-says cs name h)
@@ -170,7 +167,7 @@ names-say name h = rows-say (long commands) name all-told ∙ long-says commands
 
 -- the rows from byte i on say of the name what the list says
 pub record Going (t name : List ℕ) (i : ℕ) : Type 0 where
-  pub rows : List Row
+  pub rows : List NameRow
   pub here : drop i t ≡ flat rows
   pub inside : i ≤ length t
   pub says : meaningBy rows name ≡ meaningOf name
@@ -181,8 +178,8 @@ going t name e h = record { rows = rowsOf (long commands); here = e; inside = om
 
 -- the row at i, and those behind it
 pub record Here (t name : List ℕ) (i : ℕ) : Type 0 where
-  pub row : Row
-  pub rows : List Row
+  pub row : NameRow
+  pub rows : List NameRow
   pub here : drop i t ≡ flat (row ∷ rows)
   pub says : meaningBy (row ∷ rows) name ≡ meaningOf name
 
@@ -190,7 +187,7 @@ pub is-here : (t name : List ℕ) (i : ℕ) → Going t name i → i < length t 
 unfolding flat
 is-here t name i g l = by (g .rows) (g .here) (g .says)
   where
-    by : (rs : List Row) → drop i t ≡ flat rs → meaningBy rs name ≡ meaningOf name → Here t name i
+    by : (rs : List NameRow) → drop i t ≡ flat rs → meaningBy rs name ≡ meaningOf name → Here t name i
     by [] h s = absurd (omega (arith, ap length h, length-drop i t, l))
     by (r ∷ rs) h s = record { row = r; rows = rs; here = h; says = s }
 
@@ -268,7 +265,7 @@ pub ended : (t name : List ℕ) (i : ℕ) → Going t name i → length t ≤ i 
 unfolding flat meaningBy
 ended t name i g l = by (g .rows) (g .here) (g .says)
   where
-    by : (rs : List Row) → drop i t ≡ flat rs → meaningBy rs name ≡ meaningOf name → Unknown ≡ meaningOf name
+    by : (rs : List NameRow) → drop i t ≡ flat rs → meaningBy rs name ≡ meaningOf name → Unknown ≡ meaningOf name
     by [] h s = s
     by (r ∷ rs) h s = absurd (omega (arith, ap length h, length-drop i t, l))
 

@@ -13,7 +13,7 @@ returns : tie.Need-returns
 returns c =
     let a = c .before .before .before .args in
     let table = c .before .before .table in
-    c .find .ensures ∙ ap (λ (t : List ℕ). halved t (a .letter) (a .mark)) (table .ensures) ∙ composition .halves (a .letter) (a .mark)
+    c .find .ensures ∙ ap (λ (t : List ℕ). halved t (a .letter) (a .mark)) (table .ensures) ∙ composition .by-halving (a .letter) (a .mark)
 
 pub compose-spec : {M : Type 1} → statement M
 compose-spec = tie.close (tie.spec (λ c κs. search needs) (λ c. search needs) (λ c κs. search needs) returns)

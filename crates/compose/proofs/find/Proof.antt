@@ -7,7 +7,7 @@ use native.Mathlib.Omega.{arith}
 use lib.ListN.{length}
 use borrow.Author.Needs.{needs}
 use Rattle.compose.specs.Halving.{between, halved}
-use Rattle.compose.proofs.Halving.{on-behind, on-front, on-it, over}
+use Rattle.compose.proofs.lists.Halving.{on-behind, on-front, on-it, over}
 use Rattle.compose.proofs.find.Statement.{statement}
 use Rattle.compose.proofs.find.Tie as tie
 

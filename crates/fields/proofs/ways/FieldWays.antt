@@ -1,14 +1,14 @@
 -- A value over a small room, and then over what is lent: for `count`, `write` and `field` of src/field.rt.
---     says-count                        from the same number of names
---     sound-first, answer-bounded       what `value` asks, and the bounds of an answer
---     write-refused, write-full         the value is refused, or there is no room for it
---     write-room                        how much it comes to, where there is
---     write-copied, write-again         it is copied from the small room, or resolved again
---     count-as                          the value is counted only
---     right-as, lent-right, which-inside      what `field` asks
---     field-at, count-at                the value of a row
+--     says-count                              a run begins with the number of names so far, written in another way
+--     ready-value-first, answer-bounded       what `value` requires, and the bounds of an answer
+--     write-refused, write-full               the value is refused, or there is no room for it
+--     write-room                              there is room, and how much the value comes to
+--     write-copied, write-again               the value is copied from the small room, or resolved again
+--     count-as                                the value is counted only
+--     right-as, lent-right, which-inside      what `field` checks
+--     field-at, count-at                      the value of a row
 -- Assumes nothing.
-use Prim.Native.Nat.{ℕ, suc, _+_, _-_, _*_, _/_, _≤_, _<_, min}
+use Prim.Native.Nat.{ℕ, suc, _+_, _-_, _*_, _/_, _≤_, _<_}
 use native.Mathlib.Omega.{arith}
 use mathlib.Core.Path.{_≡_, refl, sym, ap, ap₂, subst, _∙_}
 use mathlib.Core.Bool.{Bool, true, false, cond, not, _&&_}
@@ -19,11 +19,13 @@ use lib.Dec.{leb, ltb}
 use borrow.Author.Tests.{leb-true, ltb-true, ltb-false, not-true, not-false}
 use Rattle.text.specs.Scan.{part}
 use Rattle.text.proofs.general.Tests.{both-true}
+use Rattle.text.proofs.general.Parts.{part-take}
 use Rattle.row.specs.declared.fault.Fault.{Fault}
 use Rattle.row.specs.declared.fault.Reason.the-variants.{NoRoom}
 use Rattle.row.specs.Fault.{nowhere}
 use Rattle.row.specs.Row.{Row}
 use Rattle.row.specs.Numbers.{rowsOf}
+use Rattle.row.specs.Limits.{mostOpen}
 use Rattle.row.proofs.Laid.{laid}
 use Rattle.chunk.specs.Chunk.{Chunk, flatChunks}
 use Rattle.turn.specs.Content.{flatten}
@@ -40,7 +42,7 @@ use Rattle.resolve.specs.Runs.{Run, done, stop}
 use Rattle.resolve.specs.Progress.{Has, answerOf, Bounded, SaysRun, BoundedAnswer, Counted}
 use Rattle.resolve.proofs.Asking.{asking}
 use Rattle.values.specs.Field.{flattened, ofRun, fieldOf}
-use Rattle.values.specs.Uses.{valueFrom, Sound}
+use Rattle.values.specs.Uses.{valueFrom, ReadyValue}
 use Rattle.fields.specs.OneField.{Resolving}
 
 -- ---- chunks that were counted
@@ -55,7 +57,7 @@ module _ (cs : List Chunk) (b₀ t₀ : List ℕ) (st : Progress) (b t : List �
   texts : textsOf flat ≡ textsOf cs
   texts = flattening .texts-flat cs
 
-  -- what they come to, where they fit over the numbers c and the bytes s
+  -- what the chunks come to, where they fit into the numbers c and the bytes s
   module _ (c s : List ℕ) (x : fits flat c s ≡ true) where
     both : (small flat ≡ true) × ((leb (length flat) (length c / 5) && leb (length (textsOf flat)) (length s)) ≡ true)
     both = both-true (small flat) (leb (length flat) (length c / 5) && leb (length (textsOf flat)) (length s)) x
@@ -94,7 +96,7 @@ module _ (cs : List Chunk) (b₀ t₀ : List ℕ) (st : Progress) (b t : List �
         ∙ ap (λ (n : ℕ). textsOf flat ++ drop n s) (zeroed (length (textsOf flat)))
         ∙ ap (λ (w : Bool). cond w (textsOf flat ++ drop (length (textsOf flat)) s) s) (sym x)
 
--- ---- what the room holds that they were counted over, where they fit over it
+-- ---- what the room holds over which the chunks were counted, where they fit into it
 
 module _ (cs : List Chunk) (b₀ t₀ : List ℕ) (st : Progress) (b t : List ℕ) (has : Has cs b₀ t₀ st b t) (n : length b ≡ length b₀)
     (m : length t ≡ length t₀) (x : fits (flatten cs) b t ≡ true) where
@@ -108,13 +110,10 @@ module _ (cs : List Chunk) (b₀ t₀ : List ℕ) (st : Progress) (b t : List �
 
   held-text : part t 0 (st .bytes) ≡ textsOf cs
   held-text =
-      ap (λ (n : ℕ). take n t) (least (st .bytes) (length t) (enough cs b₀ t₀ st b t has b t x .1))
+      part-take t (st .bytes) (enough cs b₀ t₀ st b t has b t x .1)
       ∙ ap (take (st .bytes)) (has .text (right cs b₀ t₀ st b t has b t x) ∙ sets-eq (textsOf cs) t₀ 0 room)
       ∙ take-at (textsOf cs) (drop (0 + length (textsOf cs)) t₀) (st .bytes) (sym (has .bytes (right cs b₀ t₀ st b t has b t x)))
     where
-      least : (n m : ℕ) → n ≤ m → min n m - 0 ≡ n
-      least n m p = omega arith
-
       room : 0 + length (textsOf cs) ≤ length t₀
       room = omega (arith, has .bytes (right cs b₀ t₀ st b t has b t x), enough cs b₀ t₀ st b t has b t x .1, m)
 
@@ -124,11 +123,11 @@ pub says-count : (g : ℕ → Run) (n m : ℕ) → n ≡ m → (st : Progress) (
     → SaysRun (g m) st b t r b′ t′
 says-count g n m e st b t r b′ t′ h = subst (λ (k : ℕ). SaysRun (g k) st b t r b′ t′) e h
 
--- no name is open
-pub sound-first : (file rows months words heads next w byName byMark : List ℕ) (i : ℕ) (w′ held : List ℕ)
-    → Resolving file rows months words heads next w byName byMark i → length w′ ≡ length w → length held ≡ 32
-    → Sound file rows months words heads next w′ byName byMark held 32
-sound-first file rows months words heads next w byName byMark i w′ held h k e = record {
+-- what `value` requires at the beginning, where no name is open
+pub ready-value-first : (file rows months words heads next w byName byMark : List ℕ) (i : ℕ) (w′ held : List ℕ)
+    → Resolving file rows months words heads next w byName byMark i → length w′ ≡ length w → length held ≡ mostOpen
+    → ReadyValue file rows months words heads next w′ byName byMark held mostOpen
+ready-value-first file rows months words heads next w byName byMark i w′ held h k e = record {
   short = h .short;
   lent = h .lent;
   index = h .index;
@@ -156,7 +155,7 @@ module _ (run : Run) (first : Progress) (begins : (b t : List ℕ) → Has [] b 
     counted : SaysRun run first b₀ t₀ (went.Done st) b t
     counted = subst (λ (r : Went). SaysRun run first b₀ t₀ r b t) e h
 
-    -- what `fits` answers of any room
+    -- what `fits` answers for a room
     abbrev pub Fitted : Bool → List ℕ → List ℕ → Type 0
     Fitted x c s = (ps : List Chunk) (b₀ t₀ b t : List ℕ) → Has ps b₀ t₀ st b t → x ≡ fits (flatten ps) c s
 
@@ -229,7 +228,7 @@ count-as (stop g) first begins b₀ t₀ (went.Refused f) b t k = k
 
 -- ---- a field
 
--- what `field` asks of the rows and of the chosen row, as the code tests it
+-- what `field` checks of the rows and of the chosen row, as the code tests it
 module _ (file rows months words : List ℕ) (which : ℕ) (x y : Bool) (p : x ≡ areLent file rows months words) (q : y ≡ isValue (drop which (rowsOf rows)))
   where
     pub right-as : (x && y) ≡ isRight file rows which months words
@@ -256,7 +255,7 @@ module _ (file rows months words : List ℕ) (which : ℕ) (x y : Bool) (p : x �
 -- the value's elements stand behind its row
 module _ (l : Lent) (verb : Bool) (rows : List ℕ) (which : ℕ) (e : l .rows ≡ rowsOf rows) where
   abbrev from : List Row → Value
-  from rs = ofRun (flattened (valueFrom l verb 32 [] rs 0))
+  from rs = ofRun (flattened (valueFrom l verb mostOpen [] rs 0))
 
   rows-behind : rowsOf (drop (which * 4 + 4) rows) ≡ drop (suc which) (l .rows)
   rows-behind = sym (ap (drop (suc which)) e ∙ laid .rows-by (suc which) rows ∙ ap (λ (n : ℕ). rowsOf (drop n rows)) (next which))

@@ -1,7 +1,7 @@
 -- Content is a way through its text.
---     ends-place         an argument that begins at a boundary ends at one, and so does the brace behind it
---     command-leads, backslash-leads
---     content-reads      content, with any number of arguments left to open
+--     ends-place                           an argument that begins at a boundary ends at one, and so does the brace behind it
+--     command-moves, backslash-moves       a command is a way, and so is all that may stand behind a backslash
+--     content-reads                        content is a way, with any number of arguments left to open
 -- Assumes nothing.
 use Prim.Native.Nat.{ℕ, zero, suc, _+_, _≤_, _<_}
 use native.Mathlib.Omega.{arith}
@@ -29,8 +29,8 @@ use Rattle.turn.specs.Content.{Part, put, cut, math, Reader, nameEnd, takesOne,
 use Rattle.turn.specs.Content.{ran, backslash, backslashAt, isEscape, begins, maths, closing, hyphens, copy, contentTurn, contentBy, inside}
 use Rattle.turn.specs.Content.{content}
 use Rattle.turn.proofs.Turning.{turning}
-use Rattle.turn.specs.Turns.{Ends}
-use Rattle.literal.proofs.characters.Moves.{owed, move-none, Leads, Reads, eaten-by, cond-by, turned, many-reads}
+use Rattle.turn.specs.Turns.{ArgumentEnds}
+use Rattle.literal.proofs.characters.Moves.{owed, move-none, MovesOut, Reads, eaten-by, cond-by, turn-moves, many-reads}
 use Rattle.literal.proofs.characters.TurnMoves.{To, skip-place, seen-place, ascii-place, past, copy-move, blank-move, one, free, cut-move}
 use Rattle.literal.proofs.characters.TurnMoves.{math-move, slash-move, dash-one, dash-two, dash-three, escape-move, odd-move, alone-move}
 use Rattle.literal.proofs.characters.TurnMoves.{one-move, braced-move}
@@ -118,18 +118,18 @@ module _ (argument : Reader) (A : Reads argument) (s : List ℕ) (p n e : ℕ) (
   to-w : To s p w
   to-w = skip-place isWhitespace s p e to-e
 
-  braced-leads : opensAt (see s w) ≡ true → Leads s p (braced argument (part s n e) s (w + 1))
+  braced-moves : opensAt (see s w) ≡ true → MovesOut s p (braced argument (part s n e) s (w + 1))
   unfolding braced
-  braced-leads h = by (argumentEnd s (w + 1)) (turning .end-inside s (w + 1) (turning .opens-inside s w h)) (ends-place s (w + 1))
+  braced-moves h = by (argumentEnd s (w + 1)) (turning .end-inside s (w + 1) (turning .opens-inside s w h)) (ends-place s (w + 1))
     where
       to-a : To s p (w + 1)
       to-a o b = opens-place s w h o (to-w o b)
 
-      by : (o : OutOf Part) → Ends (length s) (w + 1) o → EndPlaces s (w + 1) o
-          → Leads s p (endsAt o (λ f. ran (w + 1) (part s n e) (argument (take f s) (w + 1)) (λ v. ok (f + 1) (put v ∷ []))))
+      by : (o : OutOf Part) → ArgumentEnds (length s) (w + 1) o → EndPlaces s (w + 1) o
+          → MovesOut s p (endsAt o (λ f. ran (w + 1) (part s n e) (argument (take f s) (w + 1)) (λ v. ok (f + 1) (put v ∷ []))))
       by (ok f xs) x y = run (argument (take f s) (w + 1)) (A (take f s) (w + 1) (omega (arith, x .0, x .1, length-take f s)))
         where
-          run : (o : OutOf Part) → Leads (take f s) (w + 1) o → Leads s p (ran (w + 1) (part s n e) o (λ v. ok (f + 1) (put v ∷ [])))
+          run : (o : OutOf Part) → MovesOut (take f s) (w + 1) o → MovesOut s p (ran (w + 1) (part s n e) o (λ v. ok (f + 1) (put v ∷ [])))
           run (ok q ys) m = braced-move s p n e at free l k to-n to-e (w + 1) f q ys (omega arith) (x .0) (x .1) to-a y m
           run (again q ys a) m = braced-move s p n e at free l k to-n to-e (w + 1) f q ys (omega arith) (x .0) (x .1) to-a y m
           run (bad g) m = tt
@@ -139,28 +139,28 @@ module _ (argument : Reader) (A : Reads argument) (s : List ℕ) (p n e : ℕ) (
   abbrev last : OutOf Part
   last = ok w (put (executeCommand (part s n e) absent) ∷ [])
 
-  last-leads : Leads s p last
-  last-leads = alone-move s p n e at free l k to-n to-e
+  last-moves : MovesOut s p last
+  last-moves = alone-move s p n e at free l k to-n to-e
 
-  two : (x : Bool) → opensAt (see s w) ≡ x → (y : Bool) → Leads s p (cond (y && x) (braced argument (part s n e) s (w + 1)) last)
-  two true o y = cond-by (Leads s p) (y && true) _ _ (braced-leads o) last-leads
-  two false o true = last-leads
-  two false o false = last-leads
+  two : (x : Bool) → opensAt (see s w) ≡ x → (y : Bool) → MovesOut s p (cond (y && x) (braced argument (part s n e) s (w + 1)) last)
+  two true o y = cond-by (MovesOut s p) (y && true) _ _ (braced-moves o) last-moves
+  two false o true = last-moves
+  two false o false = last-moves
 
-  named : (c m : ℕ) → Leads s p (withName argument c n m e w s n)
+  named : (c m : ℕ) → MovesOut s p (withName argument c n m e w s n)
   unfolding withName
   named c m =
       let r = seeing .next-inside s w (w-in .1) in
-      cond-by (Leads s p) (takesOne c m e w s) _ _
+      cond-by (MovesOut s p) (takesOne c m e w s) _ _
       (one-move s p n e at free l k to-n to-e (nextOf w (see s w)) (r .0) (r .1) (λ o b. next-place s w o (to-w o b)))
       (two (opensAt (see s w)) refl (eqb e w))
 
 -- ---- behind the backslash at p, which ends at n
 
 module _ (argument : Reader) (A : Reads argument) (s : List ℕ) (p c n : ℕ) (e : see s p ≡ Char c n) (l : c < 0x80) where
-  command-leads : (c₁ m : ℕ) → see s n ≡ Char c₁ m → Leads s p (command argument c₁ m s n)
+  command-moves : (c₁ m : ℕ) → see s n ≡ Char c₁ m → MovesOut s p (command argument c₁ m s n)
   unfolding command
-  command-leads c₁ m e₁ =
+  command-moves c₁ m e₁ =
       let a = past s n c₁ m e₁ in
       let i = inside-name (isSingleCharFunc c₁ false) (a .1) in
       named argument A s p n (nameEnd c₁ m s) (one s p c n e l) (free s p c n e l) (omega (arith, a .0, i .0)) (i .1) (seen-place s p c n e)
@@ -171,66 +171,66 @@ module _ (argument : Reader) (A : Reads argument) (s : List ℕ) (p c n : ℕ) (
       inside-name true h = (omega arith, h, λ o b. b)
       inside-name false h = let k = seeing .skip-inside isIdContinue s m h in (k .0, k .1, skip-place isIdContinue s m m (λ o b. b))
 
-  backslash-leads : (verb : Bool) → Leads s p (backslash argument verb s n)
+  backslash-moves : (verb : Bool) → MovesOut s p (backslash argument verb s n)
   unfolding backslash
-  backslash-leads verb = by verb (see s n) refl
+  backslash-moves verb = by verb (see s n) refl
     where
-      alone : Leads s p (ok n (put (0x5C ∷ []) ∷ []))
+      alone : MovesOut s p (ok n (put (0x5C ∷ []) ∷ []))
       alone = slash-move s p c n e l
 
-      by : (verb : Bool) (v : Seen) → see s n ≡ v → Leads s p (backslashAt argument verb s n v)
+      by : (verb : Bool) (v : Seen) → see s n ≡ v → MovesOut s p (backslashAt argument verb s n v)
       by true End q = alone
       by false End q = tt
-      by true (Char c₁ m) q = cond-by (Leads s p) (isEscape true c₁) _ _ (escape-move s p c n e l c₁ m q) alone
-      by false (Char c₁ m) q = cond-by (Leads s p) (isEscape false c₁) _ _ (escape-move s p c n e l c₁ m q) (two (begins c₁) refl)
+      by true (Char c₁ m) q = cond-by (MovesOut s p) (isEscape true c₁) _ _ (escape-move s p c n e l c₁ m q) alone
+      by false (Char c₁ m) q = cond-by (MovesOut s p) (isEscape false c₁) _ _ (escape-move s p c n e l c₁ m q) (two (begins c₁) refl)
         where
-          two : (x : Bool) → begins c₁ ≡ x → Leads s p (cond x (command argument c₁ m s n) (ok n (put (0x5C ∷ part s n m) ∷ [])))
-          two true h = command-leads c₁ m q
+          two : (x : Bool) → begins c₁ ≡ x → MovesOut s p (cond x (command argument c₁ m s n) (ok n (put (0x5C ∷ part s n m) ∷ [])))
+          two true h = command-moves c₁ m q
           two false h = odd-move s p c n e l c₁ m q h
 
 -- ---- the other turns
 
-maths-leads : (d : ℕ) (s : List ℕ) (p c n : ℕ) → see s p ≡ Char c n → c < 0x80 → Leads s p (maths d s p)
+maths-moves : (d : ℕ) (s : List ℕ) (p c n : ℕ) → see s p ≡ Char c n → c < 0x80 → MovesOut s p (maths d s p)
 unfolding maths
-maths-leads d s p c n e l = by (skip (fails test.Dollar) s (p + 1)) refl
+maths-moves d s p c n e l = by (skip (fails test.Dollar) s (p + 1)) refl
   where
     by : (f : ℕ) → f ≡ skip (fails test.Dollar) s (p + 1)
-        → Leads s p (cond (ltb f (length s)) (ok (f + 1) (cut d p (f + 1) ∷ math (part s (p + 1) f) (p + 1) f ∷ [])) (bad (faultAt UnexpectedEof f)))
+        → MovesOut s p (cond (ltb f (length s)) (ok (f + 1) (cut d p (f + 1) ∷ math (part s (p + 1) f) (p + 1) f ∷ [])) (bad (faultAt UnexpectedEof f)))
     by f q = two (ltb f (length s)) (ltb-true f (length s))
       where
         two : (b : Bool) → (b ≡ true → f < length s)
-            → Leads s p (cond b (ok (f + 1) (cut d p (f + 1) ∷ math (part s (p + 1) f) (p + 1) f ∷ [])) (bad (faultAt UnexpectedEof f)))
+            → MovesOut s p (cond b (ok (f + 1) (cut d p (f + 1) ∷ math (part s (p + 1) f) (p + 1) f ∷ [])) (bad (faultAt UnexpectedEof f)))
         two true h = math-move s p c n e l d f q (h refl)
         two false h = tt
 
-hyphens-lead : (s : List ℕ) (p : ℕ) → p ≤ length s → Leads s p (hyphens s p)
+hyphens-moves : (s : List ℕ) (p : ℕ) → p ≤ length s → MovesOut s p (hyphens s p)
 unfolding hyphens
-hyphens-lead s p h =
-    eaten-by (Leads s p) (is 0x2D) s p _ _
+hyphens-moves s p h =
+    eaten-by (MovesOut s p) (is 0x2D) s p _ _
     (λ c n e t. let l = small c 0x2D (omega arith) t in
-    eaten-by (Leads s p) (is 0x2D) s n _ _
-    (λ c₁ m e₁ t₁. eaten-by (Leads s p) (is 0x2D) s m _ _ (λ c₂ r e₂ t₂. dash-three s p c n e l c₁ m e₁ c₂ r e₂) (dash-two s p c n e l c₁ m e₁))
+    eaten-by (MovesOut s p) (is 0x2D) s n _ _
+    (λ c₁ m e₁ t₁. eaten-by (MovesOut s p) (is 0x2D) s m _ _ (λ c₂ r e₂ t₂. dash-three s p c n e l c₁ m e₁ c₂ r e₂) (dash-two s p c n e l c₁ m e₁))
     (dash-one s p c n e l))
     (move-none s p h)
 
 turn-reads : (argument : Reader) → Reads argument → (verb : Bool) (d : ℕ) → Reads (contentTurn argument verb d)
 unfolding contentTurn closing
 turn-reads argument A verb d s p h =
-    eaten-by (Leads s p) (is 0x5C) s p _ _
-    (λ c n e t. turned s p d (backslash argument verb s n) (backslash-leads argument A s p c n e (small c 0x5C (omega arith) t) verb))
-    (eaten-by (Leads s p) (λ c. eqb c 0x24 && not verb) s p _ _
-    (λ c n e t. turned s p d (maths d s p) (maths-leads d s p c n e (small c 0x24 (omega arith) (both-true (eqb c 0x24) (not verb) t .0))))
-    (eaten-by (Leads s p) (is 0x7B) s p _ _ (λ c n e t. cut-move s p c n e (small c 0x7B (omega arith) t) (suc d))
-    (eaten-by (Leads s p) (is 0x7D) s p _ _ (λ c n e t. closes d c n e (small c 0x7D (omega arith) t))
-    (eaten-by (Leads s p) (λ c. eqb c 0x2D && not verb) s p _ _ (λ c n e t. turned s p d (hyphens s p) (hyphens-lead s p h))
-    (eaten-by (Leads s p) isWhitespace s p _ _ (λ c n e t. blank-move s p c n e t)
-    (eaten-by (Leads s p) any s p _ _ (λ c n e t. itself c n e) (move-none s p h)))))))
+    eaten-by (MovesOut s p) (is 0x5C) s p _ _
+    (λ c n e t. turn-moves s p d (backslash argument verb s n) (backslash-moves argument A s p c n e (small c 0x5C (omega arith) t) verb))
+    (eaten-by (MovesOut s p) (λ c. eqb c 0x24 && not verb) s p _ _
+    (λ c n e t. turn-moves s p d (maths d s p) (maths-moves d s p c n e (small c 0x24 (omega arith) (both-true (eqb c 0x24) (not verb) t .0))))
+    (eaten-by (MovesOut s p) (is 0x7B) s p _ _ (λ c n e t. cut-move s p c n e (small c 0x7B (omega arith) t) (suc d))
+    (eaten-by (MovesOut s p) (is 0x7D) s p _ _ (λ c n e t. closes d c n e (small c 0x7D (omega arith) t))
+    (eaten-by (MovesOut s p) (λ c. eqb c 0x2D && not verb) s p _ _ (λ c n e t. turn-moves s p d (hyphens s p) (hyphens-moves s p h))
+    (eaten-by (MovesOut s p) isWhitespace s p _ _ (λ c n e t. blank-move s p c n e t)
+    (eaten-by (MovesOut s p) any s p _ _ (λ c n e t. itself c n e) (move-none s p h)))))))
   where
-    closes : (d c n : ℕ) → see s p ≡ Char c n → c < 0x80 → Leads s p (closing d s p)
+    closes : (d c n : ℕ) → see s p ≡ Char c n → c < 0x80 → MovesOut s p (closing d s p)
     closes zero c n e l = tt
     closes (suc d) c n e l = cut-move s p c n e l d
 
-    itself : (c n : ℕ) → see s p ≡ Char c n → Leads s p (andThen (copy s p) (turn d s))
+    itself : (c n : ℕ) → see s p ≡ Char c n → MovesOut s p (andThen (copy s p) (turn d s))
     itself c n e = rw e (copy-move s p c n e)
 
 -- ---- content

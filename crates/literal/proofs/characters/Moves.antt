@@ -1,8 +1,8 @@
--- A way through a text and the parts that it emits, closed under the ways to make readers.
---     owed, owed-most, owed-odd, owed-inside      what a backslash before white space has written ahead of its place
+-- A way through a text and the parts that it emits; and that readers made of such readers go such ways too.
+--     owed, owed-most, owed-odd, owed-inside      what a backslash has written ahead of its place, of a character that it does not eat
 --     Move, move-none, move-on, move-put          a way from one place to another
---     Leads, Reads                                an outcome that is a way; a reader whose outcomes are
---     eaten-by, turned, many-reads                by what is seen; a turn; a loop
+--     MovesOut, Reads                             an outcome that is a way; a reader all of whose outcomes are ways
+--     eaten-by, turn-moves, many-reads            a reader that goes by what it sees; a turn; a loop
 -- Assumes nothing.
 use Prim.Native.Nat.{ℕ, zero, suc, _+_, _*_, _-_, _≤_, _<_}
 use native.Mathlib.Omega.{arith}
@@ -22,7 +22,7 @@ use Rattle.literal.proofs.characters.PartsToChunks.{PartTexts, append-t
 -- ---- what is owed
 
 -- A backslash before a character that no name begins with writes that character too, and does not eat it. So it has written more than twice
--- its own byte, where the character has many octets; what is too much is owed by the turn that reads the character.
+-- its own byte, where the character has several octets. The excess is owed at the character's place, and made up for by the turn that reads it.
 abbrev owing : ℕ → Seen → ℕ
 owing p End = 0
 owing p (Char c n) = cond (begins c) 0 (n - p - 1)
@@ -56,7 +56,8 @@ owed-inside s p h = by (see s p) refl
 
 -- ---- a way from p to q through the text s, which emits xs
 
--- It emits at most two octets for each one read, and ends at most one chunk. From a boundary of a text that is UTF-8 it leads to a boundary, and emits texts that are.
+-- It emits at most two octets and ends at most one chunk for each octet read. From a boundary of a text that is UTF-8 it leads to a boundary,
+-- and emits texts that are UTF-8.
 pub record Move (s : List ℕ) (p q : ℕ) (xs : List Part) : Type 0 where
   pub from : p ≤ q
   pub to : q ≤ length s
@@ -91,20 +92,20 @@ move-put s p q w h l z f =
 
 -- ---- outcomes and readers
 
-abbrev pub Leads : List ℕ → ℕ → OutOf Part → Type 0
-Leads s p (ok q xs) = Move s p q xs
-Leads s p (again q xs a) = Move s p q xs
-Leads s p (bad f) = Unit {0}
+abbrev pub MovesOut : List ℕ → ℕ → OutOf Part → Type 0
+MovesOut s p (ok q xs) = Move s p q xs
+MovesOut s p (again q xs a) = Move s p q xs
+MovesOut s p (bad f) = Unit {0}
 
 abbrev pub Reads : Reader → Type 0
-Reads f = (s : List ℕ) (p : ℕ) → p ≤ length s → Leads s p (f s p)
+Reads f = (s : List ℕ) (p : ℕ) → p ≤ length s → MovesOut s p (f s p)
 
-more-leads : (s : List ℕ) (p q : ℕ) (xs : List Part) (o : OutOf Part) → Move s p q xs → Leads s q o → Leads s p (more xs o)
-more-leads s p q xs (ok r ys) m h = move-on s p q r xs ys m h
-more-leads s p q xs (again r ys a) m h = move-on s p q r xs ys m h
-more-leads s p q xs (bad f) m h = tt
+more-moves : (s : List ℕ) (p q : ℕ) (xs : List Part) (o : OutOf Part) → Move s p q xs → MovesOut s q o → MovesOut s p (more xs o)
+more-moves s p q xs (ok r ys) m h = move-on s p q r xs ys m h
+more-moves s p q xs (again r ys a) m h = move-on s p q r xs ys m h
+more-moves s p q xs (bad f) m h = tt
 
--- by what is seen
+-- a reader that goes by what it sees
 pub eaten-by : (R : OutOf Part → Type 0) (t : ℕ → Bool) (s : List ℕ) (p : ℕ) (f : ℕ → OutOf Part) (o : OutOf Part)
     → ((c n : ℕ) → see s p ≡ Char c n → t c ≡ true → R (f n)) → R o → R (eaten t (see s p) f o)
 eaten-by R t s p f o h k = by (see s p) refl
@@ -122,21 +123,21 @@ cond-by R true x y h k = h
 cond-by R false x y h k = k
 
 -- a reader, and then the loop
-pub turned : (s : List ℕ) (p d : ℕ) (o : OutOf Part) → Leads s p o → Leads s p (andThen o (turn d s))
-turned s p d (ok q xs) m = move-on s p q q xs [] m (move-none s q (m .to))
-turned s p d (again q xs a) m = move-on s p q q xs [] m (move-none s q (m .to))
-turned s p d (bad f) m = tt
+pub turn-moves : (s : List ℕ) (p d : ℕ) (o : OutOf Part) → MovesOut s p o → MovesOut s p (andThen o (turn d s))
+turn-moves s p d (ok q xs) m = move-on s p q q xs [] m (move-none s q (m .to))
+turn-moves s p d (again q xs a) m = move-on s p q q xs [] m (move-none s q (m .to))
+turn-moves s p d (bad f) m = tt
 
-after-leads : (s : List ℕ) (p : ℕ) (o : OutOf Part) (g : ℕ → ℕ → OutOf Part) → Leads s p o
-    → ((b q : ℕ) → q ≤ length s → Leads s q (g b q)) → Leads s p (after o g)
-after-leads s p (ok q xs) g m h = m
-after-leads s p (again q xs a) g m h = more-leads s p q xs (g a q) m (h a q (m .to))
-after-leads s p (bad f) g m h = tt
+after-moves : (s : List ℕ) (p : ℕ) (o : OutOf Part) (g : ℕ → ℕ → OutOf Part) → MovesOut s p o
+    → ((b q : ℕ) → q ≤ length s → MovesOut s q (g b q)) → MovesOut s p (after o g)
+after-moves s p (ok q xs) g m h = m
+after-moves s p (again q xs a) g m h = more-moves s p q xs (g a q) m (h a q (m .to))
+after-moves s p (bad f) g m h = tt
 
 loop-reads : (f : ℕ → Reader) → ((a : ℕ) → Reads (f a)) → (n a : ℕ) → Reads (loop f n a)
 unfolding loop
 loop-reads f F zero a s p h = tt
-loop-reads f F (suc n) a s p h = after-leads s p (f a s p) (λ b q. loop f n b s q) (F a s p h) (λ b q l. loop-reads f F n b s q l)
+loop-reads f F (suc n) a s p h = after-moves s p (f a s p) (λ b q. loop f n b s q) (F a s p h) (λ b q l. loop-reads f F n b s q l)
 
 pub many-reads : (f : ℕ → Reader) → ((a : ℕ) → Reads (f a)) → (a : ℕ) → Reads (many f a)
 unfolding many

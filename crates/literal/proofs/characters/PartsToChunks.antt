@@ -1,10 +1,10 @@
 -- What parts come to: the texts and the sizes of their chunks.
---     PartTexts, weights, ends          the texts of parts are UTF-8; how much parts write, a chunk of math with its dollar signs; how many chunks
---                                       they end
---     append-texts, weights-append, ends-append     of parts one after another
---     chunks-texts                      the texts of their chunks are UTF-8
---     chunks-text, chunks-formatted     the text of their chunks, and that text formatted, is no more than the parts write
---     chunks-few                        there is at most one chunk more than the parts end
+--     PartTexts                                     the texts of parts are UTF-8
+--     weights, ends                                 how much parts write, a chunk of math with its dollar signs; how many chunks they end
+--     append-texts, weights-append, ends-append     these three for parts one after another
+--     chunks-texts                                  the texts of the parts' chunks are UTF-8
+--     chunks-text, chunks-formatted                 the text of their chunks, and that text formatted, is no more than the parts write
+--     chunks-few                                    there is at most one chunk more than the parts end
 -- Assumes nothing.
 use Prim.Native.Nat.{ℕ, zero, suc, _+_, _≤_}
 use native.Mathlib.Omega.{arith}
@@ -18,8 +18,9 @@ use Rattle.chunk.specs.declared.form.Kind.{Kind}
 use Rattle.chunk.specs.declared.form.Kind.the-variants.{Normal, Verbatim, Math}
 use Rattle.chunk.specs.Chunk.{Chunk, chunk}
 use Rattle.chunk.specs.Format.{before, isLineEnd, white, lines, formatOne, formatFrom, formatVerbatim}
-use Rattle.chunk.specs.WellFormed.{Texts}
+use Rattle.chunk.specs.WellFormed.{TextsUtf8}
 use Rattle.chunk.specs.WellFormed as texts
+use Rattle.chunk.proofs.WellFormed.{well-formed}
 use Rattle.command.specs.Stack.{defaultChunk}
 use Rattle.turn.specs.Content.{Part, put, cut, math, State, step, steps, pushed, closed, beginning, chunksOf}
 use Rattle.literal.specs.Rows.{textsOf}
@@ -67,33 +68,29 @@ ends-append (x ∷ xs) ys = omega (arith, ends-append xs ys)
 
 -- ---- the texts of their chunks
 
-pub texts-append : {cs ds : List Chunk} → Texts cs → Texts ds → Texts (cs ++ ds)
-texts-append texts.none k = k
-texts-append (texts.next o h) k = texts.next o (texts-append h k)
-
 -- the texts of a state
 abbrev StateTexts : State → Type 0
-StateTexts σ = Texts (σ .done) × Octets (σ .text)
+StateTexts σ = TextsUtf8 (σ .done) × Octets (σ .text)
 
-pushed-texts : (σ : State) (e : ℕ) → StateTexts σ → Texts (pushed σ e)
-pushed-texts σ e h = texts-append (h .0) (texts.next (h .1) texts.none)
+pushed-texts : (σ : State) (e : ℕ) → StateTexts σ → TextsUtf8 (pushed σ e)
+pushed-texts σ e h = well-formed .append (h .0) (texts.next (h .1) texts.none)
 
 step-texts : (σ : State) (x : Part) → PartText x → StateTexts σ → StateTexts (step σ x)
 step-texts σ (put w) o h = (h .0, shapes .octets-append (h .1) o)
 step-texts σ (cut d e b) o h = (pushed-texts σ e h, none)
-step-texts σ (math w a e) o h = (texts-append (h .0) (texts.next o texts.none), h .1)
+step-texts σ (math w a e) o h = (well-formed .append (h .0) (texts.next o texts.none), h .1)
 
 steps-texts : (xs : List Part) (σ : State) → PartTexts xs → StateTexts σ → StateTexts (steps σ xs)
 unfolding steps
 steps-texts [] σ k h = h
 steps-texts (x ∷ xs) σ k h = steps-texts xs (step σ x) (k .1) (step-texts σ x (k .0) h)
 
-closed-texts : (σ : State) (e : ℕ) (t : List ℕ) (cs : List Chunk) → StateTexts σ → Texts (closed σ e t cs)
+closed-texts : (σ : State) (e : ℕ) (t : List ℕ) (cs : List Chunk) → StateTexts σ → TextsUtf8 (closed σ e t cs)
 closed-texts σ e [] [] h = pushed-texts σ e h
 closed-texts σ e [] (c ∷ cs) h = h .0
 closed-texts σ e (b ∷ t) cs h = pushed-texts σ e h
 
-pub chunks-texts : (p e : ℕ) (xs : List Part) → PartTexts xs → Texts (chunksOf p e xs)
+pub chunks-texts : (p e : ℕ) (xs : List Part) → PartTexts xs → TextsUtf8 (chunksOf p e xs)
 chunks-texts p e xs k =
     let σ : State = steps (beginning p) xs in
     closed-texts σ e (σ .text) (σ .done) (steps-texts xs (beginning p) k (texts.none, none))
@@ -114,7 +111,7 @@ sizes-append : (cs ds : List Chunk) → sizes (cs ++ ds) ≡ sizes cs + sizes ds
 sizes-append [] ds = omega arith
 sizes-append (c ∷ cs) ds = omega (arith, sizes-append cs ds)
 
--- the chunk under construction is not of math, and there are n bytes
+-- the chunk under construction is not of math, and all chunks have at most n bytes, with the dollar signs of math
 pub record StateSize (σ : State) (n : ℕ) : Type 0 where
   pub plain : dollars (σ .kind) ≡ 0
   pub size : sizes (σ .done) + length (σ .text) ≤ n
@@ -150,7 +147,7 @@ chunks-size p e xs =
     closed-size σ e (weights xs) (σ .text) (σ .done)
     (steps-size xs (beginning p) 0 (weights xs) (omega arith) (record { plain = refl; size = omega arith }))
 
--- ---- of the text, and of the text formatted
+-- ---- the sizes of the text, and of the text formatted
 
 text-size : (cs : List Chunk) → length (textsOf cs) ≤ sizes cs
 unfolding textsOf

@@ -1,12 +1,12 @@
 -- Rows of chunks whose texts are UTF-8 pass the writers' check.
 --     texts-octets                the text of such chunks is UTF-8
---     flat-texts, flat-text       joining keeps that, and the text
+--     flat-texts, flat-text       joining chunks keeps their texts UTF-8, and does not change the whole text
 --     rows-pass                   each row has a text range that lies on character boundaries
---     check-passes                so the whole check passes
+--     check-passes                the whole check passes
 -- Assumes nothing.
 use Prim.Native.Nat.{ℕ, _+_, _*_, _%_}
 use native.Mathlib.Omega.{arith}
-use mathlib.Core.Path.{_≡_, refl, sym, ap, subst, _∙_}
+use mathlib.Core.Path.{_≡_, refl, sym, subst, _∙_}
 use mathlib.Core.Bool.{Bool, true, false, cond}
 use mathlib.Core.List.{List, [], _∷_, _++_, append-assoc}
 use lib.ListN.{length, length-append}
@@ -16,57 +16,44 @@ use borrow.Author.Tests.{le-leb, eq-eqb}
 use Rattle.text.specs.Utf8.{Octets, none, isBoundary}
 use Rattle.text.proofs.Rfc3629.{rfc3629}
 use Rattle.text.proofs.Shapes.{shapes}
+use Rattle.text.specs.Every.{every}
 use Rattle.chunk.specs.declared.form.Kind.{Kind}
 use Rattle.chunk.specs.declared.form.Kind.the-variants.{Normal, Verbatim, Math}
 use Rattle.chunk.specs.declared.answer.Checked.the-variants as checked
-use Rattle.chunk.specs.Chunk.{Chunk, kindOf, ChunkRow, flatChunks, chunkRows, everyChunk, areChunks}
+use Rattle.chunk.specs.Chunk.{Chunk, kindOf, ChunkRow, flatChunks, everyChunk, areChunks}
 use Rattle.chunk.specs.Write.{checkedOf}
-use Rattle.chunk.specs.WellFormed.{Texts}
+use Rattle.chunk.specs.WellFormed.{TextsUtf8}
 use Rattle.chunk.specs.WellFormed as texts
+use Rattle.chunk.proofs.rows.ChunkRows.{rows-flat}
 use Rattle.turn.specs.Content.{joins, join, flattenFrom, flatten}
 use Rattle.literal.specs.Rows.{rowsFrom, textsOf}
 
-pub texts-octets : {cs : List Chunk} → Texts cs → Octets (textsOf cs)
+pub texts-octets : {cs : List Chunk} → TextsUtf8 cs → Octets (textsOf cs)
 unfolding textsOf
 texts-octets texts.none = none
 texts-octets (texts.next o h) = shapes .octets-append o (texts-octets h)
 
 -- ---- joined
 
-joined-texts : (cs : List Chunk) (c : Chunk) → Octets (c .text) → Texts cs → Texts (flattenFrom c cs)
+joined-texts : (cs : List Chunk) (c : Chunk) → Octets (c .text) → TextsUtf8 cs → TextsUtf8 (flattenFrom c cs)
 unfolding flattenFrom
 joined-texts [] c o h = texts.next o texts.none
 joined-texts (d ∷ cs) c o (texts.next p h) =
     by (joins (c .kind) (d .kind)) (joined-texts cs (join c d) (shapes .octets-append o p) h) (joined-texts cs d p h)
   where
-    by : (w : Bool) → Texts (flattenFrom (join c d) cs) → Texts (flattenFrom d cs) → Texts (cond w (flattenFrom (join c d) cs) (c ∷ flattenFrom d cs))
+    by : (w : Bool) → TextsUtf8 (flattenFrom (join c d) cs) → TextsUtf8 (flattenFrom d cs) → TextsUtf8 (cond w (flattenFrom (join c d) cs) (c ∷ flattenFrom d cs))
     by true x y = x
     by false x y = texts.next o y
 
-pub flat-texts : (cs : List Chunk) → Texts cs → Texts (flatten cs)
+pub flat-texts : (cs : List Chunk) → TextsUtf8 cs → TextsUtf8 (flatten cs)
 flat-texts [] h = texts.none
 flat-texts (c ∷ cs) (texts.next o h) = joined-texts cs c o h
 
-joined-text : (cs : List Chunk) (c : Chunk) → textsOf (flattenFrom c cs) ≡ c .text ++ textsOf cs
-unfolding flattenFrom textsOf
-joined-text [] c = refl
-joined-text (d ∷ cs) c = by (joins (c .kind) (d .kind)) (joined-text cs (join c d)) (joined-text cs d)
-  where
-    by : (w : Bool) → textsOf (flattenFrom (join c d) cs) ≡ (c .text ++ d .text) ++ textsOf cs → textsOf (flattenFrom d cs) ≡ d .text ++ textsOf cs
-        → textsOf (cond w (flattenFrom (join c d) cs) (c ∷ flattenFrom d cs)) ≡ c .text ++ (d .text ++ textsOf cs)
-    by true x y = x ∙ append-assoc (c .text) (d .text) (textsOf cs)
-    by false x y = ap (λ (t : List ℕ). c .text ++ t) y
-
-pub flat-text : (cs : List Chunk) → textsOf (flatten cs) ≡ textsOf cs
-unfolding textsOf
-flat-text [] = refl
-flat-text (c ∷ cs) = joined-text cs c
-
 -- ---- the check
 
--- a place between two texts
-seam-place : (u v : List ℕ) → Octets u → Octets v → isBoundary (u ++ v) (length u) ≡ true
-seam-place u v o p =
+-- the place between two texts is a boundary
+place-between : (u v : List ℕ) → Octets u → Octets v → isBoundary (u ++ v) (length u) ≡ true
+place-between u v o p =
     rfc3629 .boundary (u ++ v) (length u) (shapes .octets-append o p) .1 (record {
       inside = omega (arith, length-append u v);
       before = subst Octets (sym (take-append-seam u v)) o;
@@ -79,8 +66,8 @@ kind-fits Verbatim = refl
 kind-fits Math = refl
 
 -- the rows of cs in the text s, where the text u of other chunks stands before theirs
-rows-from : (s u : List ℕ) (t : ℕ) (cs : List Chunk) → s ≡ u ++ textsOf cs → t ≡ length u → Octets u → Texts cs → everyChunk s (rowsFrom t cs) ≡ true
-unfolding everyChunk rowsFrom textsOf
+rows-from : (s u : List ℕ) (t : ℕ) (cs : List Chunk) → s ≡ u ++ textsOf cs → t ≡ length u → Octets u → TextsUtf8 cs → everyChunk s (rowsFrom t cs) ≡ true
+unfolding every rowsFrom textsOf
 rows-from s u t [] e h o k = refl
 rows-from s u t (c ∷ cs) e h o (texts.next p k) =
     rw (kind-fits (c .kind), le-leb t (t + length (c .text)) (omega arith), start, end)
@@ -93,20 +80,15 @@ rows-from s u t (c ∷ cs) e h o (texts.next p k) =
     h₁ = omega (arith, h, length-append u (c .text))
 
     start : isBoundary s t ≡ true
-    start = rw (e, h) (seam-place u (c .text ++ textsOf cs) o (shapes .octets-append p (texts-octets k)))
+    start = rw (e, h) (place-between u (c .text ++ textsOf cs) o (shapes .octets-append p (texts-octets k)))
 
     end : isBoundary s (t + length (c .text)) ≡ true
-    end = rw (e₁, h₁) (seam-place (u ++ c .text) (textsOf cs) (shapes .octets-append o p) (texts-octets k))
+    end = rw (e₁, h₁) (place-between (u ++ c .text) (textsOf cs) (shapes .octets-append o p) (texts-octets k))
 
-pub rows-pass : (cs : List Chunk) → Texts cs → everyChunk (textsOf cs) (rowsFrom 0 cs) ≡ true
+pub rows-pass : (cs : List Chunk) → TextsUtf8 cs → everyChunk (textsOf cs) (rowsFrom 0 cs) ≡ true
 rows-pass cs h = rows-from (textsOf cs) [] 0 cs refl refl none h
 
 -- ---- the numbers of rows: five to a row, which are read back as the same rows
-
-rows-back : (rs : List ChunkRow) → chunkRows (flatChunks rs) ≡ rs
-unfolding flatChunks chunkRows
-rows-back [] = refl
-rows-back (r ∷ rs) = ap (λ (l : List ChunkRow). r ∷ l) (rows-back rs)
 
 five : (rs : List ChunkRow) → length (flatChunks rs) ≡ 5 * length rs
 unfolding flatChunks
@@ -115,7 +97,7 @@ five (r ∷ rs) = omega (arith, five rs)
 
 pub check-passes : (s : List ℕ) (rs : List ChunkRow) → Octets s → everyChunk s rs ≡ true → checkedOf s (flatChunks rs) ≡ checked.Passed
 unfolding checkedOf areChunks
-check-passes s rs o h = rw (rfc3629 .accepts s .1 o, eq-eqb (length (flatChunks rs) % 5) 0 (whole _ _ (five rs)), rows-back rs, h) refl
+check-passes s rs o h = rw (rfc3629 .accepts s .1 o, eq-eqb (length (flatChunks rs) % 5) 0 (whole _ _ (five rs)), rows-flat rs, h) refl
   where
     whole : (n k : ℕ) → n ≡ 5 * k → n % 5 ≡ 0
     whole n k e = omega arith

@@ -1,7 +1,7 @@
 -- The ways of a turn, by the character at p.
 --     copy-move, blank-move, cut-move, math-move      a character that stands for itself, white space, a brace, math
 --     dash-one, dash-two, dash-three                  hyphens
---     slash-move, escape-move, odd-move               behind a backslash: nothing of a command
+--     slash-move, escape-move, odd-move               what stands behind a backslash and is no command
 --     alone-move, one-move, braced-move               a command without an argument, with one character, with braces
 -- Assumes nothing.
 use Prim.Native.Nat.{ℕ, _+_, _*_, _-_, _≤_, _<_}
@@ -19,7 +19,6 @@ use Rattle.text.specs.declared.scanner.Seen.the-variants.{Char}
 use Rattle.text.specs.declared.class.Test.the-variants as test
 use Rattle.text.proofs.general.Parts.{length-part}
 use Rattle.text.proofs.Boundaries.{boundaries}
-use Rattle.text.proofs.Rfc3629.{rfc3629}
 use Rattle.text.proofs.Seeing.{seeing}
 use Rattle.text.proofs.Shapes.{shapes}
 use Rattle.chunk.specs.Format.{formatVerbatim}
@@ -27,25 +26,21 @@ use Rattle.chunk.proofs.WellFormed.{well-formed}
 use Rattle.command.specs.Execute.{absent, given, executeCommand}
 use Rattle.command.proofs.WellFormed as commands
 use Rattle.turn.specs.Content.{Part, put, cut, math, chunksOf, begins}
-use Rattle.literal.proofs.characters.Pieces.{ascii-text, part-text, take-text, take-place, ascii-next}
+use Rattle.literal.proofs.characters.Pieces.{take-text, take-place, ascii-next}
 use Rattle.literal.proofs.characters.PartsToChunks.{chunks-texts, chunks-formatted}
 use Rattle.literal.proofs.characters.Moves.{owed, owed-most, owed-odd, owed-inside, Move, move-put}
 
--- a place that the boundary p leads to
+-- where p is a boundary, q is one
 abbrev pub To : List ℕ → ℕ → ℕ → Type 0
 To s p q = Octets s → isBoundary s p ≡ true → isBoundary s q ≡ true
 
--- the octets of a scalar value
-char-text : (c : ℕ) → isScalar c ≡ true → Octets (octets c)
-char-text c e = shapes .octets-char (octets c) (rfc3629 .writes c e)
-
 en-text : Octets (0xE2 ∷ 0x80 ∷ 0x93 ∷ [])
 unfolding octets isScalar
-en-text = char-text 0x2013 refl
+en-text = shapes .char-text 0x2013 refl
 
 em-text : Octets (0xE2 ∷ 0x80 ∷ 0x94 ∷ [])
 unfolding octets isScalar
-em-text = char-text 0x2014 refl
+em-text = shapes .char-text 0x2014 refl
 
 pub skip-place : (t : ℕ → Bool) (s : List ℕ) (p q : ℕ) → To s p q → To s p (skip t s q)
 skip-place t s p q f o b = boundaries .skips t s q o (f o b)
@@ -77,7 +72,7 @@ module _ (s : List ℕ) (p c n : ℕ) (e : see s p ≡ Char c n) where
   copy-move =
       move-put s p n (part s p n) (omega (arith, past)) (past .1)
       (omega (arith, past .0, length-part s p n (omega (arith, past .0)) (past .1), owed-most s p c n e))
-      (λ o b. let k = next-place o b in (k, part-text s p n o (omega (arith, past .0)) b k))
+      (λ o b. let k = next-place o b in (k, boundaries .between s p n o (omega (arith, past .0)) b k))
 
   pub blank-move : isWhitespace c ≡ true → Move s p (skip isWhitespace s p) (put (0x20 ∷ []) ∷ [])
   blank-move w =
@@ -85,9 +80,9 @@ module _ (s : List ℕ) (p c n : ℕ) (e : see s p ≡ Char c n) where
       let k = seeing .white-on s p c n e w in
       move-put s p (skip isWhitespace s p) (0x20 ∷ []) (omega (arith, past .0, a .0, k)) (omega (arith, a .1, k))
       (omega (arith, past .0, a .0, k, owed-most s p c n e))
-      (λ o b. (boundaries .skips isWhitespace s p o b, ascii-text 0x20 (omega arith)))
+      (λ o b. (boundaries .skips isWhitespace s p o b, shapes .ascii-text 0x20 (omega arith)))
 
-  -- of ASCII, it is one octet
+  -- where it is ASCII, it is one octet
   module _ (l : c < 0x80) where
     pub one : n ≡ p + 1
     one = ascii-next s p c n e l
@@ -118,7 +113,7 @@ module _ (s : List ℕ) (p c n : ℕ) (e : see s p ≡ Char c n) where
           to = omega (arith, k);
           size = omega (arith, free, i, length-part s (p + 1) e₁ i (omega (arith, k)));
           few = omega (arith, i);
-          texts = λ o b. let x = to-end o b in (dollar-place s (p + 1) e₁ q k o x, (tt, (part-text s (p + 1) e₁ o i (one-place o b) x, tt)));
+          texts = λ o b. let x = to-end o b in (dollar-place s (p + 1) e₁ q k o x, (tt, (boundaries .between s (p + 1) e₁ o i (one-place o b) x, tt)));
         }
       where
         to-end : To s p e₁
@@ -127,14 +122,14 @@ module _ (s : List ℕ) (p c n : ℕ) (e : see s p ≡ Char c n) where
     pub slash-move : Move s p n (put (0x5C ∷ []) ∷ [])
     slash-move =
         move-put s p n (0x5C ∷ []) (omega (arith, past .0)) (past .1) (omega (arith, one, free))
-        (λ o b. (next-place o b, ascii-text 0x5C (omega arith)))
+        (λ o b. (next-place o b, shapes .ascii-text 0x5C (omega arith)))
 
     pub dash-one : Move s p n (put (0x2D ∷ []) ∷ [])
     dash-one =
         move-put s p n (0x2D ∷ []) (omega (arith, past .0)) (past .1) (omega (arith, one, free))
-        (λ o b. (next-place o b, ascii-text 0x2D (omega arith)))
+        (λ o b. (next-place o b, shapes .ascii-text 0x2D (omega arith)))
 
--- ---- characters behind it
+-- ---- the character c₁ behind it, which ends at m
 
 module _ (s : List ℕ) (p c n : ℕ) (e : see s p ≡ Char c n) (l : c < 0x80) (c₁ m : ℕ) (e₁ : see s n ≡ Char c₁ m) where
   at : n ≡ p + 1
@@ -150,10 +145,10 @@ module _ (s : List ℕ) (p c n : ℕ) (e : see s p ≡ Char c n) (l : c < 0x80) 
   on-place o b = seen-place s n c₁ m e₁ o (seen-place s p c n e o b)
 
   part-behind : Octets s → isBoundary s p ≡ true → Octets (part s n m)
-  part-behind o b = part-text s n m o (omega (arith, on .0)) (seen-place s p c n e o b) (on-place o b)
+  part-behind o b = boundaries .between s n m o (omega (arith, on .0)) (seen-place s p c n e o b) (on-place o b)
 
-  part-size : length (part s n m) ≡ m - n
-  part-size = length-part s n m (omega (arith, on .0)) (on .1)
+  part-length : length (part s n m) ≡ m - n
+  part-length = length-part s n m (omega (arith, on .0)) (on .1)
 
   pub dash-two : Move s p m (put (0xE2 ∷ 0x80 ∷ 0x93 ∷ []) ∷ [])
   dash-two =
@@ -168,14 +163,14 @@ module _ (s : List ℕ) (p c n : ℕ) (e : see s p ≡ Char c n) (l : c < 0x80) 
 
   pub escape-move : Move s p m (put (part s n m) ∷ [])
   escape-move =
-      move-put s p m (part s n m) (omega (arith, at, on .0)) (on .1) (omega (arith, at, none-owed, on .0, part-size))
+      move-put s p m (part s n m) (omega (arith, at, on .0)) (on .1) (omega (arith, at, none-owed, on .0, part-length))
       (λ o b. (on-place o b, part-behind o b))
 
   pub odd-move : begins c₁ ≡ false → Move s p n (put (0x5C ∷ part s n m) ∷ [])
   odd-move h =
       move-put s p n (0x5C ∷ part s n m) (omega (arith, at)) (past s p c n e .1)
-      (omega (arith, at, none-owed, on .0, part-size, owed-odd s n c₁ m e₁ h))
-      (λ o b. (seen-place s p c n e o b, shapes .octets-append (ascii-text 0x5C (omega arith)) (part-behind o b)))
+      (omega (arith, at, none-owed, on .0, part-length, owed-odd s n c₁ m e₁ h))
+      (λ o b. (seen-place s p c n e o b, shapes .octets-append (shapes .ascii-text 0x5C (omega arith)) (part-behind o b)))
 
 -- ---- the content of an argument from a to f, which is a way from a to q, formatted
 
@@ -198,7 +193,7 @@ module _ (s : List ℕ) (p n e : ℕ) (at : n ≡ p + 1) (free : owed s p ≡ 0)
   name-size = length-part s n e (omega (arith, l)) k
 
   name-text : Octets s → isBoundary s p ≡ true → Octets name
-  name-text o b = part-text s n e o (omega (arith, l)) (to-n o b) (to-e o b)
+  name-text o b = boundaries .between s n e o (omega (arith, l)) (to-n o b) (to-e o b)
 
   -- the white space behind it goes to w
   abbrev w : ℕ
@@ -221,7 +216,7 @@ module _ (s : List ℕ) (p n e : ℕ) (at : n ≡ p + 1) (free : owed s p ≡ 0)
   one-move r h i f =
       move-put s p r (executeCommand name (given (part s w r))) (omega (arith, at, l, w-in .0, h)) i
       (omega (arith, at, free, l, w-in .0, h, name-size, length-part s w r h i, commands.well-formed .short name (given (part s w r))))
-      (λ o b. (f o b, commands.well-formed .text name (given (part s w r)) (name-text o b) (part-text s w r o h (to-w o b) (f o b))))
+      (λ o b. (f o b, commands.well-formed .text name (given (part s w r)) (name-text o b) (boundaries .between s w r o h (to-w o b) (f o b))))
 
   -- the argument stands in braces, from a to f, and its content is a way from a to q
   pub braced-move : (a f q : ℕ) (xs : List Part) → w + 1 ≤ a → a ≤ f → f < length s → To s p a

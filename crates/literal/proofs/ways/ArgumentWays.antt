@@ -1,8 +1,8 @@
 -- A command and its argument: for `begin` and `finish` of src/content.rt.
 --     begun            the state with which an argument's content begins
---     finished         what is made of it at its end
+--     finished         what a command makes of its argument when the content is read
 -- Assumes nothing.
-use Prim.Native.Nat.{ℕ, zero, suc, _+_, _-_, _*_, _≤_, _<_, max, min}
+use Prim.Native.Nat.{ℕ, zero, suc, _+_, _-_, _*_, _≤_, _<_, max}
 use native.Mathlib.Omega.{arith}
 use mathlib.Core.Path.{_≡_, refl, sym, ap, ap₂, subst, _∙_}
 use mathlib.Core.Bool.{Bool, false}
@@ -13,7 +13,7 @@ use Rattle.text.specs.Scan.{part}
 use Rattle.chunk.specs.declared.form.Kind.{Kind}
 use Rattle.chunk.specs.Chunk.{Chunk, chunk}
 use Rattle.chunk.specs.Format.{formatOne, formatFrom, formatVerbatim, lines, whiteFrom}
-use Rattle.text.proofs.general.Parts.{drop-take, length-part}
+use Rattle.text.proofs.general.Parts.{length-part, part-drop}
 use Rattle.chunk.proofs.passes.ChunkByChunk.{format-on}
 use Rattle.command.specs.declared.meaning.Meaning.{Meaning}
 use Rattle.command.specs.Stack.{Lays, defaultChunk}
@@ -22,12 +22,12 @@ use Rattle.command.specs.Execute.{given, leading, executed, executeCommand}
 use Rattle.literal.specs.declared.rows.Rows.{Rows}
 use Rattle.literal.specs.declared.making.Making.{Making}
 use Rattle.turn.specs.Content.{Part, State, beginning, steps, pushed, closed, chunksOf}
-use Rattle.literal.specs.Inner.{Holds, Begun, Finished, Further, inArgument, wholeText}
+use Rattle.literal.specs.Inner.{HoldsState, ArgumentBegun, ArgumentFinished, Further, inArgument, wholeText}
 use Rattle.literal.proofs.ways.MakingWays.{held-text, held-below}
 
 pub begun : (name : List ℕ) (k : Meaning) (p : ℕ) (m : Making) (o : List ℕ) (rows : Rows) (r : ℕ) (o′ : List ℕ)
     → Lays (m .len) (leading name k) o r o′ → m .len ≤ length o
-    → Begun name k p m o (record { at = p; braces = 0; pushed = false; start = p; from = r; len = r; white = false; rows = rows }) o′
+    → ArgumentBegun name k p m o (record { at = p; braces = 0; pushed = false; start = p; from = r; len = r; white = false; rows = rows }) o′
 unfolding formatFrom whiteFrom
 begun name k p m o rows r o′ h l = record {
   at = refl;
@@ -50,10 +50,7 @@ part-same o o₁ a e f h i j k =
     cut o₁ (omega (arith, i, k)) ∙ ap (drop a) (sym (take-take e f o₁ i) ∙ ap (take e) h ∙ take-take e f o i) ∙ sym (cut o (omega (arith, i, j)))
   where
     cut : (l : List ℕ) → e ≤ length l → part l a e ≡ drop a (take e l)
-    cut l q = ap (λ (n : ℕ). take (n - a) (drop a l)) (least e (length l) q) ∙ sym (drop-take a e l)
-      where
-        least : (e n : ℕ) → e ≤ n → min e n ≡ e
-        least e n h = omega arith
+    cut l q = part-drop l a e q
 
 -- the last chunk is formatted behind the others; without text it comes to nothing
 format-closed : (σ : State) (n e : ℕ) (t : List ℕ) (cs : List Chunk) → σ .kind ≡ defaultChunk n → σ .text ≡ t
@@ -75,7 +72,7 @@ module _ (name : List ℕ) (k : Meaning) (p e : ℕ) (m t : Making) (o : List �
     (u : part o (m .len) lead ≡ leading name k)
     (x : Lays (t .from) (formatOne (t .white) (defaultChunk (t .braces)) (part o (t .from) (t .len)) .text) o w o₁) (y : w ≤ length o₁)
     (z : Lays (m .len) (executed name (given (part o₁ lead w)) k) o₁ l o₂) (g : Further m (e + 1) l m′) where
-  module _ (T : List ℕ) (q : ℕ) (xs : List Part) (v : length T ≡ m .len) (h : Holds inArgument (T ++ leading name k) [] [] (steps (beginning p) xs) t
+  module _ (T : List ℕ) (q : ℕ) (xs : List Part) (v : length T ≡ m .len) (h : HoldsState inArgument (T ++ leading name k) [] [] (steps (beginning p) xs) t
       o []) where
     abbrev σ : State
     σ = steps (beginning p) xs
@@ -104,12 +101,9 @@ module _ (name : List ℕ) (k : Meaning) (p e : ℕ) (m t : Making) (o : List �
 
     argument : part o₁ lead w ≡ formatVerbatim (chunksOf p q xs)
     argument =
-        ap (λ (n : ℕ). take (n - lead) (drop lead o₁)) (least w (length o₁) y) ∙ sym (drop-take lead w o₁) ∙ ap (drop lead) whole
+        part-drop o₁ lead w y ∙ ap (drop lead) whole
         ∙ ap (λ (n : ℕ). drop n (before ++ (S ++ F))) (sym lead-at) ∙ drop-append-seam before (S ++ F)
         ∙ sym (format-closed σ (t .braces) q (σ .text) (σ .done) (h .kind) refl)
-      where
-        least : (w n : ℕ) → w ≤ n → min w n ≡ w
-        least w n h = omega arith
 
     kept : take (m .len) o₁ ≡ T
     kept =
@@ -130,10 +124,10 @@ module _ (name : List ℕ) (k : Meaning) (p e : ℕ) (m t : Making) (o : List �
       ap (λ (n : ℕ). take n o₂) (sym end-at) ∙ z .text ∙ ap₂ (λ (s r : List ℕ). s ++ r) kept ran,
     )
 
-  pub finished : Finished name k p e m t o m′ o₂
+  pub finished : ArgumentFinished name k p e m t o m′ o₂
   finished T q xs v h = finished-one T q xs v h
 
--- ---- rooms
+-- ---- room
 
 pub finish-room : (len at end to n lead f t w L : ℕ) → at + 2 ≤ end → end + 1 ≤ to → to < len → n ≤ lead → lead + (at + 1) ≤ n + end + 2 → lead ≤ f
     → f ≤ t

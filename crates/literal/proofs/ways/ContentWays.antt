@@ -23,7 +23,8 @@ use Rattle.turn.specs.declared.turn.Text.the-variants as text
 use Rattle.literal.specs.declared.content.Made.{Made}
 use Rattle.literal.specs.declared.content.Made.the-variants as made
 use Rattle.turn.specs.Content.{Part, put, Reader, State, step, steps, ran}
-use Rattle.literal.specs.Inner.{Holds, Goes, Says, SaysSign, Onto, SaysArgument, Further, Puts, Ahead, Ready, Within, from, inArgument, wholeText}
+use Rattle.literal.specs.Inner.{HoldsState, Goes, SaysContent, SaysSign, Onto, SaysArgument, Further, PutsText}
+use Rattle.literal.specs.Inner.{AheadState, ReadyContent, ReadySign, from, inArgument, wholeText}
 use Rattle.turn.specs.Turns.{SaysText, concat, turns}
 use Rattle.literal.proofs.ways.StepWays.{goes-puts}
 
@@ -37,10 +38,10 @@ steps-append (x ∷ xs) σ ys = steps-append xs (step σ x) ys
 module _ (place : Place) (xs : List Part) (m : Making) (o b : List ℕ) (m₁ : Making) (o₁ b₁ : List ℕ) (g : Goes place xs m o b m₁ o₁ b₁) where
   goes-on : (ys : List Part) (m₂ : Making) (o₂ b₂ : List ℕ) → Goes place ys m₁ o₁ b₁ m₂ o₂ b₂ → Goes place (xs ++ ys) m o b m₂ o₂ b₂
   goes-on ys m₂ o₂ b₂ h t₀ ps b₀ σ held =
-      subst (λ (τ : State). Holds place t₀ ps b₀ τ m₂ o₂ b₂) (sym (steps-append xs σ ys)) (h t₀ ps b₀ (steps σ xs) (g t₀ ps b₀ σ held))
+      subst (λ (τ : State). HoldsState place t₀ ps b₀ τ m₂ o₂ b₂) (sym (steps-append xs σ ys)) (h t₀ ps b₀ (steps σ xs) (g t₀ ps b₀ σ held))
 
-  -- what the rest says, the whole says
-  says-more : (out : OutOf Part) (r : Made) (o₂ b₂ : List ℕ) → Says place out m₁ o₁ b₁ r o₂ b₂ → Says place (more xs out) m o b r o₂ b₂
+  -- an answer that is right for the rest of the content is right for the whole
+  says-more : (out : OutOf Part) (r : Made) (o₂ b₂ : List ℕ) → SaysContent place out m₁ o₁ b₁ r o₂ b₂ → SaysContent place (more xs out) m o b r o₂ b₂
   says-more (ok q ys) (made.Done m₂) o₂ b₂ h = (h .0, goes-on ys m₂ o₂ b₂ (h .1))
   says-more (ok q ys) (made.Refused f) o₂ b₂ h = h
   says-more (again q ys a) (made.Done m₂) o₂ b₂ h = (h .0, goes-on ys m₂ o₂ b₂ (h .1))
@@ -49,7 +50,7 @@ module _ (place : Place) (xs : List Part) (m : Making) (o b : List ℕ) (m₁ : 
   says-more (bad g₁) (made.Refused f) o₂ b₂ h = h
 
 -- one text behind the others
-goes-put : (place : Place) (w : List ℕ) (e : ℕ) (m : Making) (o b : List ℕ) (m′ : Making) (o′ : List ℕ) → Puts w e m o m′ o′
+goes-put : (place : Place) (w : List ℕ) (e : ℕ) (m : Making) (o b : List ℕ) (m′ : Making) (o′ : List ℕ) → PutsText w e m o m′ o′
     → Goes place (put w ∷ []) m o b m′ o′ b
 unfolding concat
 goes-put place w e m o b m′ o′ h =
@@ -60,20 +61,20 @@ goes-put place w e m o b m′ o′ h =
 
 module _ (place : Place) (argument : Reader) (verb : Bool) (s : List ℕ) (m : Making) (o b : List ℕ) where
   pub turn-again : (m₁ : Making) (o₁ b₁ : List ℕ) → Onto place verb s m o b m₁ o₁ b₁ → (r₂ : Made) (o₂ b₂ : List ℕ)
-      → Says place (from argument verb s m₁) m₁ o₁ b₁ r₂ o₂ b₂ → Says place (from argument verb s m) m o b r₂ o₂ b₂
+      → SaysContent place (from argument verb s m₁) m₁ o₁ b₁ r₂ o₂ b₂ → SaysContent place (from argument verb s m) m o b r₂ o₂ b₂
   turn-again m₁ o₁ b₁ y r₂ o₂ b₂ k =
-      subst (λ (out : OutOf Part). Says place out m o b r₂ o₂ b₂) (sym (y .leads argument))
+      subst (λ (out : OutOf Part). SaysContent place out m o b r₂ o₂ b₂) (sym (y .leads argument))
       (says-more place (y .parts) m o b m₁ o₁ b₁ (y .goes) (from argument verb s m₁) r₂ o₂ b₂ k)
 
-  refusal : (f : Fault) (o₁ b₁ : List ℕ) → from argument verb s m ≡ bad f → Says place (from argument verb s m) m o b (made.Refused f) o₁ b₁
-  refusal f o₁ b₁ e = subst (λ (out : OutOf Part). Says place out m o b (made.Refused f) o₁ b₁) (sym e) refl
+  refusal : (f : Fault) (o₁ b₁ : List ℕ) → from argument verb s m ≡ bad f → SaysContent place (from argument verb s m) m o b (made.Refused f) o₁ b₁
+  refusal f o₁ b₁ e = subst (λ (out : OutOf Part). SaysContent place out m o b (made.Refused f) o₁ b₁) (sym e) refl
 
   pub sign-again : {r : Made} (o₁ b₁ : List ℕ) → SaysSign place verb s m o b r o₁ b₁ → {m₁ : Making} → r ≡ made.Done m₁
       → Onto place verb s m o b m₁ o₁ b₁
   sign-again o₁ b₁ h e = rw e at h
 
   pub sign-refused : {r : Made} (o₁ b₁ : List ℕ) → SaysSign place verb s m o b r o₁ b₁ → {f : Fault} → r ≡ made.Refused f
-      → Says place (from argument verb s m) m o b (made.Refused f) o₁ b₁
+      → SaysContent place (from argument verb s m) m o b (made.Refused f) o₁ b₁
   sign-refused o₁ b₁ h {f} e = let k : SaysSign place verb s m o b (made.Refused f) o₁ b₁ = rw e at h in refusal f o₁ b₁ (k argument)
 
 -- ---- a turn of `text_at`, which answered r
@@ -83,20 +84,20 @@ module _ (place : Place) (argument : Reader) (verb : Bool) (s : List ℕ) (m : M
   answered : (r′ : Text) → r ≡ r′ → SaysText verb s (m .at) (m .len) o r′ o₁
   answered r′ e = subst (λ (r : Text). SaysText verb s (m .at) (m .len) o r o₁) e h
 
-  pub turn-done : r ≡ text.End → Says place (from argument verb s m) m o b (made.Done m) o₁ b
+  pub turn-done : r ≡ text.End → SaysContent place (from argument verb s m) m o b (made.Done m) o₁ b
   unfolding steps
   turn-done e =
       let y = answered text.End e in
-      subst (λ (out : OutOf Part). Says place out m o b (made.Done m) o₁ b) (sym (y .0 argument (m .braces)))
-      (subst (λ (l : List ℕ). Says place (ok (m .at) []) m o b (made.Done m) l b) (sym (y .1)) (refl, λ t₀ ps b₀ σ x. x))
+      subst (λ (out : OutOf Part). SaysContent place out m o b (made.Done m) o₁ b) (sym (y .0 argument (m .braces)))
+      (subst (λ (l : List ℕ). SaysContent place (ok (m .at) []) m o b (made.Done m) l b) (sym (y .1)) (refl, λ t₀ ps b₀ σ x. x))
 
-  pub turn-refused : (f : Fault) → r ≡ text.Refused f → Says place (from argument verb s m) m o b (made.Refused f) o₁ b
+  pub turn-refused : (f : Fault) → r ≡ text.Refused f → SaysContent place (from argument verb s m) m o b (made.Refused f) o₁ b
   turn-refused f e = refusal place argument verb s m o b f o₁ b (answered (text.Refused f) e argument (m .braces))
 
   pub meaning-told : (k : Meaning) (end a e : ℕ) → r ≡ text.Argument k end a e → k ≡ meaningOf (part s (m .at + 1) end)
   meaning-told k end a e i = answered (text.Argument k end a e) i .1
 
-  -- ---- and a turn with an argument, which `argument` answered with r₂
+  -- ---- a turn with an argument, which `argument` answered with r₂
 
   module _ (k : Meaning) (end a e : ℕ) (i : r ≡ text.Argument k end a e) (r₂ : Made) (o₂ : List ℕ)
       (y : SaysArgument (argument (take e s) a) (part s (m .at + 1) end) a e m o₁ r₂ o₂) where
@@ -115,39 +116,39 @@ module _ (place : Place) (argument : Reader) (verb : Bool) (s : List ℕ) (m : M
         subst (λ (l : List ℕ). SaysArgument (argument (take e s) a) name a e m l r′ o₂) (told .2)
         (subst (λ (r : Made). SaysArgument (argument (take e s) a) name a e m o₁ r o₂) j y)
 
-    opens : (r₃ : Made) (o₃ b₃ : List ℕ) → Says place (ran a name (argument (take e s) a) (λ w. more (put w ∷ []) rest)) m o b r₃ o₃ b₃
-        → Says place (from argument verb s m) m o b r₃ o₃ b₃
-    opens r₃ o₃ b₃ x = subst (λ (out : OutOf Part). Says place out m o b r₃ o₃ b₃) (sym (told .0 argument (m .braces))) x
+    opens : (r₃ : Made) (o₃ b₃ : List ℕ) → SaysContent place (ran a name (argument (take e s) a) (λ w. more (put w ∷ []) rest)) m o b r₃ o₃ b₃
+        → SaysContent place (from argument verb s m) m o b r₃ o₃ b₃
+    opens r₃ o₃ b₃ x = subst (λ (out : OutOf Part). SaysContent place out m o b r₃ o₃ b₃) (sym (told .0 argument (m .braces))) x
 
-    module _ (m₂ : Making) (r₃ : Made) (o₃ b₃ : List ℕ) (x : Says place (from argument verb s m₂) m₂ o₂ b r₃ o₃ b₃) where
-      put-on : (w : List ℕ) → Puts w e m o m₂ o₂ → Says place (more (put w ∷ []) rest) m o b r₃ o₃ b₃
+    module _ (m₂ : Making) (r₃ : Made) (o₃ b₃ : List ℕ) (x : SaysContent place (from argument verb s m₂) m₂ o₂ b r₃ o₃ b₃) where
+      put-on : (w : List ℕ) → PutsText w e m o m₂ o₂ → SaysContent place (more (put w ∷ []) rest) m o b r₃ o₃ b₃
       put-on w p =
           says-more place (put w ∷ []) m o b m₂ o₂ b (goes-put place w e m o b m₂ o₂ p) rest r₃ o₃ b₃
-          (subst (λ (out : OutOf Part). Says place out m₂ o₂ b r₃ o₃ b₃)
+          (subst (λ (out : OutOf Part). SaysContent place out m₂ o₂ b r₃ o₃ b₃)
           (ap (λ (d : ℕ). turns argument verb d s (m₂ .at)) (p .0 .braces) ∙ ap (λ (q : ℕ). turns argument verb (m .braces) s q) (p .0 .at))
           x)
 
       goes : (out : OutOf Part) → SaysArgument out name a e m o (made.Done m₂) o₂
-          → Says place (ran a name out (λ w. more (put w ∷ []) rest)) m o b r₃ o₃ b₃
+          → SaysContent place (ran a name out (λ w. more (put w ∷ []) rest)) m o b r₃ o₃ b₃
       goes (ok q xs) p = put-on (wholeText name a q xs) p
       goes (again q xs n) p = put-on (wholeText name a q xs) p
       goes (bad f) p = absurd p
 
-      pub turn-argument : r₂ ≡ made.Done m₂ → Says place (from argument verb s m) m o b r₃ o₃ b₃
+      pub turn-argument : r₂ ≡ made.Done m₂ → SaysContent place (from argument verb s m) m o b r₃ o₃ b₃
       turn-argument j = opens r₃ o₃ b₃ (goes (argument (take e s) a) (over (made.Done m₂) j))
 
     stops : (f : Fault) (out : OutOf Part) → SaysArgument out name a e m o (made.Refused f) o₂
-        → Says place (ran a name out (λ w. more (put w ∷ []) rest)) m o b (made.Refused f) o₂ b
+        → SaysContent place (ran a name out (λ w. more (put w ∷ []) rest)) m o b (made.Refused f) o₂ b
     stops f (ok q xs) p = absurd p
     stops f (again q xs n) p = absurd p
     stops f (bad g) p = p
 
-    pub turn-stopped : (f : Fault) → r₂ ≡ made.Refused f → Says place (from argument verb s m) m o b (made.Refused f) o₂ b
+    pub turn-stopped : (f : Fault) → r₂ ≡ made.Refused f → SaysContent place (from argument verb s m) m o b (made.Refused f) o₂ b
     turn-stopped f j = opens (made.Refused f) o₂ b (stops f (argument (take e s) a) (over (made.Refused f) j))
 
 -- ---- bounds
 
-pub ahead-none : (s : List ℕ) (place : Place) (m : Making) (o byName byMark : List ℕ) → Ready s place m o byName byMark → Ahead (length s) 0 m m
+pub ahead-none : (s : List ℕ) (place : Place) (m : Making) (o byName byMark : List ℕ) → ReadyContent s place m o byName byMark → AheadState (length s) 0 m m
 ahead-none s place m o byName byMark h = record {
   grows = record { at = omega arith; inside = h .text .place; text = omega arith };
   rows = omega arith;
@@ -156,7 +157,7 @@ ahead-none s place m o byName byMark h = record {
   start = h .start;
 }
 
-pub ahead-on : (len v : ℕ) (m m₁ m₂ : Making) → Ahead len 0 m m₁ → Ahead len v m₁ m₂ → Ahead len 0 m m₂
+pub ahead-on : (len v : ℕ) (m m₁ m₂ : Making) → AheadState len 0 m m₁ → AheadState len v m₁ m₂ → AheadState len 0 m m₂
 ahead-on len v m m₁ m₂ h k = record {
   grows = record {
     at = omega (arith, h .grows .at, k .grows .at);
@@ -169,8 +170,8 @@ ahead-on len v m m₁ m₂ h k = record {
   start = k .start;
 }
 
-pub ready-on : (s : List ℕ) (place : Place) (v : ℕ) (m m₁ : Making) (o o₁ byName byMark : List ℕ) → Ready s place m o byName byMark
-    → Ahead (length s) v m m₁ → length o₁ ≡ length o → Ready s place m₁ o₁ byName byMark
+pub ready-on : (s : List ℕ) (place : Place) (v : ℕ) (m m₁ : Making) (o o₁ byName byMark : List ℕ) → ReadyContent s place m o byName byMark
+    → AheadState (length s) v m m₁ → length o₁ ≡ length o → ReadyContent s place m₁ o₁ byName byMark
 ready-on s place v m m₁ o o₁ byName byMark h k e = record {
   literal = h .literal;
   text = record {
@@ -187,8 +188,8 @@ ready-on s place v m m₁ o o₁ byName byMark h k e = record {
   file = h .file;
 }
 
--- what `sign` asks
-pub ready-within : (s : List ℕ) (place : Place) (m : Making) (o byName byMark : List ℕ) → Ready s place m o byName byMark → Within s place m o
+-- what `sign` requires
+pub ready-within : (s : List ℕ) (place : Place) (m : Making) (o byName byMark : List ℕ) → ReadyContent s place m o byName byMark → ReadySign s place m o
 ready-within s place m o byName byMark h = record {
   literal = h .literal;
   room = h .text .room;
@@ -200,9 +201,9 @@ ready-within s place m o byName byMark h = record {
   file = h .file;
 }
 
--- what `argument` asks, wherever its command stands
-pub ready-argument : (s : List ℕ) (place : Place) (m : Making) (o o₁ byName byMark : List ℕ) → Ready s place m o byName byMark
-    → length o₁ ≡ length o → Ready s inArgument m o₁ byName byMark
+-- what `argument` requires, wherever its command stands
+pub ready-argument : (s : List ℕ) (place : Place) (m : Making) (o o₁ byName byMark : List ℕ) → ReadyContent s place m o byName byMark
+    → length o₁ ≡ length o → ReadyContent s inArgument m o₁ byName byMark
 ready-argument s place m o o₁ byName byMark h e = record {
   literal = h .literal;
   text = record {

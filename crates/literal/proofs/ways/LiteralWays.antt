@@ -1,5 +1,5 @@
 -- A whole literal: for `close` and `parse` of src/parse.rt.
---     closed-turned, closed-left                 the two ways through `close`
+--     closed-done, closed-left                   the two ways through `close`
 --     parse-long, parse-refused, parse-chunks    the three ways through `parse`
 --     parse-ready, parse-fits, parse-grows       what `parse` owes to what it calls, and its bounds
 -- Assumes nothing.
@@ -12,6 +12,7 @@ use lib.ListN.{length, take, length-append}
 use lib.Dec.{ltb}
 use borrow.Author.Tests.{lt-ltb, le-ltb, ltb-false, lt-leb, le-leb}
 use Rattle.row.specs.declared.fault.Fault.{Fault}
+use Rattle.row.specs.Limits.{mostLiteral, leastScratch, mostArguments}
 use Rattle.raw.specs.Reader.{OutOf, ok, again, bad}
 use Rattle.raw.specs.Strict.{faultUp}
 use Rattle.chunk.specs.Chunk.{Chunk, chunk}
@@ -23,10 +24,10 @@ use Rattle.literal.specs.declared.content.Made.{Made}
 use Rattle.literal.specs.declared.content.Made.the-variants as made
 use Rattle.literal.specs.declared.parse.Parsed.the-variants as parsed
 use Rattle.turn.specs.Content.{Part, State, beginning, steps, pushed, closed, chunksOf, contentBy, content, inside, flatten}
-use Rattle.literal.specs.Literal.{Resolved, refused, mostArguments, chunkUp, resolvedOf, tooLong, resolveLiteral}
+use Rattle.literal.specs.Literal.{Resolved, refused, chunkUp, resolvedOf, tooLong, resolveLiteral}
 use Rattle.literal.specs.Rows.{RowsHold, textsOf}
-use Rattle.literal.specs.Inner.{Holds, RowsHeld, Goes, Turned, Closed, standing, some, from, Says, Added, SaysParsed, Fits}
-use Rattle.literal.specs.Inner.{Ahead, AheadMade, Ready, ReadyLiteral}
+use Rattle.literal.specs.Inner.{HoldsState, RowsHeld, Goes, ChunkDone, LastChunkDone, standing, some, from, SaysContent, Added, SaysParsed, Fits}
+use Rattle.literal.specs.Inner.{AheadState, AheadMade, ReadyContent, ReadyLiteral}
 use Rattle.literal.proofs.ways.MakingWays.{texts-append, no-text}
 use Rattle.literal.proofs.Flattening.{flattening}
 
@@ -37,12 +38,12 @@ abbrev pub ends : Making → Bool
 ends t = ltb (t .from) (t .len) || not (t .pushed)
 
 module _ (place : Place) (t : Making) (o b : List ℕ) (no : place .argument ≡ false) where
-  -- what `Closed` says of the chunks cs
-  abbrev Whole : List Chunk → List Chunk → List ℕ → Rows → List ℕ → List ℕ → Type 0
-  Whole cs ps b₀ k o′ b′ =
+  -- what `LastChunkDone` says of the chunks cs
+  abbrev WholeLiteral : List Chunk → List Chunk → List ℕ → Rows → List ℕ → List ℕ → Type 0
+  WholeLiteral cs ps b₀ k o′ b′ =
       RowsHold (flatten (ps ++ map (chunkUp (place .base)) cs)) b₀ k b′ × (take (t .len) o′ ≡ textsOf cs) × (t .len ≡ length (textsOf cs))
 
-  module _ (ps : List Chunk) (b₀ : List ℕ) (σ : State) (h : Holds place [] ps b₀ σ t o b) where
+  module _ (ps : List Chunk) (b₀ : List ℕ) (σ : State) (h : HoldsState place [] ps b₀ σ t o b) where
     abbrev e : ℕ
     e = t .at
 
@@ -59,16 +60,16 @@ module _ (place : Place) (t : Making) (o b : List ℕ) (no : place .argument ≡
     closed-by [] cs k l = empty-by cs (ltb (t .from) (t .len)) (le-ltb (t .from) (t .len) (omega (arith, k))) l
     closed-by (x ∷ w) cs k l = ap (λ (x : Bool). cond (x || not (t .pushed)) (pushed σ e) (σ .done)) (sym (lt-ltb (t .from) (t .len) (omega (arith, k))))
 
-    -- the test is the definition's
+    -- the code's test decides as the definition does
     closed-test : closed σ e (σ .text) (σ .done) ≡ cond (ends t) (pushed σ e) (σ .done)
     closed-test = closed-by (σ .text) (σ .done) (h .len) (h .pushed)
 
     plain : standing (place .argument) (σ .done) ≡ textsOf (σ .done)
     plain = ap (λ (x : Bool). standing x (σ .done)) no
 
-    turned-whole : (m : Making) (o′ b′ : List ℕ) → Turned place t e 0 e o b m o′ b′ → Whole (pushed σ e) ps b₀ (m .rows) o′ b′
+    done-whole : (m : Making) (o′ b′ : List ℕ) → ChunkDone place t e 0 e o b m o′ b′ → WholeLiteral (pushed σ e) ps b₀ (m .rows) o′ b′
     unfolding steps
-    turned-whole m o′ b′ z =
+    done-whole m o′ b′ z =
         let g = z .goes [] ps b₀ σ h in
         let texts = texts-append (σ .done) (chunk (σ .kind) (σ .text) (σ .start) e) in
         let now-plain : standing (place .argument) (pushed σ e) ≡ textsOf (pushed σ e) = ap (λ (x : Bool). standing x (pushed σ e)) no in
@@ -86,7 +87,7 @@ module _ (place : Place) (t : Making) (o b : List ℕ) (no : place .argument ≡
           all,
         )
 
-    left-whole : ends t ≡ false → Whole (σ .done) ps b₀ (t .rows) o b
+    left-whole : ends t ≡ false → WholeLiteral (σ .done) ps b₀ (t .rows) o b
     left-whole w =
         let none : σ .text ≡ [] = no-text (σ .text) (omega (arith, ltb-false (t .from) (t .len) (left-false _ _ w), h .len)) in (
           subst (λ (x : Bool). RowsHeld x place [] ps b₀ (σ .done) (t .rows) b) no (h .rows) .0,
@@ -98,40 +99,40 @@ module _ (place : Place) (t : Making) (o b : List ℕ) (no : place .argument ≡
         left-false true y q = q
         left-false false y q = refl
 
-  pub closed-turned : (m : Making) (o′ b′ : List ℕ) → ends t ≡ true → Turned place t (t .at) 0 (t .at) o b m o′ b′
-      → Closed place t o b (m .rows) o′ b′
-  closed-turned m o′ b′ w z = record {
+  pub closed-done : (m : Making) (o′ b′ : List ℕ) → ends t ≡ true → ChunkDone place t (t .at) 0 (t .at) o b m o′ b′
+      → LastChunkDone place t o b (m .rows) o′ b′
+  closed-done m o′ b′ w z = record {
     adds = λ ps b₀ xs h.
         let σ : State = steps (beginning 0) xs in
-        subst (λ (cs : List Chunk). Whole cs ps b₀ (m .rows) o′ b′)
-        (sym (closed-test ps b₀ σ h ∙ ap (λ (x : Bool). cond x (pushed σ (t .at)) (σ .done)) w)) (turned-whole ps b₀ σ h m o′ b′ z);
+        subst (λ (cs : List Chunk). WholeLiteral cs ps b₀ (m .rows) o′ b′)
+        (sym (closed-test ps b₀ σ h ∙ ap (λ (x : Bool). cond x (pushed σ (t .at)) (σ .done)) w)) (done-whole ps b₀ σ h m o′ b′ z);
     few = z .rows;
   }
 
-  pub closed-left : ends t ≡ false → Closed place t o b (t .rows) o b
+  pub closed-left : ends t ≡ false → LastChunkDone place t o b (t .rows) o b
   closed-left w = record {
     adds = λ ps b₀ xs h.
         let σ : State = steps (beginning 0) xs in
-        subst (λ (cs : List Chunk). Whole cs ps b₀ (t .rows) o b)
+        subst (λ (cs : List Chunk). WholeLiteral cs ps b₀ (t .rows) o b)
         (sym (closed-test ps b₀ σ h ∙ ap (λ (x : Bool). cond x (pushed σ (t .at)) (σ .done)) w)) (left-whole ps b₀ σ h w);
     few = omega arith;
   }
 
 -- ---- a literal
 
-pub parse-long : (verb : Bool) (s : List ℕ) (base before : ℕ) (have : Rows) (b o′ b′ : List ℕ) → 16384 < length s
+pub parse-long : (verb : Bool) (s : List ℕ) (base before : ℕ) (have : Rows) (b o′ b′ : List ℕ) → mostLiteral < length s
     → SaysParsed (resolveLiteral verb s base) before have b (parsed.Refused (tooLong base (base + length s))) o′ b′
 unfolding resolveLiteral
 parse-long verb s base before have b o′ b′ h =
     subst (λ (x : Bool). SaysParsed (cond x (resolvedOf base (content mostArguments verb s 0)) (refused (tooLong base (base + length s)))) before have b
-    (parsed.Refused (tooLong base (base + length s))) o′ b′) (sym (lt-leb (length s) 16384 h)) refl
+    (parsed.Refused (tooLong base (base + length s))) o′ b′) (sym (lt-leb (length s) mostLiteral h)) refl
 
 -- a literal inside the limit is its content
-short : (verb : Bool) (s : List ℕ) (base : ℕ) → length s ≤ 16384 → resolveLiteral verb s base ≡ resolvedOf base (content mostArguments verb s 0)
+short : (verb : Bool) (s : List ℕ) (base : ℕ) → length s ≤ mostLiteral → resolveLiteral verb s base ≡ resolvedOf base (content mostArguments verb s 0)
 unfolding resolveLiteral
 short verb s base h =
     ap (λ (x : Bool). cond x (resolvedOf base (content mostArguments verb s 0)) (refused (tooLong base (base + length s))))
-    (le-leb (length s) 16384 h)
+    (le-leb (length s) mostLiteral h)
 
 -- the state with which a literal's content begins
 abbrev pub first : Rows → Making
@@ -145,7 +146,7 @@ module _ (base before : ℕ) (have : Rows) (o b : List ℕ) where
   place₁ = inLiteral base before
 
   begun : (ps : List Chunk) (b₀ : List ℕ) → before ≡ length (textsOf ps) → RowsHold (flatten ps) b₀ have b
-      → Holds place₁ [] ps b₀ (beginning 0) (first have) o b
+      → HoldsState place₁ [] ps b₀ (beginning 0) (first have) o b
   unfolding textsOf whiteFrom
   begun ps b₀ k h = record {
     stack = refl;
@@ -158,13 +159,13 @@ module _ (base before : ℕ) (have : Rows) (o b : List ℕ) where
     rows = (subst (λ (l : List Chunk). RowsHold (flatten l) b₀ have b) (sym (append-nil ps)) h, k, refl);
   }
 
-  refused-as : (x : OutOf Part) (f u : Fault) (o₁ b₁ o′ b′ : List ℕ) → Says place₁ x (first have) o b (made.Refused f) o₁ b₁ → u ≡ faultUp base f
+  refused-as : (x : OutOf Part) (f u : Fault) (o₁ b₁ o′ b′ : List ℕ) → SaysContent place₁ x (first have) o b (made.Refused f) o₁ b₁ → u ≡ faultUp base f
       → SaysParsed (resolvedOf base x) before have b (parsed.Refused u) o′ b′
   refused-as (ok q xs) f u o₁ b₁ o′ b′ h e = absurd h
   refused-as (again q xs a) f u o₁ b₁ o′ b′ h e = absurd h
   refused-as (bad g) f u o₁ b₁ o′ b′ h e = e ∙ ap (faultUp base) h
 
-  module _ (t : Making) (o₁ b₁ : List ℕ) (k : Rows) (o′ b′ : List ℕ) (z : Closed place₁ t o₁ b₁ k o′ b′) where
+  module _ (t : Making) (o₁ b₁ : List ℕ) (k : Rows) (o′ b′ : List ℕ) (z : LastChunkDone place₁ t o₁ b₁ k o′ b′) where
     added : (q : ℕ) (xs : List Part) → t .at ≡ q → Goes place₁ xs (first have) o b t o₁ b₁ → (ps : List Chunk) (b₀ : List ℕ)
         → before ≡ length (textsOf ps) → RowsHold (flatten ps) b₀ have b
         → Added ps (map (chunkUp base) (chunksOf 0 q xs)) b₀ k (t .len) o′ b′
@@ -177,34 +178,34 @@ module _ (base before : ℕ) (have : Rows) (o b : List ℕ) where
           rows = all .0;
         })
 
-    chunks-as : (x : OutOf Part) → Says place₁ x (first have) o b (made.Done t) o₁ b₁
+    chunks-as : (x : OutOf Part) → SaysContent place₁ x (first have) o b (made.Done t) o₁ b₁
         → SaysParsed (resolvedOf base x) before have b (parsed.Chunks k (t .len)) o′ b′
     chunks-as (ok q xs) h = added q xs (h .0) (h .1)
     chunks-as (again q xs a) h = added q xs (h .0) (h .1)
     chunks-as (bad g) h = absurd h
 
-  module _ (verb : Bool) (s : List ℕ) (r : Made) (o₁ b₁ o′ b′ : List ℕ) (l : length s ≤ 16384)
-      (h : Says place₁ (from (inside 64) verb s (first have)) (first have) o b r o₁ b₁) where
+  module _ (verb : Bool) (s : List ℕ) (r : Made) (o₁ b₁ o′ b′ : List ℕ) (l : length s ≤ mostLiteral)
+      (h : SaysContent place₁ (from (inside mostArguments) verb s (first have)) (first have) o b r o₁ b₁) where
     pub parse-refused : (f u : Fault) → r ≡ made.Refused f → u ≡ faultUp base f
         → SaysParsed (resolveLiteral verb s base) before have b (parsed.Refused u) o′ b′
     unfolding contentBy
     parse-refused f u e i =
         subst (λ (x : Resolved). SaysParsed x before have b (parsed.Refused u) o′ b′) (sym (short verb s base l))
         (refused-as (content mostArguments verb s 0) f u o₁ b₁ o′ b′
-        (subst (λ (r : Made). Says place₁ (content mostArguments verb s 0) (first have) o b r o₁ b₁) e h) i)
+        (subst (λ (r : Made). SaysContent place₁ (content mostArguments verb s 0) (first have) o b r o₁ b₁) e h) i)
 
-    pub parse-chunks : (t : Making) (k : Rows) → r ≡ made.Done t → Closed place₁ t o₁ b₁ k o′ b′
+    pub parse-chunks : (t : Making) (k : Rows) → r ≡ made.Done t → LastChunkDone place₁ t o₁ b₁ k o′ b′
         → SaysParsed (resolveLiteral verb s base) before have b (parsed.Chunks k (t .len)) o′ b′
     unfolding contentBy
     parse-chunks t k e z =
         subst (λ (x : Resolved). SaysParsed x before have b (parsed.Chunks k (t .len)) o′ b′) (sym (short verb s base l))
         (chunks-as t o₁ b₁ k o′ b′ z (content mostArguments verb s 0)
-        (subst (λ (r : Made). Says place₁ (content mostArguments verb s 0) (first have) o b r o₁ b₁) e h))
+        (subst (λ (r : Made). SaysContent place₁ (content mostArguments verb s 0) (first have) o b r o₁ b₁) e h))
 
 -- ---- bounds
 
 pub parse-ready : (s : List ℕ) (base before : ℕ) (have : Rows) (o byName byMark : List ℕ) → ReadyLiteral s base before have o byName byMark
-    → length s ≤ 16384 → Ready s (inLiteral base before) (first have) o byName byMark
+    → length s ≤ mostLiteral → ReadyContent s (inLiteral base before) (first have) o byName byMark
 parse-ready s base before have o byName byMark h l = record {
   literal = l;
   text = record {
@@ -222,8 +223,8 @@ parse-ready s base before have o byName byMark h l = record {
 }
 
 module _ (s : List ℕ) (base before : ℕ) (have : Rows) (o byName byMark : List ℕ) (h : ReadyLiteral s base before have o byName byMark)
-    (l : length s ≤ 16384) (t : Making) (r : Made) (e : r ≡ made.Done t) (a : AheadMade (length s) 0 (first have) r) where
-  ahead : Ahead (length s) 0 (first have) t
+    (l : length s ≤ mostLiteral) (t : Making) (r : Made) (e : r ≡ made.Done t) (a : AheadMade (length s) 0 (first have) r) where
+  ahead : AheadState (length s) 0 (first have) t
   ahead = subst (AheadMade (length s) 0 (first have)) e a
 
   pub parse-fits : (n : ℕ) → n ≡ length o
@@ -241,7 +242,7 @@ module _ (s : List ℕ) (base before : ℕ) (have : Rows) (o byName byMark : Lis
         refl,
       )
 
-  pub parse-grows : (k : Rows) → k .n ≤ t .rows .n + 1 → (t .len ≤ 32768) × (k .n ≤ have .n + 16385)
+  pub parse-grows : (k : Rows) → k .n ≤ t .rows .n + 1 → (t .len ≤ leastScratch) × (k .n ≤ have .n + (mostLiteral + 1))
   parse-grows k f =
       let a = ahead in
       (omega (arith, a .grows .text, a .grows .inside), omega (arith, a .rows, a .grows .inside))

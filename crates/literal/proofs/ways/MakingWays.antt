@@ -4,10 +4,10 @@
 --     argument-holds, literal-holds        the two ways through `turnaround`
 --     math-argument, math-literal          the two ways through `put_math`
 -- Assumes nothing.
-use Prim.Native.Nat.{ℕ, zero, suc, _+_, _-_, _≤_, min}
+use Prim.Native.Nat.{ℕ, zero, suc, _+_, _-_, _≤_}
 use native.Mathlib.Omega.{arith}
 use mathlib.Core.Path.{_≡_, refl, sym, ap, ap₂, subst, _∙_}
-use mathlib.Core.Bool.{Bool, true, false, cond}
+use mathlib.Core.Bool.{Bool, true, false}
 use mathlib.Core.List.{List, [], _∷_, _++_, map, append-assoc, append-nil}
 use lib.ListN.{length, take, drop, length-append}
 use lib.Seq.{take-take, take-append-seam, drop-append-seam}
@@ -16,7 +16,8 @@ use Rattle.chunk.specs.declared.form.Kind.{Kind}
 use Rattle.chunk.specs.declared.form.Kind.the-variants.{Verbatim, Math}
 use Rattle.chunk.specs.Chunk.{Chunk, chunk}
 use Rattle.chunk.specs.Format.{Written, formatOne, whiteFrom}
-use Rattle.text.proofs.general.Parts.{drop-take}
+use Rattle.text.proofs.general.Parts.{part-drop}
+use Rattle.text.proofs.general.Tests.{true-not-false}
 use Rattle.chunk.proofs.passes.ChunkByChunk.{format-on, white-on}
 use Rattle.command.specs.Stack.{Lays, defaultChunk}
 use Rattle.command.proofs.stacks.LaysLaws.{lays-on}
@@ -26,7 +27,7 @@ use Rattle.literal.specs.declared.making.Place.{Place}
 use Rattle.turn.specs.Content.{cut, math, State, steps, flatten}
 use Rattle.literal.specs.Literal.{chunkUp}
 use Rattle.literal.specs.Rows.{RowsHold, textsOf, onto, Pushes}
-use Rattle.literal.specs.Inner.{Holds, RowsHeld, standing, some}
+use Rattle.literal.specs.Inner.{HoldsState, RowsHeld, standing, some}
 use Rattle.literal.proofs.Joining.{joining}
 use Rattle.literal.proofs.Flattening.{flattening}
 
@@ -50,7 +51,7 @@ verbatim-some (suc n) h = refl
 
 -- ---- a state and the bytes
 
-module _ (place : Place) (t₀ : List ℕ) (ps : List Chunk) (b₀ : List ℕ) (σ : State) (m : Making) (o b : List ℕ) (h : Holds place t₀ ps b₀ σ m o b)
+module _ (place : Place) (t₀ : List ℕ) (ps : List Chunk) (b₀ : List ℕ) (σ : State) (m : Making) (o b : List ℕ) (h : HoldsState place t₀ ps b₀ σ m o b)
     (l : m .from ≤ m .len) (k : m .len ≤ length o) where
   abbrev before : List ℕ
   before = t₀ ++ standing (place .argument) (σ .done)
@@ -60,11 +61,8 @@ module _ (place : Place) (t₀ : List ℕ) (ps : List Chunk) (b₀ : List ℕ) (
 
   pub held-text : part o (m .from) (m .len) ≡ σ .text
   held-text =
-      ap (λ (n : ℕ). take (n - m .from) (drop (m .from) o)) (least (m .len) (length o) k) ∙ sym (drop-take (m .from) (m .len) o)
+      part-drop o (m .from) (m .len) k
       ∙ ap (drop (m .from)) (h .stack) ∙ ap (λ (n : ℕ). drop n (before ++ σ .text)) (sym before-length) ∙ drop-append-seam before (σ .text)
-    where
-      least : (r k : ℕ) → r ≤ k → min r k ≡ r
-      least r k h = omega arith
 
   pub held-below : take (m .from) o ≡ before
   held-below =
@@ -91,7 +89,7 @@ module _ (place : Place) (t₀ : List ℕ) (ps : List Chunk) (b₀ : List ℕ) (
         ∙ ap₂ (λ (t : List ℕ) (y : Written). t ++ y .text) (ap (λ (x : Bool). standing x (σ .done)) (sym a)) (sym same)
 
     pub argument-holds : Lays (m .from) (formatted .text) o r o′ → w ≡ formatted .white
-        → Holds place t₀ ps b₀ (steps σ (cut d e p ∷ [])) (record {
+        → HoldsState place t₀ ps b₀ (steps σ (cut d e p ∷ [])) (record {
           at = p;
           braces = d;
           pushed = true;
@@ -168,7 +166,7 @@ module _ (place : Place) (t₀ : List ℕ) (ps : List Chunk) (b₀ : List ℕ) (
           subst (λ (l : List Chunk). RowsHold l b₀ k′ b′) (ap (onto (flatten all)) lifted ∙ sym flat-more)
           (z (flatten all) (σ .text) b₀ (u ∙ sym texts-all) (omega (arith, u, v, h .len)) (held .0))
 
-      pub literal-holds : Holds place t₀ ps b₀ (steps σ (cut d e p ∷ []))
+      pub literal-holds : HoldsState place t₀ ps b₀ (steps σ (cut d e p ∷ []))
           (record { at = p; braces = d; pushed = true; start = p; from = m .len; len = m .len; white = m .white; rows = k′ }) o b′
       unfolding steps
       literal-holds = record {
@@ -178,13 +176,10 @@ module _ (place : Place) (t₀ : List ℕ) (ps : List Chunk) (b₀ : List ℕ) (
         len = omega arith;
         start = refl;
         kind = refl;
-        white = λ q. absurd (apart (place .argument) q a);
+        white = λ q. true-not-false (place .argument) q a;
         pushed = some-snoc (σ .done) c₁;
         rows = subst (λ (x : Bool). RowsHeld x place t₀ ps b₀ (σ .done ++ c₁ ∷ []) k′ b′) (sym a) (now-held, held .1, held .2);
       }
-        where
-          apart : (x : Bool) → x ≡ true → x ≡ false → ⊥
-          apart x q r = let z : _≡_ {A = ℕ} 0 1 = ap (λ (b : Bool). cond b 0 1) (sym q ∙ r) in omega (arith, z)
 
 -- ---- a chunk of math, behind a chunk that is done
 
@@ -192,7 +187,7 @@ pub no-text : (t : List ℕ) → length t ≡ 0 → t ≡ []
 no-text [] h = refl
 no-text (b ∷ t) h = absurd (omega (arith, h))
 
-module _ (place : Place) (t₀ : List ℕ) (ps : List Chunk) (b₀ : List ℕ) (σ : State) (m : Making) (o b : List ℕ) (h : Holds place t₀ ps b₀ σ m o b)
+module _ (place : Place) (t₀ : List ℕ) (ps : List Chunk) (b₀ : List ℕ) (σ : State) (m : Making) (o b : List ℕ) (h : HoldsState place t₀ ps b₀ σ m o b)
     (same-end : m .from ≡ m .len) (w : List ℕ) (a e : ℕ) (o′ : List ℕ) (l : ℕ) where
   none : σ .text ≡ []
   none = no-text (σ .text) (omega (arith, same-end, h .len))
@@ -220,7 +215,7 @@ module _ (place : Place) (t₀ : List ℕ) (ps : List Chunk) (b₀ : List ℕ) (
   made k = record { at = m .at; braces = m .braces; pushed = true; start = m .start; from = l; len = l; white = m .white; rows = k }
 
   pub math-argument : place .argument ≡ true → Lays (m .len) (0x24 ∷ w ++ 0x24 ∷ []) o l o′
-      → Holds place t₀ ps b₀ (steps σ (math w a e ∷ [])) (made (m .rows)) o′ b
+      → HoldsState place t₀ ps b₀ (steps σ (math w a e ∷ [])) (made (m .rows)) o′ b
   unfolding steps
   math-argument i x =
       let stands : standing (place .argument) (σ .done ++ μ ∷ []) ≡ S ++ (0x24 ∷ w ++ 0x24 ∷ []) =
@@ -245,16 +240,16 @@ module _ (place : Place) (t₀ : List ℕ) (ps : List Chunk) (b₀ : List ℕ) (
       abbrev base₁ : ℕ
       base₁ = place .base
 
-      abbrev every : List Chunk
-      every = ps ++ map (chunkUp base₁) (σ .done)
+      abbrev all-chunks : List Chunk
+      all-chunks = ps ++ map (chunkUp base₁) (σ .done)
 
-      held-math : RowsHold (flatten every) b₀ (m .rows) b × (place .text ≡ length (textsOf ps)) × (length t₀ ≡ 0)
+      held-math : RowsHold (flatten all-chunks) b₀ (m .rows) b × (place .text ≡ length (textsOf ps)) × (length t₀ ≡ 0)
       held-math = subst (λ (x : Bool). RowsHeld x place t₀ ps b₀ (σ .done) (m .rows) b) i (h .rows)
 
-      texts-every : length (textsOf (flatten every)) ≡ place .text + m .len
-      texts-every = omega (
+      texts-all-chunks : length (textsOf (flatten all-chunks)) ≡ place .text + m .len
+      texts-all-chunks = omega (
         arith,
-        ap length (flattening .texts-flat every),
+        ap length (flattening .texts-flat all-chunks),
         ap length (flattening .texts-both ps (map (chunkUp base₁) (σ .done))),
         length-append (textsOf ps) (textsOf (map (chunkUp base₁) (σ .done))),
         ap length (flattening .texts-up base₁ (σ .done)),
@@ -268,12 +263,12 @@ module _ (place : Place) (t₀ : List ℕ) (ps : List Chunk) (b₀ : List ℕ) (
       more-math : RowsHold (flatten (ps ++ map (chunkUp base₁) (σ .done ++ μ ∷ []))) b₀ k′ b′
       more-math =
           subst (λ (l : List Chunk). RowsHold l b₀ k′ b′)
-          (ap (onto (flatten every)) (ap₂ (λ (p q : ℕ). chunk Math w p q) (omega (arith, y)) (omega (arith, z)))
+          (ap (onto (flatten all-chunks)) (ap₂ (λ (p q : ℕ). chunk Math w p q) (omega (arith, y)) (omega (arith, z)))
           ∙ sym (ap (λ (l : List Chunk). flatten (ps ++ l)) (up-snoc base₁ (σ .done) μ)
-          ∙ ap flatten (sym (append-assoc ps (map (chunkUp base₁) (σ .done)) (chunkUp base₁ μ ∷ []))) ∙ joining every (chunkUp base₁ μ)))
-          (push (flatten every) w b₀ (u ∙ sym texts-every) (omega (arith, u, v, x .end)) (held-math .0))
+          ∙ ap flatten (sym (append-assoc ps (map (chunkUp base₁) (σ .done)) (chunkUp base₁ μ ∷ []))) ∙ joining all-chunks (chunkUp base₁ μ)))
+          (push (flatten all-chunks) w b₀ (u ∙ sym texts-all-chunks) (omega (arith, u, v, x .end)) (held-math .0))
 
-      pub math-literal : Holds place t₀ ps b₀ (steps σ (math w a e ∷ [])) (made k′) o′ b′
+      pub math-literal : HoldsState place t₀ ps b₀ (steps σ (math w a e ∷ [])) (made k′) o′ b′
       unfolding steps
       math-literal =
           let stands : standing (place .argument) (σ .done ++ μ ∷ []) ≡ S ++ w =
@@ -285,13 +280,10 @@ module _ (place : Place) (t₀ : List ℕ) (ps : List Chunk) (b₀ : List ℕ) (
             len = omega (arith, ap length none);
             start = h .start;
             kind = h .kind;
-            white = λ q. absurd (apart (place .argument) q i);
+            white = λ q. true-not-false (place .argument) q i;
             pushed = some-snoc (σ .done) μ;
             rows = subst (λ (x : Bool). RowsHeld x place t₀ ps b₀ (σ .done ++ μ ∷ []) k′ b′) (sym i) (more-math, held-math .1, held-math .2);
           }
-        where
-          apart : (x : Bool) → x ≡ true → x ≡ false → ⊥
-          apart x q r = let z : _≡_ {A = ℕ} 0 1 = ap (λ (b : Bool). cond b 0 1) (sym q ∙ r) in omega (arith, z)
 
 -- three texts, one after another
 pub lays-three : (n : ℕ) (x w y o : List ℕ) (r₁ : ℕ) (o₁ : List ℕ) (r₂ : ℕ) (o₂ : List ℕ) (r : ℕ) (o′ : List ℕ) → Lays n x o r₁ o₁

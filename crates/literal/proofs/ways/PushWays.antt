@@ -11,6 +11,7 @@ use lib.ListN.{length, length-append}
 use lib.Dec.{eqb, ltb}
 use borrow.Author.Tests.{eqb-true, ltb-true, lt-ltb}
 use Rattle.text.proofs.general.Tests.{both-true}
+use Rattle.text.proofs.general.Lists.{add-over}
 use Rattle.chunk.specs.declared.form.Kind.{Kind}
 use Rattle.chunk.specs.declared.form.Kind.the-variants.{Normal, Verbatim, Math}
 use Rattle.chunk.specs.Chunk.{Chunk, chunk, kindOf, ChunkRow, chunkRow, putChunk}
@@ -36,10 +37,7 @@ writes-snoc [] b n r = ap (λ (k : ℕ). putChunk b k r) (zeroed n)
     zeroed : (n : ℕ) → n ≡ n + 0
     zeroed n = omega arith
 writes-snoc (q ∷ rs) b n r = writes-snoc rs (putChunk b n q) (suc n) r ∙ ap (λ (k : ℕ). putChunk (writes (putChunk b n q) (suc n) rs) k r)
-    (moved n (length rs))
-  where
-    moved : (n k : ℕ) → suc n + k ≡ n + suc k
-    moved n k = omega arith
+    (add-over n (length rs))
 
 -- the row of a chunk whose text begins at t
 abbrev rowAt : ℕ → Chunk → ChunkRow
@@ -123,7 +121,7 @@ put-twice (x₁ ∷ x₂ ∷ x₃ ∷ x₄ ∷ []) n r q = refl
 put-twice (x₁ ∷ x₂ ∷ x₃ ∷ x₄ ∷ x₅ ∷ l) zero r q = refl
 put-twice (x₁ ∷ x₂ ∷ x₃ ∷ x₄ ∷ x₅ ∷ l) (suc n) r q = ap (λ (m : List ℕ). x₁ ∷ x₂ ∷ x₃ ∷ x₄ ∷ x₅ ∷ m) (put-twice l n r q)
 
--- the code's test is the definition's
+-- the code's test decides as the definition does
 joins-test : (j k : Kind) → (eqb (kindOf j) (kindOf k) && not (eqb (kindOf k) 2)) ≡ joins j k
 joins-test Normal Normal = refl
 joins-test Normal Verbatim = refl
@@ -262,7 +260,7 @@ module _ (kind : Kind) (from to start end : ℕ) (k : Rows) (b : List ℕ) (b′
           subst (λ (l : List Chunk). RowsHold l b₀ (rowsOf (k .n) (kindOf kind) (k .from) (k .start)) b′) (sym (onto-join cs t b₀ f g h z e))
           (held-join cs t b₀ f g h z last q)
 
--- ---- the same with the kind's number as the code has it
+-- ---- both ways, over the kind's number as the code has it
 
 module _ (kind : Kind) (from to start end : ℕ) (k : Rows) (b : List ℕ) (b′ : List ℕ) (number : ℕ) (e : number ≡ kindOf kind) where
   abbrev tested : ℕ → Bool

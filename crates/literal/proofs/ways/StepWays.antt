@@ -23,7 +23,7 @@ use Rattle.turn.specs.declared.turn.Text.the-variants as text
 use Rattle.literal.specs.declared.content.Made.{Made}
 use Rattle.literal.specs.declared.content.Made.the-variants as made
 use Rattle.turn.specs.Content.{put, cut, math, Reader, State, refusedByte, step, steps, maths, closing, contentTurn}
-use Rattle.literal.specs.Inner.{Holds, Goes, RowsHeld, standing, from, SaysSign, Onto, Turned, Calculated, Further, Ahead}
+use Rattle.literal.specs.Inner.{HoldsState, Goes, RowsHeld, standing, from, SaysSign, Onto, ChunkDone, MathDone, Further, AheadState}
 use Rattle.turn.specs.Turns.{turns, concat, SaysText, Grows}
 use Rattle.turn.proofs.Turning.{turning}
 
@@ -44,8 +44,8 @@ module _ (place : Place) (s : List ℕ) (m : Making) (o b : List ℕ) (l : m .at
   math-turn argument n = turning .turn-math argument false (m .braces) s (m .at) l d refl ∙ rw (sym h, lt-ltb to (length s) n) refl
 
   pub math-again : to < length s → (m₁ : Making) (o₁ b₁ : List ℕ) (m₂ : Making) (o₂ b₂ : List ℕ)
-      → Turned place m (m .at) (m .braces) (to + 1) o b m₁ o₁ b₁
-      → Calculated s (m .at + 1) to place m₁ o₁ b₁ m₂ o₂ b₂ → SaysSign place false s m o b (made.Done m₂) o₂ b₂
+      → ChunkDone place m (m .at) (m .braces) (to + 1) o b m₁ o₁ b₁
+      → MathDone s (m .at + 1) to place m₁ o₁ b₁ m₂ o₂ b₂ → SaysSign place false s m o b (made.Done m₂) o₂ b₂
   unfolding steps
   math-again n m₁ o₁ b₁ m₂ o₂ b₂ x y = record {
     parts = cut (m .braces) (m .at) (to + 1) ∷ math (part s (m .at + 1) to) (m .at + 1) to ∷ [];
@@ -63,7 +63,7 @@ module _ (place : Place) (s : List ℕ) (m : Making) (o b : List ℕ) (l : m .at
 
 module _ (place : Place) (verb : Bool) (s : List ℕ) (m : Making) (o b : List ℕ) (l : m .at < length s) where
   cut-again : (d : ℕ) → ((argument : Reader) → contentTurn argument verb (m .braces) s (m .at) ≡ again (m .at + 1) (cut d (m .at) (m .at + 1) ∷ []) d)
-      → (m₁ : Making) (o₁ b₁ : List ℕ) → Turned place m (m .at) d (m .at + 1) o b m₁ o₁ b₁ → SaysSign place verb s m o b (made.Done m₁) o₁ b₁
+      → (m₁ : Making) (o₁ b₁ : List ℕ) → ChunkDone place m (m .at) d (m .at + 1) o b m₁ o₁ b₁ → SaysSign place verb s m o b (made.Done m₁) o₁ b₁
   cut-again d t m₁ o₁ b₁ x = record {
     parts = cut d (m .at) (m .at + 1) ∷ [];
     leads = λ argument.
@@ -73,7 +73,7 @@ module _ (place : Place) (verb : Bool) (s : List ℕ) (m : Making) (o b : List �
     goes = x .goes;
   }
 
-  pub open-again : getD s (m .at) 0 ≡ 0x7B → (m₁ : Making) (o₁ b₁ : List ℕ) → Turned place m (m .at) (m .braces + 1) (m .at + 1) o b m₁ o₁ b₁
+  pub open-again : getD s (m .at) 0 ≡ 0x7B → (m₁ : Making) (o₁ b₁ : List ℕ) → ChunkDone place m (m .at) (m .braces + 1) (m .at + 1) o b m₁ o₁ b₁
       → SaysSign place verb s m o b (made.Done m₁) o₁ b₁
   open-again e =
       cut-again (m .braces + 1)
@@ -88,7 +88,7 @@ module _ (place : Place) (verb : Bool) (s : List ℕ) (m : Making) (o b : List �
       (turning .turn-close argument verb (m .braces) s (m .at) l e ∙ ap (λ (d : ℕ). closing d s (m .at)) z)
 
   pub close-again : getD s (m .at) 0 ≡ 0x7D → (m .braces ≡ 0 → ⊥) → (m₁ : Making) (o₁ b₁ : List ℕ)
-      → Turned place m (m .at) (m .braces - 1) (m .at + 1) o b m₁ o₁ b₁
+      → ChunkDone place m (m .at) (m .braces - 1) (m .at + 1) o b m₁ o₁ b₁
       → SaysSign place verb s m o b (made.Done m₁) o₁ b₁
   unfolding closing
   close-again e z = cut-again (m .braces - 1) (λ argument. turning .turn-close argument verb (m .braces) s (m .at) l e ∙ some (m .braces) z)
@@ -112,8 +112,8 @@ puts-state (w ∷ ws) σ =
     ∙ ap (λ (t : List ℕ). record { done = σ .done; kind = σ .kind; text = t; start = σ .start }) (append-assoc (σ .text) w (concat ws))
 
 module _ (place : Place) (m : Making) (o b : List ℕ) (q l : ℕ) (m′ : Making) (o′ : List ℕ) (f : Further m q l m′) where
-  put-held : (w : List ℕ) → Lays (m .len) w o l o′ → (t₀ : List ℕ) (ps : List Chunk) (b₀ : List ℕ) (σ : State) → Holds place t₀ ps b₀ σ m o b
-      → Holds place t₀ ps b₀ (step σ (put w)) m′ o′ b
+  put-held : (w : List ℕ) → Lays (m .len) w o l o′ → (t₀ : List ℕ) (ps : List Chunk) (b₀ : List ℕ) (σ : State) → HoldsState place t₀ ps b₀ σ m o b
+      → HoldsState place t₀ ps b₀ (step σ (put w)) m′ o′ b
   put-held w x t₀ ps b₀ σ h = record {
     stack = ap (λ (n : ℕ). take n o′) (f .len) ∙ x .text ∙ ap (λ (t : List ℕ). t ++ w) (h .stack)
         ∙ append-assoc (t₀ ++ standing (place .argument) (σ .done)) (σ .text) w;
@@ -127,7 +127,7 @@ module _ (place : Place) (m : Making) (o b : List ℕ) (q l : ℕ) (m′ : Makin
   }
 
   pub goes-puts : (ws : List (List ℕ)) → Lays (m .len) (concat ws) o l o′ → Goes place (map put ws) m o b m′ o′ b
-  goes-puts ws x t₀ ps b₀ σ h = subst (λ (τ : State). Holds place t₀ ps b₀ τ m′ o′ b) (sym (puts-state ws σ)) (put-held (concat ws) x t₀ ps b₀ σ h)
+  goes-puts ws x t₀ ps b₀ σ h = subst (λ (τ : State). HoldsState place t₀ ps b₀ τ m′ o′ b) (sym (puts-state ws σ)) (put-held (concat ws) x t₀ ps b₀ σ h)
 
 module _ (place : Place) (verb : Bool) (s : List ℕ) (m : Making) (o b : List ℕ) (r : Text) (o′ : List ℕ) (h : SaysText verb s (m .at) (m .len) o r o′)
   where
@@ -145,7 +145,7 @@ module _ (place : Place) (verb : Bool) (s : List ℕ) (m : Making) (o b : List �
 
 pub ahead-further : (len : ℕ) (verb : Bool) (s : List ℕ) (m : Making) (o : List ℕ) (q l : ℕ) (o′ : List ℕ) (r : Text) (m′ : Making) → r ≡ text.Put q l
     → SaysText verb s (m .at) (m .len) o r o′ → Grows len 1 (m .at) (m .len) q l → m .from ≤ m .len → m .start ≤ m .at → Further m q l m′
-    → Ahead len 1 m m′
+    → AheadState len 1 m m′
 ahead-further len verb s m o q l o′ r m′ e y h x z f = record {
   grows = record {
     at = omega (arith, h .at, f .at);
@@ -162,9 +162,9 @@ pub sign-as : (place : Place) (verb : Bool) (s : List ℕ) (m : Making) (o b : L
     → SaysSign place false s m o b r o′ b′ → SaysSign place verb s m o b r o′ b′
 sign-as place verb s m o b r o′ b′ e h = subst (λ (v : Bool). SaysSign place v s m o b r o′ b′) (sym e) h
 
--- at a brace a byte is read, a chunk is done at most, and one brace more is open at most
+-- at a brace a byte is read, at most one chunk is done, and at most one brace more is open
 pub ahead-cut : (place : Place) (len d : ℕ) (m : Making) (o b : List ℕ) (m₁ : Making) (o₁ b₁ : List ℕ) → m .at < len → d ≤ m .braces + 1
-    → Turned place m (m .at) d (m .at + 1) o b m₁ o₁ b₁ → Ahead len 1 m m₁
+    → ChunkDone place m (m .at) d (m .at + 1) o b m₁ o₁ b₁ → AheadState len 1 m m₁
 ahead-cut place len d m o b m₁ o₁ b₁ l e h = record {
   grows = record { at = omega (arith, h .at); inside = omega (arith, h .at, l); text = omega (arith, h .at, h .len) };
   rows = omega (arith, h .at, h .rows);

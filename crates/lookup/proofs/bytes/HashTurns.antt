@@ -1,6 +1,6 @@
 -- The hash of bytes: one turn of its loop, and the end.
---     product-fits    a product of two numbers of 32 bits fits in 64
---     hash-turn, hash-end
+--     product-fits           a product of two numbers of 32 bits fits in 64
+--     hash-turn, hash-end    one turn of the loop, and its end
 -- Assumes nothing.
 use Prim.Native.Nat.{ℕ, _+_, _*_, _≤_, _<_}
 use native.Mathlib.Nat.{mul-le-mul}

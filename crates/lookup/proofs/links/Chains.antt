@@ -1,7 +1,7 @@
 -- The index over numbered things.
 --     link-none, link-in, link-out                 the index of nothing; one thing more in front; a thing that is in no bucket
 --     chain-rises                                  a bucket's chain is its things, from the first to the last
---     Going, going-starts, going-on, going-ends    a search along a chain: it passes nothing that it seeks
+--     Going, going-starts, going-on, going-ends    a search along a chain: it misses nothing that it seeks
 --     left, left-most, going-less                  how far the search can still go
 -- Assumes nothing.
 use Prim.Native.Nat.{ℕ, zero, suc, _+_, _-_, _≤_, _<_}
@@ -103,7 +103,7 @@ module _ (q : ℕ → ℕ → Bool) (n from : ℕ) (heads next : List ℕ) (l : 
           let m = eqb-false j i t in
           first-reaches (q b) n (suc i) j (omega (arith, g .past j v w x y .1)) w x
 
--- at the end of the chain: nothing of the bucket is sought
+-- at the end of the chain, nothing in the bucket is what was sought
 pub going-ends : (h q : ℕ → Bool) (n from at : ℕ) → at ≤ from → Going h q n from at → (j : ℕ) → from ≤ j → j < n → q j ≡ true → h j ≡ true → ⊥
 going-ends h q n from at k g j u v w x =
     let p = g .past j u v w x in

@@ -1,7 +1,7 @@
 -- The search along a chain of the rows' index: the ways through `follow`.
---     Going                                        where it stands
+--     Going                                                where the search stands
 --     follow-starts, follow-hit, follow-on, follow-ends    it starts; finds the row; goes on; ends without a row
---     follows-row, follows-none, follows-long              what it came to, told by the answer
+--     follows-row, follows-none, follows-long              the answer: a row, none, or that the chain is too long
 -- Assumes nothing.
 use Prim.Native.Nat.{ℕ, suc, _/_, _%_, _≤_, _<_}
 use native.Mathlib.Omega.{arith}
@@ -18,7 +18,7 @@ use Rattle.lookup.specs.declared.index.Followed.the-variants as followed
 use Rattle.lookup.specs.Fnv.{hashOf}
 use Rattle.lookup.specs.Names.{isNamed, rowNo}
 use Rattle.lookup.specs.RowIndex.{rowIn, IndexedFrom, Follows, lastFrom}
-use Rattle.lookup.proofs.rows.LastDefinition.{Says, from-is, from-none}
+use Rattle.lookup.proofs.rows.LastDefinition.{SaysLast, from-is, from-none}
 use Rattle.lookup.proofs.links.Chains as chains
 use Rattle.lookup.proofs.links.Chains.{left, going-less, going-ends}
 use Rattle.lookup.proofs.links.RowBuckets.{RowIn, row-in, row-says, named-name}
@@ -52,7 +52,7 @@ module _ (file name rows heads next : List ℕ) (from b : ℕ) (x : IndexedFrom 
     pub follow-ends : b ≡ hashOf name % length heads → at ≤ from → found.Nothing ≡ lastFrom file name (rowsOf rows) from
     follow-ends e k = from-none file name (rowsOf rows) from none
       where
-        none : (i : ℕ) → from ≤ i → Says file name (rowsOf rows) i → ⊥
+        none : (i : ℕ) → from ≤ i → SaysLast file name (rowsOf rows) i → ⊥
         none i m s =
             let n = named-name file (rowsOf rows) i name (s .named) in
             let r : RowIn file (rowsOf rows) (length heads) b i = record { kind = n .0; last = rw (n .1) (s .behind); bucket = rw (n .1) (sym e) } in

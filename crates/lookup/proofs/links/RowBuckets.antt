@@ -1,9 +1,9 @@
 -- Which bucket a row is in.
---     Room, room                          what `fits` says
---     RowIn, row-in, row-says             a row is in a bucket exactly if it counts and its name falls into the bucket
---     row-alone, row-out, row-shadowed    in which buckets it is not
+--     IndexRoom, room                         what `fits` says
+--     RowIn, row-in, row-says                 a row is in a bucket exactly if it counts and its name falls into the bucket
+--     row-alone, row-out, row-shadowed        in which buckets a row is not
 --     row-counts, counts-in, counts-inside    rows that count
---     named-name, name-named              a row defines a name exactly if it is a definition with its bytes
+--     named-name, name-named                  a row defines a name exactly if it is a definition with its bytes
 -- Assumes nothing.
 use Prim.Native.Nat.{ℕ, suc, _%_, _≤_, _<_}
 use native.Mathlib.Omega.{arith}
@@ -18,19 +18,19 @@ use Rattle.row.specs.Row.{Row, rowOf}
 use Rattle.lookup.specs.declared.plain.Found.{Found}
 use Rattle.lookup.specs.declared.plain.Found.the-variants as found
 use Rattle.lookup.specs.Fnv.{hashOf}
-use Rattle.text.specs.Same.{sameBytes}
+use Rattle.text.specs.SameBytes.{sameBytes}
 use Rattle.lookup.specs.Names.{nameOf, isNamed, rowNo, lastNamed}
 use Rattle.lookup.specs.RowIndex.{isNothing, counts, rowIn, fits}
-use Rattle.text.proofs.general.Same.{same-true, same-self}
+use Rattle.text.proofs.general.SameBytes.{same-true, same-self}
 
 -- ---- the room
 
-pub record Room (n heads next : ℕ) : Type 0 where
+pub record IndexRoom (n heads next : ℕ) : Type 0 where
   pub some : 0 < heads
   pub each : n ≤ next
   pub small : n ≤ 2147483647
 
-pub room : (n heads next : ℕ) → fits n heads next ≡ true → Room n heads next
+pub room : (n heads next : ℕ) → fits n heads next ≡ true → IndexRoom n heads next
 room n heads next e =
     let p = both-true (ltb 0 heads && leb n next) (leb n 2147483647) e in
     let q = both-true (ltb 0 heads) (leb n next) (p .0) in
@@ -75,7 +75,7 @@ module _ (file : List ℕ) (rs : List Row) (size i : ℕ) where
   row-alone b r c n =
       rw (eq-eqb (rowNo rs i .kind) 8 (r .kind), r .last) (ne-eqb (hashOf (nameOf file (rowNo rs i)) % size) c (λ z. n (sym z ∙ r .bucket)))
 
-  -- a row that is no definition is in none, and so is one whose name a later row defines
+  -- a row that is no definition is in no bucket, nor is one whose name a later row defines
   pub row-out : (rowNo rs i .kind ≡ 8 → ⊥) → (b : ℕ) → rowIn file rs size b i ≡ false
   unfolding rowIn counts
   row-out n b = rw (ne-eqb (rowNo rs i .kind) 8 n)
@@ -96,7 +96,7 @@ module _ (file : List ℕ) (rs : List Row) (i : ℕ) (name : List ℕ) where
   unfolding isNamed
   name-named k e = rw (eq-eqb (rowNo rs i .kind) 8 k, e) (same-self name)
 
--- only rows count
+-- a number that counts is the number of a row
 pub counts-inside : (file : List ℕ) (rs : List Row) (i : ℕ) → counts file rs i ≡ true → i < length rs
 counts-inside file rs i e = by (ltb i (length rs)) refl
   where

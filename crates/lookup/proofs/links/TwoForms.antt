@@ -1,4 +1,4 @@
--- The two forms of the index are told apart by the first number of `heads`: a bucket's first row has a number below that of the rows.
+-- The two forms of the index are told apart by the first number of `heads`: with chains it is at most the number of rows, in order it is more.
 --     is-linked, is-ordered        the chains; the definitions in order
 --     ordered-fits, ordered-part   how many definitions there are, and that they stand in `next`
 --     still-fits, built            the ways through `build`

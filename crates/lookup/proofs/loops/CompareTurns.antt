@@ -1,8 +1,8 @@
 -- Texts compared in the order of their bytes: one turn of `compare`, by what its code tests.
 --     order-on                         the bytes are the same: the rest decides
---     order-less, order-greater        they differ
+--     order-less, order-greater        the bytes differ
 --     order-shorter, order-longer      one of the texts has ended
---     order-end                        both have
+--     order-end                        both texts have ended
 -- Assumes nothing.
 use Prim.Native.Nat.{ℕ, _+_, _≤_, _<_}
 use native.Mathlib.Numerals.{add-one}

@@ -1,5 +1,5 @@
 -- Numbers copied from the first on: one turn of `copy`, and its end.
---     copy-on, copied
+--     copy-on, copied    one number more; all numbers
 -- Assumes nothing.
 use Prim.Native.Nat.{ℕ, suc, _+_, _≤_, _<_}
 use native.Mathlib.Numerals.{add-one}

@@ -1,5 +1,5 @@
 -- The numbers of the definition rows, gathered from the first on: one turn of `gather`, by what its code tests.
---     Going, gather-none       where it stands; at first
+--     Going, gather-none       where the loop stands; that nothing is gathered at first
 --     going-in, going-not      row i is a definition; it is none
 --     going-ends               behind the last row all are gathered
 -- Assumes nothing.

@@ -1,9 +1,9 @@
 -- Two lists merged: one turn of `merge`, by what its code tests.
 --     first-left, first-right, first-both    whose number is next, where a list has ended, and where none has
 --     left-inside, right-inside              the list whose number is next has not ended
---     Going                                  where it stands: i and j numbers are merged, and those behind them make up the rest
+--     Going                                  where the loop stands: i and j numbers are merged, and those behind them make up the rest
 --     going-left, going-right                the next number is put behind those that are merged
---     going-ends                             at the end all are
+--     going-ends                             at the end all numbers are merged
 --     halves-length, halves-merged           a list is merged from its halves
 -- Assumes nothing.
 use Prim.Native.Nat.{ℕ, suc, _+_, _-_, _≤_, _<_}
@@ -97,7 +97,7 @@ module _ (le : ℕ → ℕ → Bool) where
       let z : take (i + j) out ++ merged le [] [] ≡ whole = rw (drop-of-length-le a u, drop-of-length-le b v) at e in
       rw (← p, ← q) (sym (append-nil (take (i + j) out)) ∙ z)
 
-  -- out has as many numbers as at first
+  -- where the loop stands; `out` has as many numbers as at first
   abbrev pub Going : List ℕ → List ℕ → List ℕ → List ℕ → ℕ → ℕ → Type 0
   Going a b old out i j = (length out ≡ length old) × (i ≤ length a) × (j ≤ length b) × (take (i + j) out ++ merged le (drop i a) (drop j b) ≡ merged le a b)
 

@@ -2,7 +2,7 @@
 -- what it ends in.
 --     search-greater, search-less, search-same    one turn
 --     search-none, search-inside                  no row is left; the row that is left is one of the file
---     search-other, search-row                    it has another name; it has the wanted one
+--     search-other, search-row                    that row has another name; it has the wanted one
 -- Assumes nothing.
 use Prim.Native.Nat.{ℕ, _+_, _-_, _/_, _≤_, _<_}
 use native.Mathlib.Omega.{arith}

@@ -1,5 +1,5 @@
 -- A list sorted in one place: the ways through `sort`.
---     sort-deep, sort-stays                a list that is halved has a halving left; one that is not halved
+--     sort-deep, sort-stays                a list that is halved has a halving left; a list that is not halved stays as it is
 --     half, oneDone, other, bothDone       the list while its halves are sorted, and the part that is lent for the second
 --     half-size, one-length, other-size, both-length    how long these are
 --     sort-whole                           the halves are sorted, merged into the spare numbers, and copied back
@@ -52,7 +52,7 @@ module _ (le : ℕ → ℕ → Bool) where
       by true p e = absurd (false≢true (sym e))
       by false p e = p
 
--- ---- the list in its place, whose first half is sorted, ys; and whose second half is too, zs
+-- ---- the list in its place: with its first half sorted, ys; and with its second half sorted too, zs
 
 abbrev pub half : List ℕ → ℕ
 half xs = length xs / 2

@@ -1,9 +1,9 @@
 -- The last definition of a name.
---     none-more                          one row more in front, which does not define the name
---     Says, last-is, last-says           row i is found exactly if it defines the name and nothing is found behind it
---     none-is, none-says                 nothing is found exactly if no row defines the name
---     from-is, from-none                 what is found among the rows from row `from` on
---     from-row, from-nothing, from-first the same read back
+--     none-more                              one row more in front, which does not define the name
+--     SaysLast, last-is, last-says           row i is found exactly if it defines the name and nothing is found behind it
+--     none-is, none-says                     nothing is found exactly if no row defines the name
+--     from-is, from-none                     what is found among the rows from row `from` on
+--     from-row, from-nothing, from-first     what `lastFrom` says, as `lastNamed` says it
 -- Assumes nothing.
 use Prim.Native.Nat.{ℕ, zero, suc, _+_, _-_, _≤_, _<_}
 use native.Mathlib.Omega.{arith}
@@ -37,7 +37,7 @@ later-nothing found.Nothing true e = row-nothing _ _ refl e
 later-nothing found.Nothing false e = (refl, refl)
 
 -- row i is there and defines the name, and nothing is found behind it
-pub record Says (file name : List ℕ) (rs : List Row) (i : ℕ) : Type 0 where
+pub record SaysLast (file name : List ℕ) (rs : List Row) (i : ℕ) : Type 0 where
   pub below : i < length rs
   pub named : isNamed file name (rowNo rs i) ≡ true
   pub behind : lastNamed file name (drop (suc i) rs) ≡ found.Nothing
@@ -55,18 +55,18 @@ module _ (file name : List ℕ) where
   last-is (r ∷ rs) zero h n e = rw (e, n)
   last-is (r ∷ rs) (suc i) h n e = rw (last-is rs i (omega arith) n e)
 
-  pub last-says : (rs : List Row) (i : ℕ) → lastNamed file name rs ≡ found.Row i → Says file name rs i
+  pub last-says : (rs : List Row) (i : ℕ) → lastNamed file name rs ≡ found.Row i → SaysLast file name rs i
   unfolding lastNamed later
   last-says [] i e = row-nothing found.Nothing i e refl
   last-says (r ∷ rs) i e = by (lastNamed file name rs) refl e (last-says rs)
     where
       first : (b : Bool) → isNamed file name r ≡ b → lastNamed file name rs ≡ found.Nothing → cond b (found.Row 0) found.Nothing ≡ found.Row i →
-          Says file name (r ∷ rs) i
+          SaysLast file name (r ∷ rs) i
       first true t n e = rw (sym (row-one 0 i e)) (record { below = omega arith; named = t; behind = n })
       first false t n e = row-nothing found.Nothing i e refl
 
       by : (f : Found) → lastNamed file name rs ≡ f → later f (isNamed file name r) ≡ found.Row i →
-          ((j : ℕ) → lastNamed file name rs ≡ found.Row j → Says file name rs j) → Says file name (r ∷ rs) i
+          ((j : ℕ) → lastNamed file name rs ≡ found.Row j → SaysLast file name rs j) → SaysLast file name (r ∷ rs) i
       by (found.Row n) t e ih =
           let s = ih n t in
           rw (sym (row-one (suc n) i e)) (record { below = omega (arith, s .below); named = s .named; behind = s .behind })
@@ -105,7 +105,7 @@ module _ (file name : List ℕ) where
         let l = last-is (drop from rs) (i - from) inside (rw (part-row i h) n) (rw (part-rest i h) e) in
         rw (l, onward i h)
 
-    pub from-none : ((i : ℕ) → from ≤ i → Says file name rs i → ⊥) → found.Nothing ≡ lastFrom file name rs from
+    pub from-none : ((i : ℕ) → from ≤ i → SaysLast file name rs i → ⊥) → found.Nothing ≡ lastFrom file name rs from
     from-none u = by (lastNamed file name (drop from rs)) refl
       where
         back : (k : ℕ) → from + k - from ≡ k

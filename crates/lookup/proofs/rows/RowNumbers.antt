@@ -15,7 +15,7 @@ use Rattle.row.specs.Row.{Row}
 use Rattle.row.specs.Numbers.{rowsOf}
 use Rattle.row.specs.Laid.{rowAt}
 use Rattle.row.proofs.Laid.{laid}
-use Rattle.text.specs.Same.{sameBytes}
+use Rattle.text.specs.SameBytes.{sameBytes}
 use Rattle.lookup.specs.Names.{nameOf, isNamed, rowNo}
 
 row-from : (i j : ℕ) (l : List ℕ) → j + i * 4 + 4 ≤ length l → rowNo (rowsOf (drop j l)) i ≡ rowAt l (j + i * 4)

@@ -1,11 +1,11 @@
 -- The order of bytes, and of rows by their names.
---     flipped, order-flip           two texts the other way round
+--     flipped, order-flip           the answer for two texts the other way round
 --     order-less, order-greater     Less one way is Greater the other way
 --     order-self, order-equal       Equal is equality
 --     order-alike                   where neither of two texts comes behind the other they are equal
 --     less-trans, greater-on        the order is transitive
 --     comes-total, comes-trans      of two rows one comes before the other, and the order of rows is transitive
---     comes-order, comes-same       what it says of the rows' names, and of two rows of one name
+--     comes-order, comes-same       what the order of rows says of their names, and of two rows of one name
 -- Assumes nothing.
 use Prim.Native.Nat.{ℕ, _≤_}
 use native.Mathlib.Omega.{arith}

@@ -1,8 +1,8 @@
 -- The definition rows of a file.
 --     Risen, rising-in, in-rising           which numbers `rising` has: those that pass
---     rising-length                         they are no more than were asked
---     definition-in, in-definitions         the definitions are the rows that are definitions
---     definitions-length                    they are no more than the rows
+--     rising-length                         they are no more than the numbers that were tried
+--     definition-in, in-definitions         `definitions` has exactly the numbers of the definition rows
+--     definitions-length                    there are no more definitions than rows
 -- Assumes nothing.
 use Prim.Native.Nat.{ℕ, zero, suc, _+_, _≤_, _<_}
 use native.Mathlib.Omega.{arith}

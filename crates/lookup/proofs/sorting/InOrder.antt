@@ -24,7 +24,7 @@ use Rattle.lookup.specs.Order.{orderOf, comes, sorted, isDefinition, def
 use Rattle.lookup.proofs.rows.LastDefinition.{last-is, from-none, from-nothing, from-first}
 use Rattle.lookup.proofs.links.RowBuckets.{named-name, name-named}
 use Rattle.lookup.proofs.sorting.ByteOrder.{order-self, order-alike, greater-on, comes-total, comes-trans, comes-order, comes-same}
-use Rattle.lookup.proofs.sorting.Sorted.{Place, at-in, in-at, in-sorted, sorted-in, sorted-length, sorted-at, sorted-sorted}
+use Rattle.lookup.proofs.sorting.Sorted.{PlaceIn, at-in, in-at, in-sorted, sorted-in, sorted-length, sorted-at, sorted-sorted}
 use Rattle.lookup.proofs.sorting.Definitions.{definition-in, in-definitions, definitions-length}
 
 -- ---- the definitions in order
@@ -32,7 +32,7 @@ use Rattle.lookup.proofs.sorting.Definitions.{definition-in, in-definit
 pub record Arranged (file : List ℕ) (rs : List Row) (o : List ℕ) : Type 0 where
   pub count : length o ≡ length (definitions rs)
   pub rows : (p : ℕ) → p < length o → (getD o p 0 < length rs) × (isDefinition rs (getD o p 0) ≡ true)
-  pub all : (i : ℕ) → i < length rs → isDefinition rs i ≡ true → Place i o
+  pub all : (i : ℕ) → i < length rs → isDefinition rs i ≡ true → PlaceIn i o
   pub rises : (p q : ℕ) → p < q → q < length o → comes file rs (getD o p 0) (getD o q 0) ≡ true
 
 in-order : (file : List ℕ) (rs : List Row) → length rs ≤ 2147483647 → Arranged file rs (inOrder file rs)
@@ -103,7 +103,7 @@ module _ (file : List ℕ) (rs : List Row) (wanted o : List ℕ) (is : o ≡ inO
       name : (rowNo rs j .kind ≡ 8) × (nameOf file (rowNo rs j) ≡ wanted)
       name = named-name file rs j wanted e
 
-      at : Place j o
+      at : PlaceIn j o
       at = arranged file rs o is few .all j h (eq-eqb (rowNo rs j .kind) 8 (name .0))
 
       by : (b : Bool) → ltb (at .place) lo ≡ b → (p : ℕ) × ((p < lo) × (getD o p 0 ≡ j))
@@ -119,7 +119,7 @@ module _ (file : List ℕ) (rs : List Row) (wanted o : List ℕ) (is : o ≡ inO
   pub split-none : lo ≡ hi → lo ≡ 0 → found.Nothing ≡ lastNamed file wanted rs
   split-none m z = none (λ j h e. let p = early m j h e in omega (arith, p .1 .0))
 
-  -- it stands at place lo - 1, or else there it comes before the row
+  -- a row that defines the name stands at place lo - 1, or else comes before the row that stands there
   last-or : lo ≡ hi → (j : ℕ) → j < length rs → isNamed file wanted (rowNo rs j) ≡ true →
       (getD o (lo - 1) 0 ≡ j) ⊎ (comes file rs j (getD o (lo - 1) 0) ≡ true)
   last-or m j h e = let p = early m j h e in by (p .0) (p .1 .0) (p .1 .1) (eq-or-lt-of-le (omega (arith, p .1 .0)))

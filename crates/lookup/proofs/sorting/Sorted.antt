@@ -1,11 +1,11 @@
 -- Lists merged and sorted. First by any order:
---     In, Place, at-in, in-at         x is in a list: it is at some place of it
---     merged-in, in-merged            what is in two merged lists is what is in one of them
---     sorted-in, in-sorted            what is in a sorted list is what was in the list
+--     In, PlaceIn, at-in, in-at       x is in a list: it is at some place of it
+--     merged-in, in-merged            two merged lists have the numbers that one of the two has, and no others
+--     sorted-in, in-sorted            a sorted list has the numbers that the list had, and no others
 --     merged-length, sorted-length    how many numbers they have
 --     Sorted, sorted-at               each number of a list comes before those behind it
 -- Then by an order that is total and transitive:
---     merged-sorted, sorted-sorted    lists that are sorted are so when merged, and `sorted` sorts
+--     merged-sorted, sorted-sorted    two sorted lists merged are sorted, and `sorted` sorts
 -- Assumes nothing.
 use Prim.Native.Nat.{ℕ, zero, suc, _+_, _/_, _^_, _≤_, _<_}
 use native.Mathlib.Omega.{arith}
@@ -25,7 +25,7 @@ abbrev pub In : ℕ → List ℕ → Type 0
 In x [] = ⊥
 In x (y ∷ ys) = (x ≡ y) ⊎ In x ys
 
-pub record Place (x : ℕ) (xs : List ℕ) : Type 0 where
+pub record PlaceIn (x : ℕ) (xs : List ℕ) : Type 0 where
   pub place : ℕ
   pub below : place < length xs
   pub here : getD xs place 0 ≡ x
@@ -35,11 +35,11 @@ at-in [] p h = absurd (omega arith)
 at-in (x ∷ xs) zero h = inl refl
 at-in (x ∷ xs) (suc p) h = inr (at-in xs p (omega arith))
 
-pub in-at : (x : ℕ) (xs : List ℕ) → In x xs → Place x xs
+pub in-at : (x : ℕ) (xs : List ℕ) → In x xs → PlaceIn x xs
 in-at x [] h = absurd h
 in-at x (y ∷ ys) h = by h (in-at x ys)
   where
-    by : (x ≡ y) ⊎ In x ys → (In x ys → Place x ys) → Place x (y ∷ ys)
+    by : (x ≡ y) ⊎ In x ys → (In x ys → PlaceIn x ys) → PlaceIn x (y ∷ ys)
     by (inl e) f = record { place = 0; below = omega arith; here = sym e }
     by (inr i) f = let p = f i in record { place = suc (p .place); below = omega (arith, p .below); here = p .here }
 
@@ -158,7 +158,7 @@ module _ (le : ℕ → ℕ → Bool) where
 
 -- ---- sorted
 
--- the numbers behind a number come behind it
+-- each number comes before those behind it
 abbrev pub Sorted : (ℕ → ℕ → Bool) → List ℕ → Type 0
 Sorted le [] = Unit {0}
 Sorted le (x ∷ xs) = ((y : ℕ) → In y xs → le x y ≡ true) × Sorted le xs

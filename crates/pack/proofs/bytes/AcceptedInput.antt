@@ -17,6 +17,7 @@ use lib.ListN.{length, drop}
 use lib.Dec.{eqb, leb}
 use borrow.Author.Tests.{leb-true, le-leb, eqb-true}
 use Rattle.text.proofs.general.Tests.{both-true}
+use Rattle.text.specs.Every.{every}
 use Rattle.row.specs.Row.{Row, flat}
 use Rattle.row.specs.Spans.{SpansIn}
 use Rattle.row.specs.Limits.{mostBytes}
@@ -26,7 +27,7 @@ use Rattle.row.proofs.Laid.{laid}
 use Rattle.row.specs.Laid.{rowAt}
 use Rattle.row.specs.Ruled.{AllSmall}
 use Rattle.row.proofs.Ruled.{ruled}
-use Rattle.pack.specs.Seven.{unpackRow, unpacking, endFits, spanFits, every, InSeven}
+use Rattle.pack.specs.Seven.{unpackRow, unpacking, endFits, spanFits, InSeven}
 use Rattle.pack.specs.Pack.{isPackable}
 use Rattle.pack.specs.Unpack.{isUnpackable}
 

@@ -10,6 +10,7 @@ use mathlib.Core.Bool.{Bool, true, false, _&&_, and-true, and-false}
 use mathlib.Core.List.{List, [], _∷_}
 use lib.ListN.{length}
 use borrow.Author.Tests.{ne-eqb}
+use Rattle.text.specs.Every.{every}
 use Rattle.row.specs.declared.mask.Masks.{Masks}
 use Rattle.row.specs.Row.{Row}
 use Rattle.row.specs.Rules.{Await, part, run, whole, isRows}
@@ -17,7 +18,7 @@ use Rattle.row.specs.Numbers.{rowsOf, areRows}
 use Rattle.row.specs.Masks.{masksOf, stepOf, endsOf}
 use Rattle.row.specs.Ruled.{afterRow}
 use Rattle.row.proofs.Ruled.{ruled}
-use Rattle.pack.specs.Seven.{unpacking, endFits, spanFits, every}
+use Rattle.pack.specs.Seven.{unpacking, endFits, spanFits}
 use Rattle.pack.specs.Pack.{isPackable}
 use Rattle.pack.specs.Unpack.{isUnpackable}
 

@@ -1,6 +1,6 @@
 -- A list that is written piece by piece into a lent one.
 --     set-seven                    the seven stores of the code put seven bytes in their place
---     Written                      the front of the list stands in the lent one, and the rest is still to come
+--     WrittenTo                    the front of the list stands in the lent one, and the rest is still to come
 --     at-first, go-on, at-last     before the first piece, after one more, and after the last
 -- Assumes nothing.
 use Prim.Native.Nat.{ℕ, suc, _+_, _≤_}
@@ -24,16 +24,16 @@ module _ (l : List ℕ) (i a b c d e f g : ℕ) (h : i + 7 ≤ length l) where
       rw (e₁, e₂, e₃, e₄, e₅, e₆) (sets-eq (a ∷ b ∷ c ∷ d ∷ e ∷ f ∷ g ∷ []) l i h)
 
 -- the first p numbers of t stand in front of out, and behind them stands what b held; rest is still to be written
-pub record Written (t b : List ℕ) (p : ℕ) (rest out : List ℕ) : Type 0 where
+pub record WrittenTo (t b : List ℕ) (p : ℕ) (rest out : List ℕ) : Type 0 where
   pub front : List ℕ
   pub size : length front ≡ p
   pub lent : out ≡ front ++ drop p b
   pub all : front ++ rest ≡ t
 
-pub at-first : (t b : List ℕ) → Written t b 0 t b
+pub at-first : (t b : List ℕ) → WrittenTo t b 0 t b
 at-first t b = record { front = []; size = refl; lent = refl; all = refl }
 
-module _ (t b : List ℕ) (p : ℕ) (w rest out out′ : List ℕ) (n : ℕ) (o : Written t b p (w ++ rest) out) (s : length w ≡ n)
+module _ (t b : List ℕ) (p : ℕ) (w rest out out′ : List ℕ) (n : ℕ) (o : WrittenTo t b p (w ++ rest) out) (s : length w ≡ n)
     (e : out′ ≡ take p out ++ w ++ drop (p + n) out) where
   kept : take p out ≡ o .front
   kept = ap (take p) (o .lent) ∙ take-at (o .front) (drop p b) p (o .size)
@@ -45,7 +45,7 @@ module _ (t b : List ℕ) (p : ℕ) (w rest out out′ : List ℕ) (n : ℕ) (o 
       ∙ drop-append-add (o .front) (drop p b) n
       ∙ drop-drop n p b
 
-  pub go-on : Written t b (p + n) rest out′
+  pub go-on : WrittenTo t b (p + n) rest out′
   go-on =
       record {
         front = o .front ++ w;
@@ -54,5 +54,5 @@ module _ (t b : List ℕ) (p : ℕ) (w rest out out′ : List ℕ) (n : ℕ) (o 
         all = append-assoc (o .front) w rest ∙ o .all;
       }
 
-pub at-last : {t b out : List ℕ} {p : ℕ} → Written t b p [] out → out ≡ t ++ drop p b
+pub at-last : {t b out : List ℕ} {p : ℕ} → WrittenTo t b p [] out → out ≡ t ++ drop p b
 at-last {t} {b} {out} {p} o = o .lent ∙ ap (λ (x : List ℕ). x ++ drop p b) (sym (append-nil (o .front)) ∙ o .all)

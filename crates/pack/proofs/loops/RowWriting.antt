@@ -13,7 +13,7 @@ use Rattle.row.proofs.Laid.{laid}
 use Rattle.row.specs.Laid.{rowAt}
 use Rattle.pack.specs.Digits.{digits}
 use Rattle.pack.specs.Seven.{packRow, packing, unpacking, unpackAt}
-use Rattle.pack.proofs.loops.ListWriting.{Written, go-on, at-last}
+use Rattle.pack.proofs.loops.ListWriting.{WrittenTo, go-on, at-last}
 use Rattle.pack.proofs.bytes.SevenBytes.{sevens-next, sevens-end, unpacking-length}
 
 row-size : (r : Row) → length (packRow r) ≡ 7
@@ -22,7 +22,7 @@ row-size r = refl
 
 -- the rows from number i on are still to be packed
 abbrev pub Packing : List ℕ → List ℕ → ℕ → ℕ → List ℕ → Type 0
-Packing l b i p out = Written (packing (rowsOf l)) b p (packing (rowsOf (drop i l))) out
+Packing l b i p out = WrittenTo (packing (rowsOf l)) b p (packing (rowsOf (drop i l))) out
 
 module _ (l b : List ℕ) (i p : ℕ) where
   pub pack-turn : (out out′ : List ℕ) → i + 4 ≤ length l → out′ ≡ take p out ++ packRow (rowAt l i) ++ drop (p + 7) out

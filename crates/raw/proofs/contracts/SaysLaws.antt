@@ -1,11 +1,13 @@
 -- Laws of `Says` and `SaysTurn`: the answer and the rows of readers that are put together.
---     says-of, says-at                  `Says` of an equal reader, and with an equal answer
---     says-on, says-off                 a reader that is done with no row; one that refuses
---     said-off                          a reader whose answer is a refusal refuses (go on with `then-off` of readers/Then.antt)
---     says-more, says-row, says-mark    rows that were put in front before: several, one, one over a reader without rows
---     says-then                         what follows a reader with rows (after one without: `then-on` of readers/Then.antt)
---     says-under                        a row over all that a reader reads, put last
---     turn-of, turn-at, turn-done, turn-again, turn-off, turn-more, turn-then      these laws for one turn of a loop
+--     says-of, says-at          `Says` of an equal reader, and with an equal answer
+--     says-on, says-off         a reader that is done with no row; one that refuses
+--     said-off                  a reader whose answer is a refusal refuses (go on with `then-off` of readers/Then.antt)
+--     says-more, says-row       rows that were put in front before: several, and one
+--     says-mark                 a row that was put in front before, over a reader without rows
+--     says-then                 what follows a reader with rows (after one without: `then-on` of readers/Then.antt)
+--     says-under                a row over all that a reader reads, put last
+--     turn-of, turn-at, turn-done, turn-again, turn-off, turn-more, turn-then
+--                               these laws for one turn of a loop
 -- Assumes nothing.
 use Prim.Native.Nat.{ℕ, suc, _+_}
 use mathlib.Core.Path.{_≡_, refl, sym, ap, _∙_, subst}
@@ -21,7 +23,7 @@ use Rattle.raw.specs.declared.answer.Turn.{Turn}
 use Rattle.raw.specs.declared.answer.Turn.the-variants as turn
 use Rattle.row.specs.Row.{Row, row, rowUp, moved, putRow, overlay}
 use Rattle.raw.specs.Reader.{Out, ok, again, bad, more, andThen, under}
-use Rattle.raw.specs.Says.{answerOf, turnOf, Room, Says, SaysTurn}
+use Rattle.raw.specs.Says.{answerOf, turnOf, RowsLaid, Says, SaysTurn}
 use Rattle.row.proofs.Laid.{laid}
 
 -- ---- different answers are not equal
@@ -49,20 +51,20 @@ module _ (base : ℕ) (rs : List Row) (n : ℕ) where
       ∙ sym (laid .overlay-append (moved base rs) (moved base ss) b n)
       ∙ ap (overlay b n) (sym (laid .moved-append base rs ss))
 
-  room-more : (o : Out) (b b′ : List ℕ) → Room base o (n + length rs) (overlay b n (moved base rs)) b′ → Room base (more rs o) n b b′
-  room-more (ok q ss) b b′ h = h ∙ over-more ss b
-  room-more (again q ss a) b b′ h = h ∙ over-more ss b
-  room-more (bad f) b b′ h = tt
+  laid-more : (o : Out) (b b′ : List ℕ) → RowsLaid base o (n + length rs) (overlay b n (moved base rs)) b′ → RowsLaid base (more rs o) n b b′
+  laid-more (ok q ss) b b′ h = h ∙ over-more ss b
+  laid-more (again q ss a) b b′ h = h ∙ over-more ss b
+  laid-more (bad f) b b′ h = tt
 
 -- the rows rs, of which the first was row n, and then what o puts: from row m on, over the numbers c
 module _ {base : ℕ} {o : Out} (rs : List Row) {n m : ℕ} {b c b′ : List ℕ} (e : n + length rs ≡ m) (d : overlay b n (moved base rs) ≡ c) where
   pub says-more : {r : Answer} → Says base o m c r b′ → Says base (more rs o) n b r b′
   says-more h =
-      let g = rw (← e, ← d) at h in record { told = g .told ∙ answer-more base rs n o; room = room-more base rs n o b b′ (g .room) }
+      let g = rw (← e, ← d) at h in record { told = g .told ∙ answer-more base rs n o; rows = laid-more base rs n o b b′ (g .rows) }
 
   pub turn-more : {r : Turn} → SaysTurn base o m c r b′ → SaysTurn base (more rs o) n b r b′
   turn-more h =
-      let g = rw (← e, ← d) at h in record { told = g .told ∙ turned-more base rs n o; room = room-more base rs n o b b′ (g .room) }
+      let g = rw (← e, ← d) at h in record { told = g .told ∙ turned-more base rs n o; rows = laid-more base rs n o b b′ (g .rows) }
 
 -- ---- a reader that answered the place q, and m as the number of the next row
 
@@ -70,7 +72,7 @@ module _ {base : ℕ} {o : Out} (rs : List Row) {n m : ℕ} {b c b′ : List ℕ
 record Went (base : ℕ) (o : Out) (n : ℕ) (b : List ℕ) (q m : ℕ) (b′ : List ℕ) : Type 0 where
   rs : List Row
   next : n + length rs ≡ m
-  room : overlay b n (moved base rs) ≡ b′
+  rows : overlay b n (moved base rs) ≡ b′
   goes : (g : ℕ → Out) → more rs (g q) ≡ andThen o g
 
 module _ {base n : ℕ} {b b′ : List ℕ} where
@@ -78,11 +80,11 @@ module _ {base n : ℕ} {b b′ : List ℕ} where
       ((g : ℕ → Out) → more rs (g p) ≡ andThen o g) → Went base o n b q m b′
   went-rows rs o {p} {q} {m} t h k =
       let e : q ≡ p = cc in
-      record { rs = rs; next = cc; room = sym h; goes = λ g. ap (λ (x : ℕ). more rs (g x)) e ∙ k g }
+      record { rs = rs; next = cc; rows = sym h; goes = λ g. ap (λ (x : ℕ). more rs (g x)) e ∙ k g }
 
   went : {o : Out} {q m : ℕ} → Says base o n b (answer.Next q m) b′ → Went base o n b q m b′
-  went {o = ok p rs} h = went-rows rs (ok p rs) (h .told) (h .room) (λ g. refl)
-  went {o = again p rs a} h = went-rows rs (again p rs a) (h .told) (h .room) (λ g. refl)
+  went {o = ok p rs} h = went-rows rs (ok p rs) (h .told) (h .rows) (λ g. refl)
+  went {o = again p rs a} h = went-rows rs (again p rs a) (h .told) (h .rows) (λ g. refl)
   went {o = bad f} h = absurd (next-not-refused (h .told))
 
 -- ---- equal readers and equal answers
@@ -105,10 +107,10 @@ module _ {base n : ℕ} {b b′ : List ℕ} where
     -- ---- done with no row, or a refusal
 
     pub says-off : {f : Fault} → o ≡ bad f → Says base o n b (answer.Refused f) b′
-    says-off {f} e = says-of e (record { told = refl; room = tt })
+    says-off {f} e = says-of e (record { told = refl; rows = tt })
 
     pub turn-off : {f : Fault} → o ≡ bad f → SaysTurn base o n b (turn.Refused f) b′
-    turn-off {f} e = turn-of e (record { told = refl; room = tt })
+    turn-off {f} e = turn-of e (record { told = refl; rows = tt })
 
     -- a refusal that was answered
     pub said-off : {f : Fault} → Says base o n b (answer.Refused f) b′ → o ≡ bad f
@@ -122,24 +124,24 @@ module _ {base n : ℕ} {b b′ : List ℕ} where
 module _ {base n : ℕ} {b : List ℕ} {o : Out} {p : ℕ} where
   pub says-on : o ≡ ok p [] → Says base o n b (answer.Next p n) b
   unfolding overlay moved
-  says-on e = says-of e (record { told = ap (answer.Next p) (omega arith); room = refl })
+  says-on e = says-of e (record { told = ap (answer.Next p) (omega arith); rows = refl })
 
   pub turn-done : o ≡ ok p [] → SaysTurn base o n b (turn.Done p n) b
   unfolding overlay moved
-  turn-done e = turn-of e (record { told = ap (turn.Done p) (omega arith); room = refl })
+  turn-done e = turn-of e (record { told = ap (turn.Done p) (omega arith); rows = refl })
 
   pub turn-again : {a : ℕ} → o ≡ again p [] a → SaysTurn base o n b (turn.Again p n) b
   unfolding overlay moved
-  turn-again e = turn-of e (record { told = ap (turn.Again p) (omega arith); room = refl })
+  turn-again e = turn-of e (record { told = ap (turn.Again p) (omega arith); rows = refl })
 
 -- ---- one reader after another
 
 module _ {base : ℕ} {o : Out} (g : ℕ → Out) {n : ℕ} {b : List ℕ} {p m : ℕ} {c b′ : List ℕ} (h : Says base o n b (answer.Next p m) c) where
   pub says-then : {r : Answer} → Says base (g p) m c r b′ → Says base (andThen o g) n b r b′
-  says-then k = let w = went h in says-of (sym (w .goes g)) (says-more (w .rs) (w .next) (w .room) k)
+  says-then k = let w = went h in says-of (sym (w .goes g)) (says-more (w .rs) (w .next) (w .rows) k)
 
   pub turn-then : {r : Turn} → SaysTurn base (g p) m c r b′ → SaysTurn base (andThen o g) n b r b′
-  turn-then k = let w = went h in turn-of (sym (w .goes g)) (turn-more (w .rs) (w .next) (w .room) k)
+  turn-then k = let w = went h in turn-of (sym (w .goes g)) (turn-more (w .rs) (w .next) (w .rows) k)
 
 -- ---- a row of the reader's own
 
@@ -167,11 +169,11 @@ module _ {base : ℕ} (k : Kind) (a : ℕ) {n : ℕ} {b c : List ℕ} where
       let e : q ≡ p = cc in
       record {
         told = t ∙ ap (answer.Next p) (omega arith);
-        room = rw (e, laid .row-up base k a p, h, add-one n) (laid .put-overlay (moved base rs) b n (suc n) (rowUp base (row k a p)) (omega arith));
+        rows = rw (e, laid .row-up base k a p, h, add-one n) (laid .put-overlay (moved base rs) b n (suc n) (rowUp base (row k a p)) (omega arith));
       }
 
   pub says-under : {o : Out} {q m : ℕ} → Says base o (n + 1) b (answer.Next q m) c →
       Says base (under (row k a) o) n b (answer.Next q m) (putRow c n (row k (base + a) (base + q)))
-  says-under {o = ok p rs} h = under-rows rs (h .told) (h .room)
-  says-under {o = again p rs x} h = let u = under-rows rs (h .told) (h .room) in record { told = u .told; room = u .room }
+  says-under {o = ok p rs} h = under-rows rs (h .told) (h .rows)
+  says-under {o = again p rs x} h = let u = under-rows rs (h .told) (h .rows) in record { told = u .told; rows = u .rows }
   says-under {o = bad f} h = absurd (next-not-refused (h .told))

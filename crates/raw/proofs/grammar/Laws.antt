@@ -4,6 +4,7 @@
 --     Laws        these, and two more of a reader that is given none: its rows stand over what it ate, and it moves with its text
 --     put-core, from-core, then-core, less-core      `Core` of readers that are given places
 --     stop-laws, turn-laws, refuse-laws, when-laws, sees-laws, _then-laws_, over-laws, many-laws, need-laws, scan-laws
+--                                 `Laws` of what each combinator makes, from those of its parts
 --     less-laws, same-laws        `Laws` to a point that asks less; of a reader that answers the same
 --     going                       a turn that says `again` has eaten
 -- Readers that refuse with `UnexpectedEof` are in UnexpectedEof.antt.

@@ -1,7 +1,7 @@
 -- The laws of every reader of the grammar, in the order of specs/Grammar.antt: `x-laws` is of the reader x. A new reader is entered here
 -- once. Its points say which bytes pay for its rows, and which rows may come before and after it. A reader without rows leads from any
 -- point σ to the same point, or to `ate σ` if it must eat a character. The laws of entries and files are in Entries.antt and Files.antt.
---     from-start                                      the laws of a reader, where it does not matter from which point
+--     from-start                                                  the laws of a reader, where it does not matter from which point
 --     quoted-turn-kept, number-turn-kept, braced-turn-kept        what the turns of the loops over bytes keep
 -- Assumes nothing.
 use Prim.Native.Nat.{ℕ, zero, suc}
@@ -23,7 +23,7 @@ use Rattle.raw.specs.Grammar.{numberTurn, number, bracedTurn, inBraces, 
 use Rattle.raw.specs.Grammar.{field, fieldEnd, fieldsTurn, fields, key, strings, preamble, commented, body, lead}
 use Rattle.raw.proofs.readers.Kept.{Kept}
 use Rattle.raw.proofs.readers.Points.{Order, Point, ate, onward, same, back, past, far, fewer, wider, Takes}
-use Rattle.raw.proofs.grammar.RowOrder.{rules, awaiting, start, Is, is-in, Chunk, next-chunk, Part, at-chunks, literal-takes, name-takes}
+use Rattle.raw.proofs.grammar.RowOrder.{rules, awaiting, start, Is, is-in, AwaitsElement, next-chunk, AwaitsItem, at-chunks, literal-takes, name-takes}
 use Rattle.raw.proofs.grammar.RowOrder.{value-takes, field-takes, definition-takes, preamble-takes, key-takes}
 use Rattle.row.specs.Rules.{Await, value, chunks}
 use Rattle.row.specs.Rules as awaits
@@ -70,8 +70,8 @@ module _ {O : Order Row} {σ α : Point O} where
 -- ---- values: f says whether they are a field's
 
 -- a byte that was eaten before pays for an element's row
-abbrev Element : Bool → ℕ → ℕ → Point rules → Reader → Type 0
-Element f e n α = Laws (awaiting e (suc n) (Chunk f)) α (awaiting e n (Is (chunks f)))
+abbrev ElementLaws : Bool → ℕ → ℕ → Point rules → Reader → Type 0
+ElementLaws f e n α = Laws (awaiting e (suc n) (AwaitsElement f)) α (awaiting e n (Is (chunks f)))
 
 escape-laws : {O : Order Row} {σ ω : Point O} (a : ℕ) → Laws (ate σ) (onward σ) ω (escape a)
 escape-laws a = when-laws any (turn-laws a far) (turn-laws a past)
@@ -91,7 +91,7 @@ pub string-laws : {O : Order Row} {σ α : Point O} → Laws σ α (ate (ate σ)
 unfolding string
 string-laws = quote-laws then-laws quoted-laws then-laws quote-laws
 
-string-literal-laws : (f : Bool) {e n : ℕ} {α : Point rules} → Element f e n α stringLiteral
+string-literal-laws : (f : Bool) {e n : ℕ} {α : Point rules} → ElementLaws f e n α stringLiteral
 unfolding stringLiteral
 string-literal-laws f = less-laws (quote-laws then-laws over-laws refl (literal-takes f) quoted-laws then-laws quote-laws) (fewer (omega arith))
 
@@ -127,7 +127,7 @@ pub in-braces-laws : {O : Order Row} {σ α : Point O} → Laws σ α σ inBrace
 unfolding inBraces
 in-braces-laws = many-laws braced-turn-laws 0
 
-braced-laws : (f : Bool) {e n : ℕ} {α : Point rules} → Element f e n α braced
+braced-laws : (f : Bool) {e n : ℕ} {α : Point rules} → ElementLaws f e n α braced
 unfolding braced
 braced-laws f = less-laws (opening-laws then-laws over-laws refl (literal-takes f) in-braces-laws then-laws closing-laws) (fewer (omega arith))
 
@@ -135,7 +135,7 @@ pub ident-laws : {O : Order Row} {σ α : Point O} → Laws σ α (ate σ) ident
 unfolding ident
 ident-laws = when-laws isIdStart (scan-laws isIdContinue) (refuse-laws ExpectedIdentifier (omega arith))
 
-abbr-element-laws : (f : Bool) {e n : ℕ} {α : Point rules} → Element f e n α abbrElement
+abbr-element-laws : (f : Bool) {e n : ℕ} {α : Point rules} → ElementLaws f e n α abbrElement
 unfolding abbrElement singleField
 abbr-element-laws f =
     value-laws (over-laws refl (literal-takes f) number-laws)
@@ -145,11 +145,11 @@ abbr-element-laws f =
 
 -- a "#" pays for the row of the next element
 abbr-turn-laws : (f : Bool) {e n : ℕ} (a : ℕ)
-    → Laws (awaiting e (suc n) (Chunk f)) (awaiting (suc e) (suc n) (Chunk f)) (awaiting e n (Is (chunks f))) (abbrTurn a)
+    → Laws (awaiting e (suc n) (AwaitsElement f)) (awaiting (suc e) (suc n) (AwaitsElement f)) (awaiting e n (Is (chunks f))) (abbrTurn a)
 unfolding abbrTurn
 abbr-turn-laws f a =
     abbr-element-laws f then-laws white-laws then-laws
-    when-laws (holdsOf test.Hash) (white-laws then-laws turn-laws 0 (wider (omega arith) (is-in (Chunk f) next-chunk))) stop-laws
+    when-laws (holdsOf test.Hash) (white-laws then-laws turn-laws 0 (wider (omega arith) (is-in (AwaitsElement f) next-chunk))) stop-laws
 
 abbr-field-laws : (f : Bool) {e n : ℕ} {α : Point rules}
     → Laws (awaiting e (suc (suc n)) (Is (value f))) α (awaiting e n (Is (chunks f))) abbrField
@@ -211,7 +211,7 @@ unfolding commented
 commented-laws = scan-laws (fails test.ClosingBrace)
 
 -- the comma behind the key pays for the first field
-pub body-laws : {e n : ℕ} {α : Point rules} → Laws (awaiting e (suc n) (Is awaits.key)) α (awaiting (suc e) n (Part true)) body
+pub body-laws : {e n : ℕ} {α : Point rules} → Laws (awaiting e (suc n) (Is awaits.key)) α (awaiting (suc e) n (AwaitsItem true)) body
 unfolding body
 body-laws =
     over-laws refl key-takes key-laws then-laws white-laws then-laws comma-laws then-laws white-laws then-laws comment-laws then-laws

@@ -1,7 +1,7 @@
 -- The order of rows that 01's rules ask for: what may be awaited, and what a row of each kind leads to.
---     rules, awaiting, start      the order, and its points
---     Is, Chunk, Part             what is awaited
---     x-takes                     a row of the kind x, from what is awaited before it to what is awaited after it
+--     rules, awaiting, start             the order, and its points
+--     Is, AwaitsElement, AwaitsItem      what is awaited
+--     x-takes                            a row of the kind x, from what is awaited before it to what is awaited after it
 -- Assumes nothing.
 use Prim.Native.Nat.{ℕ}
 use mathlib.Core.Path.{_≡_, refl}
@@ -38,16 +38,16 @@ pub data Is (b : Await) : Await → Type 0 where
   is-it : Is b b
 
 -- a value's first literal or name, or another one
-pub data Chunk (f : Bool) : Await → Type 0 where
-  first-chunk : Chunk f (chunk f)
-  next-chunk : Chunk f (chunks f)
+pub data AwaitsElement (f : Bool) : Await → Type 0 where
+  first-chunk : AwaitsElement f (chunk f)
+  next-chunk : AwaitsElement f (chunks f)
 
 -- a part of the sequence, or another literal or name; and a field, where f is true
-pub data Part : Bool → Await → Type 0 where
-  at-part : {f : Bool} → Part f (part f)
-  at-chunks : {f : Bool} → Part f (chunks f)
+pub data AwaitsItem : Bool → Await → Type 0 where
+  at-part : {f : Bool} → AwaitsItem f (part f)
+  at-chunks : {f : Bool} → AwaitsItem f (chunks f)
 
-pub part-free : {f : Bool} (a : Await) → Part f a → Free a
+pub part-free : {f : Bool} (a : Await) → AwaitsItem f a → Free a
 part-free a (at-part {f}) = none f
 part-free a (at-chunks {f}) = one f
 
@@ -61,35 +61,35 @@ take : {P P′ : Await → Type 0} (k : Kind) → isDetail (kindOf k) 0 ≡ true
 unfolding run
 take k d h = record { takes = λ a x y z. rw d (h a z) }
 
-literal-next : (f : Bool) (a : Await) → Chunk f a → Is (chunks f) (next a 6)
+literal-next : (f : Bool) (a : Await) → AwaitsElement f a → Is (chunks f) (next a 6)
 unfolding next
 literal-next f a first-chunk = is-it
 literal-next f a next-chunk = is-it
 
-pub literal-takes : (f : Bool) → Takes rules (plain kind.Literal) (Chunk f) (Is (chunks f))
+pub literal-takes : (f : Bool) → Takes rules (plain kind.Literal) (AwaitsElement f) (Is (chunks f))
 literal-takes f = take kind.Literal refl (literal-next f)
 
-name-next : (f : Bool) (a : Await) → Chunk f a → Is (chunks f) (next a 7)
+name-next : (f : Bool) (a : Await) → AwaitsElement f a → Is (chunks f) (next a 7)
 unfolding next
 name-next f a first-chunk = is-it
 name-next f a next-chunk = is-it
 
-pub name-takes : (f : Bool) → Takes rules (plain kind.Name) (Chunk f) (Is (chunks f))
+pub name-takes : (f : Bool) → Takes rules (plain kind.Name) (AwaitsElement f) (Is (chunks f))
 name-takes f = take kind.Name refl (name-next f)
 
-value-next : (f : Bool) (a : Await) → Is (value f) a → Chunk f (next a 5)
+value-next : (f : Bool) (a : Await) → Is (value f) a → AwaitsElement f (next a 5)
 unfolding next
 value-next f a is-it = first-chunk
 
-pub value-takes : (f : Bool) → Takes rules (plain kind.Value) (Is (value f)) (Chunk f)
+pub value-takes : (f : Bool) → Takes rules (plain kind.Value) (Is (value f)) (AwaitsElement f)
 value-takes f = take kind.Value refl (value-next f)
 
-field-next : (a : Await) → Part true a → Is (value true) (next a 4)
+field-next : (a : Await) → AwaitsItem true a → Is (value true) (next a 4)
 unfolding next
 field-next a at-part = is-it
 field-next a at-chunks = is-it
 
-pub field-takes : Takes rules (plain kind.FieldName) (Part true) (Is (value true))
+pub field-takes : Takes rules (plain kind.FieldName) (AwaitsItem true) (Is (value true))
 field-takes = take kind.FieldName refl field-next
 
 definition-next : (a : Await) → Free a → Is (value false) (next a 8)
@@ -123,9 +123,9 @@ type-next a is-it = is-it
 pub type-takes : Takes rules (plain kind.EntryType) (Is type) (Is awaits.key)
 type-takes = take kind.EntryType refl type-next
 
-key-next : (a : Await) → Is awaits.key a → Part true (next a 3)
+key-next : (a : Await) → Is awaits.key a → AwaitsItem true (next a 3)
 unfolding next
 key-next a is-it = at-part
 
-pub key-takes : Takes rules (plain kind.Key) (Is awaits.key) (Part true)
+pub key-takes : Takes rules (plain kind.Key) (Is awaits.key) (AwaitsItem true)
 key-takes = take kind.Key refl key-next

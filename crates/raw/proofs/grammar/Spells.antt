@@ -16,7 +16,7 @@ use Rattle.text.specs.declared.scanner.Seen.the-variants.{End, Char}
 use Rattle.text.proofs.Seeing.{seeing}
 use Rattle.text.specs.Seeing.{seenUp}
 use Rattle.raw.specs.Grammar.{lower, spells, formOf}
-use Rattle.raw.specs.Strict.{Same}
+use Rattle.raw.specs.Strict.{ShowsSame}
 
 -- the character seen is w, and f passes at the place behind it
 abbrev led : ℕ → (ℕ → Bool) → Seen → Bool
@@ -41,12 +41,12 @@ led-up : (w d : ℕ) (f g : ℕ → Bool) (x : Seen) → ((n : ℕ) → g (n + d
 led-up w d f g End h = refl
 led-up w d f g (Char c n) h = ap (λ (b : Bool). eqb (lower c) w && b) (h n)
 
-spells-same : (word s t : List ℕ) (a e : ℕ) → Same s t a e → spells word t a e ≡ spells word s a e
+spells-same : (word s t : List ℕ) (a e : ℕ) → ShowsSame s t a e → spells word t a e ≡ spells word s a e
 unfolding spells
 spells-same [] s t a e h = refl
 spells-same (w ∷ word) s t a e h = spells-by w word t a e ∙ by (ltb a e) refl (λ n. spells-same word s t n e) ∙ sym (spells-by w word s a e)
   where
-    by : (b : Bool) → ltb a e ≡ b → ((n : ℕ) → Same s t n e → spells word t n e ≡ spells word s n e)
+    by : (b : Bool) → ltb a e ≡ b → ((n : ℕ) → ShowsSame s t n e → spells word t n e ≡ spells word s n e)
         → cond b (led w (λ n. spells word t n e) (see t a)) false ≡ cond b (led w (λ n. spells word s n e) (see s a)) false
     by false q ih = refl
     by true q ih =
@@ -79,7 +79,7 @@ spells-up (w ∷ word) x s a e =
     (led-up w (length x) (λ n. spells word s n e) (λ n. spells word (x ++ s) n (e + length x)) (see s a) (λ n. spells-up word x s n e)))
     ∙ sym (spells-by w word s a e)
 
-pub form-same : (s t : List ℕ) (a e : ℕ) → Same s t a e → formOf t a e ≡ formOf s a e
+pub form-same : (s t : List ℕ) (a e : ℕ) → ShowsSame s t a e → formOf t a e ≡ formOf s a e
 unfolding formOf
 form-same s t a e h = rw (spells-same _ s t a e h, spells-same _ s t a e h, spells-same _ s t a e h)
 

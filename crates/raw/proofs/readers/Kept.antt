@@ -1,10 +1,10 @@
 -- What every reader keeps to: it goes forward, stays inside the text, and answers the same on a text that shows the same.
 -- Of readers that emit parts of any type.
---     Advances, Kept                  the definitions
+--     Advances, Kept                                    the definitions
 --     stop-kept, turn-kept, refuse-kept, put-kept       readers that are not made of others
---     kept-weaker                     a reader that keeps to some numbers keeps to weaker ones
---     eaten-both, eaten-holds         what holds of both cases of `eaten` holds of it
---     when-kept, sees-kept            readers that look at a character
+--     kept-weaker                                       a reader that keeps to some numbers keeps to weaker ones
+--     eaten-both, eaten-holds                           what holds of both cases of `eaten` holds of it
+--     when-kept, sees-kept                              readers that look at a character
 -- Assumes nothing.
 use Prim.Native.Nat.{ℕ, suc, _+_, _≤_, _<_, max}
 use native.Mathlib.Omega.{arith}
@@ -18,7 +18,7 @@ use Rattle.text.specs.declared.scanner.Seen.the-variants.{End, Char}
 use Rattle.text.proofs.Seeing.{seeing}
 use Rattle.row.specs.Row.{Mark}
 use Rattle.row.specs.declared.fault.Reason.{Reason}
-use Rattle.raw.specs.Strict.{Same, Stops}
+use Rattle.raw.specs.Strict.{ShowsSame, Stops}
 use Rattle.raw.specs.Reader.{OutOf, ok, again, bad, ReaderOf, eaten, stop, turn, refuse, put, when, sees}
 
 -- ---- the definitions
@@ -33,7 +33,7 @@ Advances v w p n (bad f) = Unit {0}
 -- same on a text that shows the same so far
 pub record Kept {P : Type 0} (v w l : ℕ) (f : ReaderOf P) : Type 0 where
   pub advances : (s : List ℕ) (p : ℕ) → Advances v w p (length s) (f s p)
-  pub local : (s t : List ℕ) (p q : ℕ) → Stops (f s p) q → q ≤ length t → Same s t p (q + l) → f t p ≡ f s p
+  pub local : (s t : List ℕ) (p q : ℕ) → Stops (f s p) q → q ≤ length t → ShowsSame s t p (q + l) → f t p ≡ f s p
 
 -- ---- readers that are not made of others
 
@@ -102,7 +102,7 @@ module _ {P : Type 0} {v w l v₁ w₁ : ℕ} (c : ℕ → Bool) {f g : ReaderOf
       (λ k n x. let y = seeing .see-ahead s p k n x in advances-later v₁ w₁ v w p n (length s) (f s n) (y .0) (y .1) (m .0) (m .1) (F .advances s n))
       (G .advances s p)
 
-  when-local : (s t : List ℕ) (p q : ℕ) → Stops (when c f g s p) q → q ≤ length t → Same s t p (q + l) → when c f g t p ≡ when c f g s p
+  when-local : (s t : List ℕ) (p q : ℕ) → Stops (when c f g s p) q → q ≤ length t → ShowsSame s t p (q + l) → when c f g t p ≡ when c f g s p
   when-local s t p q h i e =
       let y = least v w p (length s) q (when c f g s p) (when-advances s p) h l (m .2) (m .3) in
       rw (← e p (omega arith) y)
@@ -117,7 +117,7 @@ module _ {P : Type 0} {v w l : ℕ} (c : ℕ → Bool) {f g : ReaderOf P} (F : K
   sees-advances : (s : List ℕ) (p : ℕ) → Advances v w p (length s) (sees c f g s p)
   sees-advances s p = eaten-holds (Advances v w p (length s)) c (see s p) (λ n. f s p) (g s p) (λ k n x. F .advances s p) (G .advances s p)
 
-  sees-local : (s t : List ℕ) (p q : ℕ) → Stops (sees c f g s p) q → q ≤ length t → Same s t p (q + l) → sees c f g t p ≡ sees c f g s p
+  sees-local : (s t : List ℕ) (p q : ℕ) → Stops (sees c f g s p) q → q ≤ length t → ShowsSame s t p (q + l) → sees c f g t p ≡ sees c f g s p
   sees-local s t p q h i e =
       let y = least v w p (length s) q (sees c f g s p) (sees-advances s p) h l (m .0) (m .1) in
       rw (← e p (omega arith) y)

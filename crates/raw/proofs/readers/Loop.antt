@@ -1,7 +1,8 @@
 -- Loops: more fuel than enough changes nothing, and a loop keeps to what its turns keep to.
---     loop-fuel     any two amounts of fuel that last to the end of the text give the same answer, refusals included
---     loop-more     any amount of fuel that lasts to the place of the answer gives the same answer
---     many-turn     a loop is its first turn and then the loop, so that other laws need not speak of fuel; `advancing-turn` asks less of the turns
+--     loop-fuel                  any two amounts of fuel that last to the end of the text give the same answer, refusals included
+--     loop-more                  any amount of fuel that lasts to the place of the answer gives the same answer
+--     many-turn                  a loop is its first turn and then the loop, so that other laws need not speak of fuel; `advancing-turn` requires
+--                                less of the turns
 --     many-kept, loop-traced     a loop keeps to what its turns keep to, and its rows stand over what it ate
 -- Assumes nothing.
 use Prim.Native.Nat.{ℕ, zero, suc, _+_, _≤_, _<_}
@@ -11,7 +12,7 @@ use mathlib.Core.List.{List}
 use lib.ListN.{length}
 use Rattle.raw.specs.Reader.{OutOf, ok, again, bad, ReaderOf, Reader, more, after, loop, many}
 use Rattle.raw.proofs.readers.Trace.{here, Traced, after-traced}
-use Rattle.raw.specs.Strict.{Same, Stops}
+use Rattle.raw.specs.Strict.{ShowsSame, Stops}
 use Rattle.raw.proofs.readers.Kept.{Advances, Kept}
 use Rattle.raw.proofs.readers.Then.{more-stops, more-advances, advances-from, least-from}
 
@@ -83,11 +84,11 @@ module _ {P : Type 0} {w l : ℕ} {f : ℕ → ReaderOf P} (F : (a : ℕ) → Ke
 
   module _ (s t : List ℕ) (r : ℕ) (i : r ≤ length t) where
     -- one turn answers the same on t
-    turn-local : (p q a : ℕ) (o : OutOf P) → f a s p ≡ o → Stops o q → q ≤ r → Same s t p (r + l) → f a t p ≡ o
+    turn-local : (p q a : ℕ) (o : OutOf P) → f a s p ≡ o → Stops o q → q ≤ r → ShowsSame s t p (r + l) → f a t p ≡ o
     turn-local p q a o d x y e = F a .local s t p q (subst (λ (o : OutOf P). Stops o q) (sym d) x) (omega arith) (λ j u z. e j u (omega arith)) ∙ d
 
-    local-after : (p n a : ℕ) (o : OutOf P) → f a s p ≡ o → Advances 1 w p (length s) o → Stops (after o (on f n s)) r → Same s t p (r + l)
-        → ((b q : ℕ) → Stops (loop f n b s q) r → Same s t q (r + l) → loop f n b t q ≡ loop f n b s q)
+    local-after : (p n a : ℕ) (o : OutOf P) → f a s p ≡ o → Advances 1 w p (length s) o → Stops (after o (on f n s)) r → ShowsSame s t p (r + l)
+        → ((b q : ℕ) → Stops (loop f n b s q) r → ShowsSame s t q (r + l) → loop f n b t q ≡ loop f n b s q)
         → after (f a t p) (on f n t) ≡ after o (on f n s)
     local-after p n a (ok q rs) d x h e ih = rw (turn-local p q a (ok q rs) d refl (omega arith) e) refl
     local-after p n a (again q rs b) d x h e ih =
@@ -96,12 +97,12 @@ module _ {P : Type 0} {w l : ℕ} {f : ℕ → ReaderOf P} (F : (a : ℕ) → Ke
         rw (turn-local p q a (again q rs b) d refl (omega arith) e) (ap (more rs) (ih b q h′ (λ j u z. e j (omega arith) z)))
     local-after p n a (bad k) d x h e ih = absurd h
 
-    loop-local : (n a p : ℕ) → Stops (loop f n a s p) r → Same s t p (r + l) → loop f n a t p ≡ loop f n a s p
+    loop-local : (n a p : ℕ) → Stops (loop f n a s p) r → ShowsSame s t p (r + l) → loop f n a t p ≡ loop f n a s p
     unfolding loop
     loop-local zero a p h e = absurd h
     loop-local (suc n) a p h e = local-after p n a (f a s p) refl (F a .advances s p) h e (loop-local n)
 
-  many-local : (a : ℕ) (s t : List ℕ) (p q : ℕ) → Stops (many f a s p) q → q ≤ length t → Same s t p (q + l) → many f a t p ≡ many f a s p
+  many-local : (a : ℕ) (s t : List ℕ) (p q : ℕ) → Stops (many f a s p) q → q ≤ length t → ShowsSame s t p (q + l) → many f a t p ≡ many f a s p
   unfolding many
   many-local a s t p q h i e =
       let k = loop-local s t q i (suc (length s)) a p h e in

@@ -1,7 +1,7 @@
 -- What one reader after another keeps to, and a reader with a row over what it reads.
---     chain-advances, chain-local        a reader and what follows it, which is given as a function of the place
---     then-kept, over-kept, from-kept    two readers; a row over a reader, from its own beginning or from an earlier place
---     more-none, then-on, then-off, bad-is        answers: without rows in front; after a reader whose answer is known; equal refusals
+--     chain-advances, chain-local             a reader and what follows it, which is given as a function of the place
+--     then-kept, over-kept, from-kept         two readers; a row over a reader, from its own beginning or from an earlier place
+--     more-none, then-on, then-off, bad-is    answers: without rows in front; after a reader whose answer is known; equal refusals
 -- Assumes nothing.
 use Prim.Native.Nat.{ℕ, _+_, _≤_, max}
 use native.Mathlib.Omega.{arith}
@@ -11,7 +11,7 @@ use lib.ListN.{length}
 use Rattle.row.specs.declared.fault.Fault.{Fault}
 use Rattle.row.specs.Row.{Row, Mark, marked}
 use Rattle.raw.specs.Reader.{OutOf, ok, again, bad, ReaderOf, Out, Reader, more, andThen, under, _then_, over, overFrom}
-use Rattle.raw.specs.Strict.{Same, Stops}
+use Rattle.raw.specs.Strict.{ShowsSame, Stops}
 use Rattle.raw.proofs.readers.Kept.{Advances, Kept}
 
 -- ---- rows in front
@@ -78,7 +78,7 @@ module _ {P : Type 0} {w₁ m : ℕ} {f : ReaderOf P} (F : Kept w₁ w₁ m f) (
   module _ (v w l : ℕ) (t : List ℕ) (q : ℕ) (h : ℕ → OutOf P)
       (G : (r : ℕ) → Advances v w r (length s) (g r))
       (H : (r : ℕ) → p ≤ r → r ≤ q → Stops (g r) q → h r ≡ g r)
-      (i : q ≤ length t) (e : Same s t p (q + l)) (k : (m ≤ v + l) × (m ≤ w + l)) where
+      (i : q ≤ length t) (e : ShowsSame s t p (q + l)) (k : (m ≤ v + l) × (m ≤ w + l)) where
     out-local : (o : OutOf P) (rs : List P) (r : ℕ) → f s p ≡ o → Stops o r → p ≤ r → Stops (more rs (g r)) q
         → (f t p ≡ o) × (more rs (h r) ≡ more rs (g r))
     out-local o rs r d a b c =

@@ -27,24 +27,24 @@ use Rattle.raw.proofs.ways.ByteLoops.{Reached}
 use Rattle.raw.proofs.ways.ByteTurns.{quoted-plain, quoted-escape, braces-plain, braces-escape, braces-cut, braces-end}
 
 -- where the loop of the turns t has reached k, and the byte there is not in the set, it reaches k + 1
-abbrev Passes : (ℕ → Reader) → Set → List ℕ → ℕ → ℕ → Type 0
-Passes t x s at d = (k : ℕ) → Reached t s at d k → k < length s → inSet x (getD s k 0) ≡ false → Reached t s at d (k + 1)
+abbrev PassesOutside : (ℕ → Reader) → Set → List ℕ → ℕ → ℕ → Type 0
+PassesOutside t x s at d = (k : ℕ) → Reached t s at d k → k < length s → inSet x (getD s k 0) ≡ false → Reached t s at d (k + 1)
 
-pass-bytes : (t : ℕ → Reader) (x : Set) (s : List ℕ) (at d : ℕ) → Passes t x s at d → (i n : ℕ) → i + n ≤ length s →
+pass-bytes : (t : ℕ → Reader) (x : Set) (s : List ℕ) (at d : ℕ) → PassesOutside t x s at d → (i n : ℕ) → i + n ≤ length s →
     ((k : ℕ) → i ≤ k → k < i + n → inSet x (getD s k 0) ≡ false) → Reached t s at d i → Reached t s at d (i + n)
 pass-bytes t x s at d one i zero h c r = subst (Reached t s at d) (sym (add-zero i)) r
 pass-bytes t x s at d one i (suc n) h c r =
     let o = pass-bytes t x s at d one i n (omega arith) (λ k p q. c k p (omega arith)) r in
     subst (Reached t s at d) (add-one (i + n) ∙ sym (add-suc i n)) (one (i + n) o (omega arith) (c (i + n) (omega arith) (omega arith)))
 
-pass-clear : (t : ℕ → Reader) (x : Set) (s : List ℕ) (at d : ℕ) → Passes t x s at d → {i j : ℕ} → i ≤ length s → Clear x s i j → Reached t s at d i →
+pass-clear : (t : ℕ → Reader) (x : Set) (s : List ℕ) (at d : ℕ) → PassesOutside t x s at d → {i j : ℕ} → i ≤ length s → Clear x s i j → Reached t s at d i →
     Reached t s at d j
 pass-clear t x s at d one {i} {j} h c r =
     let e : i + (j - i) ≡ j = omega (arith, c .from) in
     subst (Reached t s at d) e (pass-bytes t x s at d one i (j - i) (omega (arith, c .from, c .to)) (λ k p q. c .clear k p (omega arith) .1) r)
 
 module _ {s : List ℕ} {at d : ℕ} where
-  braces-pass : Passes bracedTurn braces s at d
+  braces-pass : PassesOutside bracedTurn braces s at d
   unfolding inSet
   braces-pass k r h f =
       braces-plain r h (told-apart (inSet braces) 0x7B refl f) (told-apart (inSet braces) 0x7D refl f)
@@ -62,7 +62,7 @@ module _ {s : List ℕ} {at d : ℕ} where
     braces-eof l = braces-end (braces-cut r h e l) l
 
 module _ {s : List ℕ} {at : ℕ} where
-  quoted-pass : Passes quotedTurn quotes s at 0
+  quoted-pass : PassesOutside quotedTurn quotes s at 0
   unfolding inSet
   quoted-pass k r h f = quoted-plain r h (told-apart (inSet quotes) 0x22 refl f) (told-apart (inSet quotes) 0x5C refl f)
 

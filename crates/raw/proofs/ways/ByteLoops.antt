@@ -1,6 +1,6 @@
 -- Loops of the code go by bytes, and turns of the grammar by characters: they agree, because only ASCII decides.
 --     seen-key, seen-other     what is seen at a byte: one that the code asks for, or none of them
---     Narrow                   a class of ASCII characters
+--     AsciiOnly                a class of ASCII characters
 --     Unrolls                  a loop is its first turn and then the loop
 --     Wide                     a turn passes every character that is not ASCII
 --     Reached                  the loop's invariant: from here on the loop answers what the whole loop answers
@@ -34,19 +34,19 @@ use Rattle.raw.proofs.readers.Then.{more-none}
 
 -- ---- what is seen at a byte
 
-abbrev pub Narrow : (ℕ → Bool) → Type 0
-Narrow p = (c : ℕ) → 0x80 ≤ c → p c ≡ false
+abbrev pub AsciiOnly : (ℕ → Bool) → Type 0
+AsciiOnly p = (c : ℕ) → 0x80 ≤ c → p c ≡ false
 
 module _ (s : List ℕ) (i : ℕ) (h : i < length s) where
   pub seen-key : (k : ℕ) → getD s i 0 ≡ k → k < 0x80 → see s i ≡ Char k (i + 1)
   seen-key k e l = seeing .see-ascii s i h (omega arith) ∙ ap (λ (c : ℕ). Char c (i + 1)) e
 
   -- a class of ASCII characters that does not have the byte does not have the character that begins with it
-  pub seen-other : (c : ℕ) × (n : ℕ) × (see s i ≡ Char c n) × ((p : ℕ → Bool) → Narrow p → p (getD s i 0) ≡ false → p c ≡ false)
+  pub seen-other : (c : ℕ) × (n : ℕ) × (see s i ≡ Char c n) × ((p : ℕ → Bool) → AsciiOnly p → p (getD s i 0) ≡ false → p c ≡ false)
   seen-other = go (ltb (getD s i 0) 0x80) refl
     where
       go : (t : Bool) → ltb (getD s i 0) 0x80 ≡ t →
-          (c : ℕ) × (n : ℕ) × (see s i ≡ Char c n) × ((p : ℕ → Bool) → Narrow p → p (getD s i 0) ≡ false → p c ≡ false)
+          (c : ℕ) × (n : ℕ) × (see s i ≡ Char c n) × ((p : ℕ → Bool) → AsciiOnly p → p (getD s i 0) ≡ false → p c ≡ false)
       go true e = (getD s i 0, i + 1, seeing .see-ascii s i h (ltb-true _ _ e), λ p a q. q)
       go false e =
           let w : 0x80 ≤ code (drop i s) = rw (drop-next s i h) (seeing .code-wide (getD s i 0) (drop (i + 1) s) (ltb-false _ _ e)) in

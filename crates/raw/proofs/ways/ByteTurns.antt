@@ -1,7 +1,11 @@
 -- The turns of `quoted`, `number` and `in_braces`, byte by byte: one law for each way through their loops.
 --     quoted-closed, quoted-escape, quoted-cut, quoted-plain, quoted-end
+--         at the closing quote, a backslash pair, a backslash that ends the text, any other byte, the end of the text
 --     number-digit, number-point, number-again, number-done, number-end
+--         at a digit, the first point, a second point, any other byte, the end of the text
 --     braces-open, braces-close, braces-closed, braces-escape, braces-cut, braces-plain, braces-end
+--         at an opening brace, a closing brace of one inside, the closing brace of the value, a backslash pair, a backslash that ends the text,
+--         any other byte, the end of the text
 -- Assumes nothing.
 use Prim.Native.Nat.{ℕ, zero, suc, _+_, _-_, _≤_, _<_}
 use native.Mathlib.Omega.{arith}
@@ -27,7 +31,7 @@ use Rattle.raw.specs.Says.{stepOf, Onward}
 use Rattle.raw.proofs.readers.Loop.{many-turn}
 use Rattle.raw.proofs.grammar.Readers.{quoted-turn-kept, number-turn-kept, braced-turn-kept}
 use Rattle.text.proofs.general.Tests.{narrow-is, within-true}
-use Rattle.raw.proofs.ways.ByteLoops.{Narrow, seen-key, seen-other, Unrolls, Wide, Reached, on-turn, on-char, on-cut, on-escape, at-stop, at-bad}
+use Rattle.raw.proofs.ways.ByteLoops.{AsciiOnly, seen-key, seen-other, Unrolls, Wide, Reached, on-turn, on-char, on-cut, on-escape, at-stop, at-bad}
 
 -- r is the step that the code must answer for the reader f, with its bounds
 abbrev Answers : Reader → List ℕ → ℕ → Step → Type 0
@@ -96,7 +100,7 @@ unfolding numberTurn
 number-cut true s i e = rw e
 number-cut false s i e = rw e
 
-digit-narrow : Narrow (holdsOf test.Digit)
+digit-narrow : AsciiOnly (holdsOf test.Digit)
 unfolding holdsOf
 digit-narrow c h = rw (lt-leb c 0x39 (omega arith), and-false (leb 0x30 c))
 

@@ -1,5 +1,5 @@
 -- An element of a value that begins with a brace or a quote.
---     element-braced, element-quoted
+--     element-braced, element-quoted     it is read as `braced`, or as `stringLiteral`
 -- Assumes nothing.
 use Prim.Native.Nat.{ℕ, _<_}
 use native.Mathlib.Omega.{arith}

@@ -1,11 +1,11 @@
 -- The ways through the functions of src/entry.rt, over what their calls answered.
 --     lead-off, lead-on                the opening delimiter with white space around it
 --     preamble-off, preamble-on        a preamble's string
---     body-off, body-on                an entry's key, to its fields
+--     body-off, body-on, body-place    an entry's key, to its fields; where these begin
 --     rest-off, rest-strings, rest-preamble, rest-comment, rest-other-off, rest-other     an entry after its type, by its form
 --     entry-at-off, entry-type-off, entry-rest-off, entry-end-off, entry-on       an entry
 -- Assumes nothing.
-use Prim.Native.Nat.{ℕ, _+_}
+use Prim.Native.Nat.{ℕ, _+_, _≤_, max}
 use native.Mathlib.Omega.{arith}
 use mathlib.Core.Path.{_≡_, sym, ap, _∙_}
 use mathlib.Core.List.{List, []}
@@ -83,6 +83,12 @@ module _ (s : List ℕ) (at : ℕ) {base n : ℕ} {b : List ℕ} {p₁ p₂ : �
         (says-of (then-on _ (white-on s p₁ e₂) ∙ then-on _ (rowless-at (comma-rowless s p₂) e₃ d₃) ∙ then-on _ (white-on s p₃ e₄) ∙ then-on _
         (comment-on s p₄ e₅) ∙ then-on _ (white-on s p₅ e₆))
         (rw h at k))
+
+-- the fields of a body that begins at p₀ begin at p₆: behind its key, white space, a comma, white space, a comment and white space
+pub body-place : (s : List ℕ) (p₀ : ℕ) {p₁ p₂ p₃ p₄ p₅ p₆ : ℕ} {r : Step} → p₀ ≤ length s → p₀ ≤ p₁ → p₁ ≤ max p₀ (length s) → Ahead s p₁ p₂ →
+    r ≡ step.At p₃ → Onward (length s) 1 p₂ r → Ahead s p₃ p₄ → p₄ ≤ p₅ → p₅ ≤ max p₄ (length s) → Ahead s p₅ p₆ →
+    (p₀ + 1 ≤ p₆) × (p₆ ≤ length s)
+body-place s p₀ {p₂ = p₂} h i j a d o b m n e = let l = step-ahead (length s) 1 p₂ d o in (omega arith, omega arith)
 
 -- ---- an entry after its type
 

@@ -1,8 +1,8 @@
 -- The ways through the functions of src/file.rt, over what their calls answered.
 --     file-end, file-entry, file-comment, file-other     a turn of the file, by the byte it stands at
---     comment-further                                     a comment goes past its percent sign
---     bytes-ill, bytes-valid                              the answers of `parse_bytes`
---     read-long, read-off, read-full, read-fits           the answers of `read`
+--     comment-further                                    a comment goes past its percent sign
+--     bytes-ill, bytes-valid                             the answers of `parse_bytes`
+--     read-long, read-off, read-full, read-fits          the answers of `read`
 -- Assumes nothing.
 use Prim.Native.Nat.{ℕ, _+_, _/_, _≤_, _<_}
 use native.Mathlib.Omega.{arith}
@@ -29,7 +29,7 @@ use Rattle.raw.specs.declared.answer.Reading.the-variants as reading
 use Rattle.row.specs.Row.{Row, moved, overlay}
 use Rattle.raw.specs.Reader.{Out, ok, again, bad, andThen}
 use Rattle.raw.specs.Grammar.{is, comment, entry, fileTurn, file}
-use Rattle.raw.specs.Says.{stepOf, answerOf, Room, Says}
+use Rattle.raw.specs.Says.{stepOf, answerOf, RowsLaid, Says}
 use Rattle.row.specs.Limits.{mostBytes}
 use Rattle.raw.specs.Read.{strict, readingOut, leftOut, Read}
 use Rattle.row.proofs.Laid.{laid}
@@ -80,7 +80,7 @@ module _ (s : List ℕ) (base : ℕ) (b : List ℕ) (h : base + length s ≤ mos
   pub bytes-ill : {i : ℕ} {b′ : List ℕ} → v ≡ validity.IllFormed i → Says base (strict s) 0 b (answer.Refused (faultAt NotUtf8 i)) b′
   bytes-ill {i} {b′} e =
       subst (λ (o : Out). Says base o 0 b (answer.Refused (faultAt NotUtf8 i)) b′) (sym (strict-ill s (omega arith) i (sym d ∙ e)))
-      (record { told = refl; room = tt })
+      (record { told = refl; rows = tt })
 
   pub bytes-valid : v ≡ validity.Valid → {r : Answer} {b′ : List ℕ} → Says base (file s 0) 0 b r b′ → Says base (strict s) 0 b r b′
   bytes-valid e {r} {b′} p = subst (λ (o : Out). Says base o 0 b r b′) (sym (strict-valid s (omega arith) (sym d ∙ e))) p
@@ -105,7 +105,7 @@ fits-rows b b′ {n = n} p rs e l r =
     let t = le-leb (length rs) (length b / 4) h in
     (rw t (ap reading.Rows (omega arith)), rw t (r ∙ ap (overlay b 0) (laid .moved-none rs) ∙ laid .overlay-fits rs b h))
 
-fits : (o : Out) (b : List ℕ) {b′ : List ℕ} (q n : ℕ) → answer.Next q n ≡ answerOf o 0 → n ≤ length b / 4 → Room 0 o 0 b b′ →
+fits : (o : Out) (b : List ℕ) {b′ : List ℕ} (q n : ℕ) → answer.Next q n ≡ answerOf o 0 → n ≤ length b / 4 → RowsLaid 0 o 0 b b′ →
     (reading.Rows n ≡ readingOut o (length b)) × (b′ ≡ leftOut o b)
 fits (ok p rs) b {b′} q n e l r = fits-rows b b′ p rs e l r
 fits (again p rs a) b {b′} q n e l r = fits-rows b b′ p rs e l r
@@ -129,5 +129,5 @@ module _ (s b : List ℕ) {y y′ : List ℕ} {r : Answer} (w : Says 0 (strict s
     pub read-fits : {x : Answer} {b′ : List ℕ} → n ≤ length b / 4 → Says 0 (file s 0) 0 b x b′ → Read s b (reading.Rows n) b′
     read-fits {b′ = b′} l k =
         let t = sym z ∙ w .told in
-        let m = fits (strict s) b p n t l (subst (λ (o : Out). Room 0 o 0 b b′) (strict-file s t) (k .room)) in
+        let m = fits (strict s) b p n t l (subst (λ (o : Out). RowsLaid 0 o 0 b b′) (strict-file s t) (k .rows)) in
         record { answer = m .0; rows = m .1 }

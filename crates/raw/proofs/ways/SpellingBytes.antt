@@ -17,7 +17,7 @@ use Rattle.text.proofs.general.Below.{below, each}
 use Rattle.text.proofs.Seeing.{seeing}
 use Rattle.raw.specs.Grammar.{lower, spells}
 use Rattle.raw.specs.Says.{Ascii}
-use Rattle.raw.proofs.ways.ByteLoops.{Narrow, seen-other}
+use Rattle.raw.proofs.ways.ByteLoops.{AsciiOnly, seen-other}
 
 lower-least : (c : ℕ) → c ≤ lower c
 lower-least c = go (leb 0x41 c && leb c 0x5A)
@@ -26,7 +26,7 @@ lower-least c = go (leb 0x41 c && leb c 0x5A)
     go true = omega arith
     go false = omega arith
 
-letter-narrow : (w : ℕ) → w < 0x80 → Narrow (λ c. eqb (lower c) w)
+letter-narrow : (w : ℕ) → w < 0x80 → AsciiOnly (λ c. eqb (lower c) w)
 letter-narrow w h c l = ne-eqb (lower c) w (λ e. omega (arith, lower-least c))
 
 -- ---- one letter

@@ -1,7 +1,7 @@
 -- `reader::eat` meets its contract: a walk of its MIR, by hand. The struct is taken apart, `scanner::eat` is called on the slice and the number, and
 -- the struct is made anew of the slice and the place that came back.
--- The struct is Copy: what it owns is had three times: of one copy what the file owns goes to the callee, one is what the result owns, with the new
--- place's facts for the old one's, and one is kept whole for the exit.
+-- The struct is Copy, so what it owns is had three times. From one copy, what the file owns goes to the callee; one becomes what the result owns,
+-- with the facts of the new place in place of those of the old one; and one is kept whole for the exit.
 -- Assumes nothing.
 use mathlib.Core.Path.{_≡_, refl, ap}
 use Prim.Native.Nat.{ℕ, _<_, _^_}
@@ -111,7 +111,7 @@ module _ {M : Type 1} (𝓤 : URA M) (H : Heap 𝓤) (A : Atoms 𝓤) (W : Given
   asked = qed W ((‵ (flft κ q) ⊛ ‵ ftrue) ∷ ‵ (owns (ShrSlice (named 0) κ u8 ∷ usize ∷ []) (d .file, (d .at, tt)) passed) ∷ []) ∵ join ! $ frame ! $
       done !
 
-  -- what the struct owns gives what the callee asks, and is kept
+  -- what the struct owns gives what the callee requires, and is kept
   apart : d .at < 2 ^ 64
       → ent 𝓤 (onEntry 𝓤 H A eat.signature (κ, tt) (q, tt) (d, tt) (mach ∷ [], tt)) (sep 𝓤 (Eat 𝓤 H A mem run .pre to) (sem 𝓤 H A Own))
   apart fits =

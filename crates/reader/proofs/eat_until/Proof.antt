@@ -1,5 +1,5 @@
--- `reader::eat_until` meets its contract: a walk of its MIR, by hand, as that of `eat`. `scanner::eat_until` is passed the test besides, which owns
--- only facts: they are made anew where they are asked for.
+-- `reader::eat_until` meets its contract: a walk of its MIR, by hand, like that of `eat`. `scanner::eat_until` is also passed the test, which owns
+-- only facts, made anew where they are needed.
 -- Assumes nothing.
 use mathlib.Core.Path.{_≡_, refl, ap}
 use Prim.Native.Nat.{ℕ, _<_, _^_}
@@ -126,7 +126,7 @@ module _ {M : Type 1} (𝓤 : URA M) (H : Heap 𝓤) (A : Atoms 𝓤) (W : Given
     ),
   ) passed) ∷ []) ∵ join ! $ frame ! $ done !
 
-  -- what the struct owns gives what the callee asks, and is kept
+  -- what the struct owns gives what the callee requires, and is kept
   apart : d .at < 2 ^ 64
       → ent 𝓤 (onEntry 𝓤 H A until.signature (κ, tt) (q, tt) (d, (t, tt)) in-vals) (sep 𝓤 (Until 𝓤 H A mem run .pre to) (sem 𝓤 H A Own))
   apart fits =

@@ -1,7 +1,7 @@
 -- `reader::peek` meets its contract: a walk of its MIR, by hand. The struct is taken apart, and `scanner::peek` is called on the slice and the
 -- number. All that the proof knows of `scanner::peek` is that it meets its contract.
--- The struct is Copy: what it owns is had twice, one copy is kept whole for the exit, and of the other what the file owns goes to the callee, beside
--- the lifetime's token, which comes back.
+-- The struct is Copy, so what it owns is had twice. One copy is kept whole for the exit; from the other, what the file owns goes to the callee,
+-- beside the lifetime's token, which comes back.
 -- Assumes nothing.
 use mathlib.Core.Path.{_≡_, refl}
 use Prim.Native.Nat.{_<_, _^_}
@@ -114,7 +114,7 @@ module _ {M : Type 1} (𝓤 : URA M) (H : Heap 𝓤) (A : Atoms 𝓤) (W : Given
   asked = qed W ((‵ (flft κ q) ⊛ ‵ ftrue) ∷ ‵ (owns (ShrSlice (named 0) κ u8 ∷ usize ∷ []) (d .file, (d .at, tt)) passed) ∷ []) ∵ join ! $ frame ! $
       done !
 
-  -- what the struct owns gives what the callee asks, and is kept
+  -- what the struct owns gives what the callee requires, and is kept
   apart : d .at < 2 ^ 64
       → ent 𝓤 (onEntry 𝓤 H A peek.signature (κ, tt) (q, tt) (d, tt) (mach ∷ [], tt)) (sep 𝓤 (Peek 𝓤 H A mem run .pre to) (sem 𝓤 H A Own))
   apart fits =

@@ -1,9 +1,7 @@
--- `reader::seen` meets its contract: a walk of its MIR, by hand. A `Reader` that one call returns is held in a local and passed to the next. All
--- that the
--- proof knows of `new` and `peek` is that each meets its contract.
--- In a local of a body MIR erases the lifetime of the struct's type, so the value is shown to have the type at `erased`: what the struct owns does
--- not
--- say the lifetime's name. What the place owns is only facts: they are made anew where they are asked for.
+-- `reader::seen` meets its contract: a walk of its MIR, by hand. A `Reader` that one call returns is held in a local and passed to the next.
+-- All that the proof knows of `new` and `peek` is that each meets its contract.
+-- In a local of a body MIR erases the lifetime of the struct's type, so the value is shown to have the type at `erased`: what the struct owns
+-- does not say the lifetime's name. What the place owns is only facts, which are made anew where they are needed.
 -- Assumes nothing.
 use mathlib.Core.Path.{_≡_, refl, subst}
 use Prim.Native.Nat.{ℕ, _<_, _^_}
@@ -105,7 +103,7 @@ module _ {M : Type 1} (𝓤 : URA M) (H : Heap 𝓤) (A : Atoms 𝓤) (W : Given
   abbrev Own : Fml
   Own = ShrSlice (named 0) κ u8 .own s (v ∷ [])
 
-  -- the call of `new`: what it is passed, what it asks, and what is known of its result
+  -- the call of `new`: what it is passed, what it requires, and what is known of its result
   abbrev to-new : New 𝓤 H A mem run .Ghost
   to-new = (((κ, tt), (q, tt), tt, (s, (n, tt)), (v ∷ [], (vint w64 n ∷ [], tt))), tt)
 

@@ -1,9 +1,7 @@
--- `reader::until` meets its contract: a walk of its MIR, by hand. A `Reader` that one call returns is held in a local and passed to the next, twice.
--- All
--- that the proof knows of `new`, `eat_until` and `place` is that each meets its contract.
--- In a local of a body MIR erases the lifetime of the struct's type, so the value is shown to have the type at `erased`: what the struct owns does
--- not
--- say the lifetime's name. What the place and the test own are only facts: they are made anew where they are asked for.
+-- `reader::until` meets its contract: a walk of its MIR, by hand. A `Reader` that one call returns is held in a local and passed to the next,
+-- twice. All that the proof knows of `new`, `eat_until` and `place` is that each meets its contract.
+-- In a local of a body MIR erases the lifetime of the struct's type, so the value is shown to have the type at `erased`: what the struct owns
+-- does not say the lifetime's name. What the place and the test own is only facts, which are made anew where they are needed.
 -- Assumes nothing.
 use mathlib.Core.Path.{_≡_, refl, sym, subst, _∙_}
 use Prim.Native.Nat.{ℕ, _<_, _^_}
@@ -120,7 +118,7 @@ module _ {M : Type 1} (𝓤 : URA M) (H : Heap 𝓤) (A : Atoms 𝓤) (W : Given
   abbrev Own : Fml
   Own = ShrSlice (named 0) κ u8 .own s (v ∷ [])
 
-  -- the call of `new`: what it is passed, what it asks, and what is known of its result
+  -- the call of `new`: what it is passed, what it requires, and what is known of its result
   abbrev to-new : New 𝓤 H A mem run .Ghost
   to-new = (((κ, tt), (q, tt), tt, (s, (n, tt)), (v ∷ [], (vint w64 n ∷ [], tt))), tt)
 
@@ -154,7 +152,7 @@ module _ {M : Type 1} (𝓤 : URA M) (H : Heap 𝓤) (A : Atoms 𝓤) (W : Given
   eat-said : (r r′ : Reader) → ent 𝓤 (ensured 𝓤 H A eat.ended (eat.clauses 𝓤 H A mem run) (κ, tt) (r, (t, tt)) tt r′) (fact 𝓤 (Ate r r′))
   eat-said r r′ = exE 𝓤 _ (λ ws. snd∗ 𝓤 (sem 𝓤 H A (lasts eat.ended (κ, tt) (r, (t, tt)) ws)) (fact 𝓤 (Ate r r′)))
 
-  -- the call of `place`, likewise
+  -- the call of `place`, at the struct r with the machine value u
   abbrev to-place : Reader → Val → Place 𝓤 H A mem run .Ghost
   to-place r u = (((κ, tt), (q, tt), tt, (r, tt), (u ∷ [], tt)), tt)
 

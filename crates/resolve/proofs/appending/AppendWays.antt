@@ -1,12 +1,12 @@
 -- The ways through the functions of src/progress.rt.
 --     begun                                  `begin`
---     inside, append-over, append-on         `append`: too much, and not
+--     inside, append-over, append-on         `append`, where there is too much to write and where there is not
 --     literal-few, literal-narrow, literal-refused, literal-done      `literal`
 --     month-text, month-row                  `month`
 --     fits-by                                `fits`
 --     copy-on                                `copy_numbers`: one number more
 -- Assumes nothing.
-use Prim.Native.Nat.{ℕ, suc, _+_, _-_, _/_, _≤_, _<_, min}
+use Prim.Native.Nat.{ℕ, suc, _+_, _-_, _/_, _≤_, _<_}
 use native.Mathlib.Omega.{arith}
 use native.Mathlib.Numerals.{add-one}
 use mathlib.Core.Path.{_≡_, refl, sym, ap, ap₂, subst, _∙_}
@@ -17,8 +17,10 @@ use lib.Seq.{length-take-le, drop-cons, take-suc, append-snoc, set-at, sets}
 use lib.Dec.{leb, ltb}
 use borrow.Author.Tests.{ltb-true, ltb-false, not-true, not-false}
 use Rattle.text.specs.Scan.{part}
-use Rattle.text.proofs.general.Parts.{length-part}
+use Rattle.text.proofs.general.Parts.{length-part, part-take}
+use Rattle.text.proofs.general.Tests.{true-not-false}
 use Rattle.row.specs.declared.fault.Fault.{Fault}
+use Rattle.row.specs.Limits.{mostLiteral, leastScratch, mostWritten}
 use Rattle.chunk.specs.declared.form.Kind.the-variants.{Normal}
 use Rattle.chunk.specs.Chunk.{Chunk, chunk}
 use Rattle.turn.specs.Content.{flatten}
@@ -33,13 +35,10 @@ use Rattle.literal.proofs.Flattening.{flattening}
 use Rattle.literal.proofs.Joining.{joining}
 use Rattle.resolve.specs.declared.progress.Progress.{Progress}
 use Rattle.resolve.specs.declared.progress.Went.the-variants as went
-use Rattle.resolve.specs.Resolves.{mostWritten, small, fits}
+use Rattle.resolve.specs.Resolves.{small, fits}
 use Rattle.resolve.specs.Runs.{ofLiteral}
 use Rattle.resolve.specs.Progress.{Has, Appends, SaysRun, Narrow}
 use Rattle.resolve.proofs.appending.SmallChunks.{small-text, small-rows, small-both, small-more, sets-behind}
-
-clash : (a : Bool) → a ≡ true → a ≡ false → ⊥
-clash a p q = let z : _≡_ {A = ℕ} 0 1 = cc in absurd (omega arith)
 
 -- ---- no chunk
 
@@ -89,9 +88,9 @@ module _ (s : List ℕ) (st : Progress) (rows : Rows) (first last : ℕ) (f : fi
     pub append-over : over st bytes (rows .n) ≡ true → (r : Progress) → r .over ≡ true → Has (ps ++ cs) b₀ t₀ r b′ t′
     append-over e r o = record {
       over = o ∙ sym (ap not (much e));
-      bytes = λ q. absurd (clash (r .over) o q);
-      rows = λ q. absurd (clash (r .over) o q);
-      text = λ q. absurd (clash (r .over) o q);
+      bytes = λ q. true-not-false (r .over) o q;
+      rows = λ q. true-not-false (r .over) o q;
+      text = λ q. true-not-false (r .over) o q;
     }
 
     pub append-on : over st bytes (rows .n) ≡ false → t′ ≡ sets t (st .bytes) (part s first last) → (r : Progress) → r .over ≡ false → r .bytes ≡ bytes
@@ -114,18 +113,12 @@ module _ (s : List ℕ) (st : Progress) (rows : Rows) (first last : ℕ) (f : fi
 
 -- ---- a literal
 
-front : (s : List ℕ) (n : ℕ) → n ≤ length s → part s 0 n ≡ take n s
-front s n h = ap (λ (k : ℕ). take k s) (least n (length s) h)
-  where
-    least : (n k : ℕ) → n ≤ k → min n k - 0 ≡ n
-    least n k h = omega arith
-
 -- how much a literal comes to
 pub literal-few : (have : Rows) (p : Parsed) → GrowsParsed have p → (k : Rows) (len : ℕ) → p ≡ parsed.Chunks k len
-    → (len ≤ 32768) × (k .n ≤ have .n + 16385)
+    → (len ≤ leastScratch) × (k .n ≤ have .n + (mostLiteral + 1))
 literal-few have p g k len e = subst (GrowsParsed have) e g
 
--- its refusal has a place of the file
+-- the places of its refusal have 32 bits
 pub literal-narrow : (have : Rows) (p : Parsed) → GrowsParsed have p → (f : Fault) → p ≡ parsed.Refused f → Narrow f
 literal-narrow have p g f e = let at = subst (GrowsParsed have) e g in (omega (arith, at .0), omega (arith, at .1))
 
@@ -146,7 +139,7 @@ module _ (x : Resolved) (st : Progress) (b t o b′ : List ℕ) (p : Parsed) (sa
       by (chunks cs) h = (
         n,
         λ ps b₀ t₀ has.
-            app ps cs b₀ t₀ b b′ (λ v. sym (h ps b₀ (has .bytes v) (has .rows v) .text) ∙ sym (front o len l)) has
+            app ps cs b₀ t₀ b b′ (λ v. sym (h ps b₀ (has .bytes v) (has .rows v) .text) ∙ sym (part-take o len l)) has
             (λ v m. h ps b₀ (has .bytes v) (has .rows v) .rows),
       )
       by (literal.refused g) h = absurd h

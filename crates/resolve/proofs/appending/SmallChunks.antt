@@ -1,22 +1,24 @@
 -- When the chunks of a value are more than can be written; and texts set one behind the other.
 --     small-text, small-rows, small-both      by the bytes of their text and the number of their rows
---     small-more                              more chunks are not fewer
+--     small-more                              chunks that are too many stay too many when others are appended
 --     sets-behind                             a text set behind another
 -- Assumes nothing.
-use Prim.Native.Nat.{ℕ, suc, _+_, _≤_, _<_}
+use Prim.Native.Nat.{ℕ, _+_, _≤_, _<_}
 use native.Mathlib.Omega.{arith}
 use mathlib.Core.Path.{_≡_, refl, ap, _∙_}
 use mathlib.Core.Bool.{Bool, true, false, and-false}
-use mathlib.Core.List.{List, [], _∷_, _++_}
-use lib.ListN.{length, set, length-append}
+use mathlib.Core.List.{List, _++_}
+use lib.ListN.{length, length-append}
 use lib.Seq.{sets}
 use lib.Dec.{leb}
 use borrow.Author.Tests.{leb-true, leb-false, le-leb, lt-leb}
+use Rattle.text.proofs.general.Lists.{sets-append}
 use Rattle.chunk.specs.Chunk.{Chunk}
 use Rattle.turn.specs.Content.{flatten}
 use Rattle.literal.specs.Rows.{textsOf}
 use Rattle.literal.proofs.Flattening.{flattening}
-use Rattle.resolve.specs.Resolves.{mostWritten, small}
+use Rattle.resolve.specs.Resolves.{small}
+use Rattle.row.specs.Limits.{mostWritten}
 
 -- ---- more than can be written
 
@@ -53,16 +55,6 @@ small-more ps cs e = by (leb (length (flatten (ps ++ cs))) mostWritten) refl (le
         let z : _≡_ {A = ℕ} 0 1 = cc in absurd (omega arith)
 
 -- ---- texts
-
-sets-append : (v w o : List ℕ) (n : ℕ) → sets o n (v ++ w) ≡ sets (sets o n v) (n + length v) w
-sets-append [] w o n = ap (λ (k : ℕ). sets o k w) (zeroed n)
-  where
-    zeroed : (n : ℕ) → n ≡ n + 0
-    zeroed n = omega arith
-sets-append (b ∷ v) w o n = sets-append v w (set o n b) (suc n) ∙ ap (λ (k : ℕ). sets (sets (set o n b) (suc n) v) k w) (moved n (length v))
-  where
-    moved : (n k : ℕ) → suc n + k ≡ n + suc k
-    moved n k = omega arith
 
 pub sets-behind : (v w o : List ℕ) → sets o 0 (v ++ w) ≡ sets (sets o 0 v) (length v) w
 sets-behind v w o = sets-append v w o 0 ∙ ap (λ (k : ℕ). sets (sets o 0 v) k w) (zeroed (length v))

@@ -16,6 +16,7 @@ use borrow.Author.Tests.{ltb-true, ltb-false, lt-leb, le-leb, eq-eqb, ne-eqb}
 use Rattle.text.specs.declared.utf8.Validity.{Validity}
 use Rattle.text.specs.Utf8.{validityOf}
 use Rattle.text.proofs.general.Places.{part-clamped}
+use Rattle.text.specs.Every.{every}
 use Rattle.row.specs.declared.check.Checked.the-variants as checked
 use Rattle.row.specs.Numbers.{rowsOf, areRows}
 use Rattle.row.specs.Laid.{rowAt}
@@ -28,15 +29,15 @@ use Rattle.resolve.specs.Checks.{everySpan, isValue, isValid, isText, is
 module _ (file rows : List ℕ) (i : ℕ) where
   module _ (a e : ℕ) (p : a ≡ getD rows (i + 2) 0) (q : e ≡ getD rows (i + 3) 0) (h : i + 4 ≤ length rows) where
     pub span-pass : isSpan file a e ≡ true → everySpan file (rowsOf (drop i rows)) ≡ everySpan file (rowsOf (drop (i + 4) rows))
-    unfolding everySpan
+    unfolding every
     span-pass t = rw (laid .rows-next rows i h, ← p, ← q, t)
 
     pub span-not : isSpan file a e ≡ false → everySpan file (rowsOf (drop i rows)) ≡ false
-    unfolding everySpan
+    unfolding every
     span-not t = rw (laid .rows-next rows i h, ← p, ← q, t)
 
   pub span-end : length rows < i + 4 → everySpan file (rowsOf (drop i rows)) ≡ true
-  unfolding everySpan
+  unfolding every
   span-end h = rw (laid .rows-end rows i h)
 
 -- ---- a month word, or its text
@@ -74,15 +75,15 @@ module _ (months words : List ℕ) (i : ℕ) where
     whole = rw (x, y, p, q, r, s)
 
     pub month-pass : (v && w) ≡ true → everyMonth words (rowsOf (drop i months)) ≡ everyMonth words (rowsOf (drop (i + 4) months))
-    unfolding everyMonth
+    unfolding every
     month-pass t = rw (laid .rows-next months i h, sym whole ∙ t)
 
     pub month-not : (v && w) ≡ false → everyMonth words (rowsOf (drop i months)) ≡ false
-    unfolding everyMonth
+    unfolding every
     month-not t = rw (laid .rows-next months i h, sym whole ∙ t)
 
   pub month-end : length months ≤ i → everyMonth words (rowsOf (drop i months)) ≡ true
-  unfolding everyMonth
+  unfolding every
   month-end h = rw (laid .rows-end months i (omega arith))
 
 module _ (months words : List ℕ) where

@@ -1,4 +1,4 @@
--- What every call asks first: for `check_file` of src/answer.rt, `literal` of src/one_literal.rt, and the calls of the crates above.
+-- The checks that every call makes first: for `check_file` of src/answer.rt, `literal` of src/one_literal.rt, and the calls of the crates above.
 --     file-long, file-utf8, file-small           the ways through `check_file`, and how long a file is that passes
 --     span-ends, cut-part, cut-room              a span of a file, and its bytes
 --     span-good, span-room, span-writes          what a good span of a file that passes has
@@ -22,13 +22,13 @@ use Rattle.text.proofs.general.Places.{part-clamped}
 use Rattle.row.specs.declared.fault.Fault.{Fault}
 use Rattle.row.specs.declared.fault.Reason.the-variants.{TooLong, NoRoom, BadRows}
 use Rattle.row.specs.Fault.{nowhere}
-use Rattle.row.specs.Limits.{mostBytes}
+use Rattle.row.specs.Limits.{mostBytes, leastScratch}
 use Rattle.chunk.specs.declared.answer.Checked.{Checked}
 use Rattle.chunk.specs.declared.answer.Checked.the-variants as checked
 use Rattle.literal.specs.Literal.{resolveLiteral}
 use Rattle.resolve.specs.declared.answer.Answer.{Answer}
 use Rattle.resolve.specs.declared.answer.Answer.the-variants as answer
-use Rattle.resolve.specs.Resolves.{Value, refused, Writes, leastScratch, ofUtf8, checkedFile, after, asked}
+use Rattle.resolve.specs.Resolves.{Value, refused, Writes, ofUtf8, checkedFile, after, asked}
 use Rattle.resolve.specs.OneLiteral.{isSpan, valueOf}
 
 -- ---- a file

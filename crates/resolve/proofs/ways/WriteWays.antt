@@ -1,10 +1,10 @@
 -- A literal over a small room, and then over what is lent: for `write` of src/one_literal.rt.
---     nothing-held                               no rows hold no chunks
+--     nothing-held                               at first there are no rows and no chunks
 --     write-few                                  how much a literal comes to
---     write-room                                 the room for it, where there is
+--     write-room                                 where the code's test finds room, there is room
 --     write-refused, write-full, write-held, write-done      the ways through it: refused, or without room; copied, or resolved again
 -- Assumes nothing.
-use Prim.Native.Nat.{ℕ, _+_, _-_, _*_, _/_, _≤_, min}
+use Prim.Native.Nat.{ℕ, _+_, _-_, _*_, _/_, _≤_}
 use native.Mathlib.Omega.{arith}
 use mathlib.Core.Path.{_≡_, refl, sym, ap, ap₂, subst, _∙_}
 use mathlib.Core.Bool.{Bool, true, false, cond, not, _&&_, _||_}
@@ -14,9 +14,11 @@ use lib.Seq.{sets, sets-eq, take-at}
 use lib.Dec.{leb, ltb}
 use borrow.Author.Tests.{ltb-true, ltb-false, le-leb, lt-leb}
 use Rattle.text.specs.Scan.{part}
+use Rattle.text.proofs.general.Parts.{part-take}
 use Rattle.row.specs.declared.fault.Fault.{Fault}
 use Rattle.row.specs.declared.fault.Reason.the-variants.{NoRoom}
 use Rattle.row.specs.Fault.{nowhere}
+use Rattle.row.specs.Limits.{mostLiteral, leastScratch, mostWritten}
 use Rattle.chunk.specs.Chunk.{Chunk, flatChunks}
 use Rattle.chunk.specs.Put.{Puts}
 use Rattle.turn.specs.Content.{flatten}
@@ -29,7 +31,7 @@ use Rattle.literal.specs.Rows.{RowsHold, rowsFrom, writes, textsOf, lastKind, l
 use Rattle.literal.specs.Inner.{Added, SaysParsed, GrowsParsed}
 use Rattle.literal.proofs.Flattening.{flattening}
 use Rattle.resolve.specs.declared.answer.Answer.the-variants as answer
-use Rattle.resolve.specs.Resolves.{resolved, mostWritten, small, fits, Writes}
+use Rattle.resolve.specs.Resolves.{resolved, small, fits, Writes}
 use Rattle.resolve.specs.OneLiteral.{valueOf}
 
 -- ---- no rows
@@ -64,7 +66,7 @@ neither false y = refl
 abbrev pub full : List ℕ → List ℕ → ℕ → ℕ → Bool
 full b t n len = ltb (length b / 5) n || ltb (length t) len
 
-fits-test : (cs : List Chunk) (b t : List ℕ) (n len : ℕ) → n ≡ length cs → len ≡ length (textsOf cs) → n ≤ 16385 → len ≤ 32768
+fits-test : (cs : List Chunk) (b t : List ℕ) (n len : ℕ) → n ≡ length cs → len ≡ length (textsOf cs) → n ≤ mostLiteral + 1 → len ≤ leastScratch
     → fits cs b t ≡ not (full b t n len)
 unfolding small
 fits-test cs b t n len e i k l =
@@ -84,7 +86,7 @@ module _ (R : Resolved) (nb : List ℕ) (r : Parsed) (o₁ nb′ : List ℕ) (h 
       by (literal.refused g) k = record { answer = ap answer.Refused k; rows = refl; text = refl }
 
   module _ (k : Rows) (len : ℕ) (e : r ≡ parsed.Chunks k len) (g : GrowsParsed none r) where
-    pub write-few : (len ≤ 32768) × (k .n ≤ 0 + 16385)
+    pub write-few : (len ≤ leastScratch) × (k .n ≤ 0 + (mostLiteral + 1))
     write-few = subst (GrowsParsed none) e g
 
     enough-by : (x y : Bool) → ltb (length b / 5) (k .n) ≡ x → ltb (length t) len ≡ y → (x || y) ≡ false
@@ -127,10 +129,7 @@ module _ (R : Resolved) (nb : List ℕ) (r : Parsed) (o₁ nb′ : List ℕ) (h 
 
         -- the text that is copied
         copied : part o₁ 0 len ≡ textsOf flat
-        copied = ap (λ (n : ℕ). take n o₁) (least len (length o₁) room) ∙ c .text ∙ sym texts
-          where
-            least : (n m : ℕ) → n ≤ m → min n m - 0 ≡ n
-            least n m p = omega arith
+        copied = part-take o₁ len room ∙ c .text ∙ sym texts
 
         put-text : (p : ℕ) (t′ : List ℕ) → Puts t 0 (part o₁ 0 len) p t′ → t′ ≡ textsOf flat ++ drop (length (textsOf flat)) t
         put-text p t′ z =
@@ -195,6 +194,6 @@ module _ (R : Resolved) (nb : List ℕ) (r : Parsed) (o₁ nb′ : List ℕ) (h 
         by (chunks cs) c = done-with cs (first-added nb c) q room p t′ y b′ (held-rows cs (first-added nb c) q room l b′ z)
         by (literal.refused f) c = absurd c
 
-    -- the room, by the test
+    -- where the test finds room, there is room
     pub write-room : full b t (k .n) len ≡ false → (k .n ≤ length b / 5) × (len ≤ length t)
     write-room q = enough-by (ltb (length b / 5) (k .n)) (ltb (length t) len) refl refl q

@@ -89,11 +89,11 @@ abbrev pub Left : List ℕ → Await → ℕ → Type 0
 Left l a i = whole (run (part false) (rowsOf l)) ≡ whole (run a (rowsOf (drop i l)))
 
 -- the state r follows the state s after the row from number i on
-abbrev Steps : List ℕ → ℕ → State → State → Type 0
-Steps l i s r = r ≡ stateOf (afterRow (awaitOf s) (rowAt l i .kind) (rowAt l i .detail))
+abbrev StateAfter : List ℕ → ℕ → State → State → Type 0
+StateAfter l i s r = r ≡ stateOf (afterRow (awaitOf s) (rowAt l i .kind) (rowAt l i .detail))
 
 module _ (l : List ℕ) (i : ℕ) where
-  pub turn : (s r : State) → i + 4 ≤ length l → Steps l i s r → Left l (awaitOf s) i → Left l (awaitOf r) (i + 4)
+  pub turn : (s r : State) → i + 4 ≤ length l → StateAfter l i s r → Left l (awaitOf s) i → Left l (awaitOf r) (i + 4)
   unfolding run
   turn s r h e o = rw (e, await-back) (rw (rows-next l i h) at o)
 
@@ -120,7 +120,7 @@ module _ (l : List ℕ) (i : ℕ) where
   ended s h e o = rw (e, o, rows-end l i (omega arith))
 
 -- after a name: a value row, or something else
-module _ (l : List ℕ) (i : ℕ) (s r : State) (f : Bool) (v : Found) (h : i + 4 ≤ length l) (e : Steps l i s r) (p : r ≡ state.Value f)
+module _ (l : List ℕ) (i : ℕ) (s r : State) (f : Bool) (v : Found) (h : i + 4 ≤ length l) (e : StateAfter l i s r) (p : r ≡ state.Value f)
     (q : v ≡ foundOf (i + 4) (rowsOf (drop (i + 4) l))) (o : Left l (awaitOf s) i) where
   named : Left l (value f) (i + 4)
   named = rw p at (turn l i s r h e o)

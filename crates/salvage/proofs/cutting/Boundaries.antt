@@ -1,10 +1,10 @@
 -- The first piece of a text and the rest, the boundaries of a text, and what strict reading opens there.
---     Seam, Front, front                  the first piece of a text, and the rest
---     meet, parts                         a piece and the rest meet as in ReadingAcrossCut, and so do the two parts at a boundary
---     head-opens, head-fresh              a text that begins with "@" is `fresh`, and continues no character of the text before it
---     seam-boundary, boundary-shift       where two parts meet is a boundary; the boundaries of the second part are boundaries of the whole
---     opens-first, pass                   an entry is opened at a first "@"; what is opened behind an opened place is opened from there on
---     file-back, opens-back               what strict reading reads and opens in the second part of a text, it does in that part alone
+--     CutBetween, Front, front           the first piece of a text, and the rest
+--     meet, parts                        a piece and the rest meet as in ReadingAcrossCut, and so do the two parts at a boundary
+--     head-opens, head-fresh             a text that begins with "@" is `fresh`, and continues no character of the text before it
+--     cut-boundary, boundary-shift       where two parts meet is a boundary; the boundaries of the second part are boundaries of the whole
+--     opens-first, pass                  an entry is opened at a first "@"; what is opened behind an opened place is opened from there on
+--     file-back, opens-back              what strict reading reads and opens in the second part of a text, it does in that part alone
 -- Assumes nothing.
 use Prim.Native.Nat.{ℕ, zero, suc, _+_, _≤_, _<_}
 use native.Mathlib.Omega.{arith}
@@ -20,7 +20,7 @@ use Rattle.text.specs.Scan.{see}
 use Rattle.text.specs.declared.scanner.Seen.{Seen}
 use Rattle.text.specs.declared.scanner.Seen.the-variants.{End, Char}
 use Rattle.text.proofs.Seeing.{seeing}
-use Rattle.text.proofs.general.Tests.{both-true}
+use Rattle.text.proofs.general.Tests.{both-true, true-not-false}
 use Rattle.text.specs.Seeing.{seenUp}
 use Rattle.row.specs.Row.{Row, moved}
 use Rattle.raw.specs.Reader.{Out, ok, again, bad}
@@ -29,18 +29,18 @@ use Rattle.raw.specs.Strict.{Fresh, shifted}
 use Rattle.raw.proofs.Strict.{strict-reading}
 use Rattle.salvage.specs.Salvage.{head, newline, Texts, push, cut}
 use Rattle.salvage.specs.Demand3.{lined, fresh, Boundary, line, Opens, here, later}
-use Rattle.salvage.proofs.cutting.ScanEnd.{true-not-false, scan-found, ok-place, white-found, white-scanned, white-stays}
+use Rattle.salvage.proofs.cutting.ScanEnd.{scan-found, ok-place, white-found, white-scanned, white-stays}
 use Rattle.salvage.proofs.cutting.TurnBeforeCut.{turn-white, item-ahead}
 use Rattle.salvage.proofs.cutting.ReadingAcrossCut.{Meet, opens-from}
 
 -- ---- the first piece
 
 -- w is followed by nothing, or it ends in a newline and r begins with "@"
-abbrev pub Seam : List ℕ → List ℕ → Type 0
-Seam w r = (r ≡ []) ⊎ ((lined w ≡ true) × (head r ≡ true))
+abbrev pub CutBetween : List ℕ → List ℕ → Type 0
+CutBetween w r = (r ≡ []) ⊎ ((lined w ≡ true) × (head r ≡ true))
 
 abbrev pub Front : ℕ → List ℕ → Type 0
-Front b s = (xs : List ℕ) × (r : List ℕ) × (s ≡ xs ++ r) × (cut (b ∷ s) ≡ (b ∷ xs) ∷ cut r) × Seam (b ∷ xs) r
+Front b s = (xs : List ℕ) × (r : List ℕ) × (s ≡ xs ++ r) × (cut (b ∷ s) ≡ (b ∷ xs) ∷ cut r) × CutBetween (b ∷ xs) r
 
 pub front : (b : ℕ) (s : List ℕ) → Front b s
 unfolding cut lined
@@ -71,7 +71,7 @@ last-split b (c ∷ xs) h = let z = last-split c xs h in (b ∷ z .0, ap (λ (l 
 
 head-byte : (r : List ℕ) (d : ℕ) → head r ≡ true → (getD r 0 d ≡ 0x40) × (0 < length r)
 unfolding head
-head-byte [] d h = true-not-false h refl
+head-byte [] d h = true-not-false _ h refl
 head-byte (b ∷ r) d h = (eqb-true b 0x40 h, omega arith)
 
 pub head-opens : (r : List ℕ) → head r ≡ true → fresh r ≡ true
@@ -114,20 +114,20 @@ meet b xs r h k =
 
 -- ---- boundaries
 
-abbrev Parts : List ℕ → ℕ → Type 0
-Parts s e = (b : ℕ) × (xs : List ℕ) × (r : List ℕ) × (s ≡ (b ∷ xs) ++ r) × (length xs ≡ e) × (lined (b ∷ xs) ≡ true) × (head r ≡ true)
+abbrev PartsAt : List ℕ → ℕ → Type 0
+PartsAt s e = (b : ℕ) × (xs : List ℕ) × (r : List ℕ) × (s ≡ (b ∷ xs) ++ r) × (length xs ≡ e) × (lined (b ∷ xs) ≡ true) × (head r ≡ true)
 
-pub parts : (s : List ℕ) (e : ℕ) → newline (getD s e 256) ≡ true → head (drop (suc e) s) ≡ true → Parts s e
+pub parts : (s : List ℕ) (e : ℕ) → newline (getD s e 256) ≡ true → head (drop (suc e) s) ≡ true → PartsAt s e
 unfolding lined head
-parts [] e h k = true-not-false k refl
+parts [] e h k = true-not-false _ k refl
 parts (b ∷ s) zero h k = (b, [], s, refl, refl, h, k)
-parts (b ∷ []) (suc e) h k = true-not-false h refl
+parts (b ∷ []) (suc e) h k = true-not-false _ h refl
 parts (b ∷ c ∷ s) (suc e) h k =
     let f = parts (c ∷ s) e h k in
     (b, f .0 ∷ f .1, f .2, ap (λ (l : List ℕ). b ∷ l) (f .3), ap suc (f .4), f .5, f .6)
 
-pub seam-boundary : (b : ℕ) (xs r : List ℕ) → lined (b ∷ xs) ≡ true → head r ≡ true → Boundary ((b ∷ xs) ++ r) (suc (length xs))
-seam-boundary b xs r h k = line (length xs) (rw (last-byte b xs r 256 h) refl) (rw (drop-append-seam (b ∷ xs) r) k)
+pub cut-boundary : (b : ℕ) (xs r : List ℕ) → lined (b ∷ xs) ≡ true → head r ≡ true → Boundary ((b ∷ xs) ++ r) (suc (length xs))
+cut-boundary b xs r h k = line (length xs) (rw (last-byte b xs r 256 h) refl) (rw (drop-append-seam (b ∷ xs) r) k)
 
 pub boundary-shift : (a r : List ℕ) (e : ℕ) → newline (getD r e 256) ≡ true → head (drop (suc e) r) ≡ true → Boundary (a ++ r) (suc (e + length a))
 boundary-shift a r e h k =

@@ -14,7 +14,7 @@ use borrow.Author.Tests.{eqb-true, eqb-false}
 use Rattle.salvage.specs.Salvage.{Texts, cut}
 use Rattle.salvage.specs.Demand3.{joined, Boundary, first, line}
 use Rattle.salvage.proofs.cutting.PiecesAppend.{cut-append, joined-cut}
-use Rattle.salvage.proofs.cutting.Boundaries.{Seam, Front, front, parts, head-opens, seam-boundary, boundary-shift}
+use Rattle.salvage.proofs.cutting.Boundaries.{CutBetween, Front, front, parts, head-opens, cut-boundary, boundary-shift}
 
 -- a boundary of the second text is one of the whole
 shift : (a r : List ℕ) {n : ℕ} → Boundary r n → 0 < n → Boundary (a ++ r) (n + length a)
@@ -22,10 +22,10 @@ shift a r (first h) l = absurd (omega arith)
 shift a r (line e h k) l = subst (Boundary (a ++ r)) (omega arith) (boundary-shift a r e h k)
 
 -- where another piece follows the first, a boundary stands between them
-seam : (b : ℕ) (xs r w : List ℕ) (vs : Texts) → Seam (b ∷ xs) r → cut r ≡ w ∷ vs → Boundary ((b ∷ xs) ++ r) (suc (length xs))
+between : (b : ℕ) (xs r w : List ℕ) (vs : Texts) → CutBetween (b ∷ xs) r → cut r ≡ w ∷ vs → Boundary ((b ∷ xs) ++ r) (suc (length xs))
 unfolding cut
-seam b xs r w vs (inr m) e = seam-boundary b xs r (m .0) (m .1)
-seam b xs r w vs (inl d) e = none (sym (ap cut d) ∙ e)
+between b xs r w vs (inr m) e = cut-boundary b xs r (m .0) (m .1)
+between b xs r w vs (inl d) e = none (sym (ap cut d) ∙ e)
   where
     none : {X : Type 0} → [] ≡ w ∷ vs → X
     none e = let z : _≡_ {A = ℕ} 0 1 = cc in absurd (omega arith)
@@ -68,7 +68,7 @@ begins (suc n) (b ∷ s) (u ∷ ws) w vs h e l = by (eqb (length (joined ws)) 0)
     by true x ih =
         let o = some ws w vs in
         let q : suc (length (f .0)) ≡ length (u ++ joined ws) = omega (arith, size, eqb-true (length (joined ws)) 0 x) in
-        subst₂ Boundary whole q (seam b (f .0) (f .1) (o .0) (o .1) (f .4) (rest ∙ o .2))
+        subst₂ Boundary whole q (between b (f .0) (f .1) (o .0) (o .1) (f .4) (rest ∙ o .2))
     by false x ih =
         let k : 0 < length (joined ws) = omega (arith, eqb-false (length (joined ws)) 0 x) in
         let q : length (joined ws) + suc (length (f .0)) ≡ length (u ++ joined ws) = omega (arith, size) in

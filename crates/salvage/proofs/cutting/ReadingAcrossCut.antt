@@ -22,8 +22,8 @@ use Rattle.raw.specs.Strict.{Fresh}
 use Rattle.raw.proofs.Strict.{strict-reading}
 use Rattle.raw.proofs.Steps.{steps}
 use Rattle.salvage.specs.Demand3.{Opens, here, later}
-use Rattle.salvage.proofs.cutting.ScanEnd.{Halts, Clear, Scanned, ok-place, scan-found, white-found, white-scanned, white-stays}
-use Rattle.salvage.proofs.cutting.TurnBeforeCut.{item, turn-white, item-ok, Alike, white-cut, turn-cut}
+use Rattle.salvage.proofs.cutting.ScanEnd.{Halts, NoneOver, Scanned, ok-place, scan-found, white-found, white-scanned, white-stays}
+use Rattle.salvage.proofs.cutting.TurnBeforeCut.{item, turn-white, item-ok, AlikeToNewline, white-cut, turn-cut}
 
 -- ---- answers
 
@@ -66,7 +66,7 @@ opens-from {s} {p} {e} (later {q = q} {a = a} {rs = rs} t o) = omega (arith, ope
 pub record Meet (a s : List ℕ) (k : ℕ) : Type 0 where
   pub size : length a ≡ suc k
   pub newline : see a k ≡ Char 0x0A (suc k)
-  pub clear : Clear a k
+  pub clear : NoneOver a k
   pub begins : Fresh s
   pub at : see (a ++ s) (suc k) ≡ Char 0x40 (suc (suc k))
 
@@ -81,13 +81,13 @@ module _ (a s : List ℕ) (k : ℕ) (m : Meet a s k) where
   ended : see a (suc k) ≡ End
   ended = seeing .see-end a (suc k) (omega (arith, m .size))
 
-  clear-end : Clear a (suc k)
+  clear-end : NoneOver a (suc k)
   clear-end i c n e h = omega (arith, m .size, seeing .see-ahead a i c n e)
 
   longer : suc k ≤ length (a ++ s)
   longer = omega (arith, length-append a s, m .size)
 
-  there : Alike a (a ++ s) k
+  there : AlikeToNewline a (a ++ s) k
   there =
       record {
         same = same;
@@ -99,7 +99,7 @@ module _ (a s : List ℕ) (k : ℕ) (m : Meet a s k) where
         before = m .clear;
       }
 
-  back : Alike (a ++ s) a k
+  back : AlikeToNewline (a ++ s) a k
   back =
       record {
         same = λ i h. sym (same i h);
@@ -164,13 +164,13 @@ module _ (a s : List ℕ) (k : ℕ) (m : Meet a s k) where
   -- ---- the whole is accepted
 
   -- from p on the first text is accepted with some rows, and the rest of the whole with the others
-  abbrev Halves : ℕ → ℕ → List Row → Type 0
-  Halves p q us = (rs : List Row) × (ss : List Row) × (file a p ≡ ok (suc k) rs) × (file (a ++ s) (suc k) ≡ ok q ss) × (us ≡ rs ++ ss)
+  abbrev SplitReading : ℕ → ℕ → List Row → Type 0
+  SplitReading p q us = (rs : List Row) × (ss : List Row) × (file a p ≡ ok (suc k) rs) × (file (a ++ s) (suc k) ≡ ok q ss) × (us ≡ rs ++ ss)
 
   item-end : item a (suc k) ≡ ok (suc k) []
   item-end = rw ended
 
-  split-by : {p e : ℕ} (q : ℕ) (us : List Row) → Opens (a ++ s) p e → e ≡ suc k → file (a ++ s) p ≡ ok q us → Halves p q us
+  split-by : {p e : ℕ} (q : ℕ) (us : List Row) → Opens (a ++ s) p e → e ≡ suc k → file (a ++ s) p ≡ ok q us → SplitReading p q us
   split-by {p} {e} q us (here w x) c f =
       let v : white (a ++ s) p ≡ ok (suc k) [] = w ∙ ap (λ (n : ℕ). ok n []) c in
       let y = white-cut back p (suc k) v (white-scanned (a ++ s) p (suc k) v .from) (omega arith) in
@@ -180,9 +180,9 @@ module _ (a s : List ℕ) (k : ℕ) (m : Meet a s k) where
       let l : i ≤ e = opens-from o in
       let d = turn-cut back p i b rs t (omega arith) in
       let x = more-ok rs (file (a ++ s) i) q us (sym (file-later (a ++ s) p i b rs t) ∙ f) in
-      let y : Halves i q (x .0) = split-by q (x .0) o c (x .1) in
+      let y : SplitReading i q (x .0) = split-by q (x .0) o c (x .1) in
       let z = x .2 ∙ ap (λ (l : List Row). rs ++ l) (y .4) ∙ sym (append-assoc rs (y .0) (y .1)) in
       (rs ++ y .0, y .1, file-later a p i b rs d ∙ ap (more rs) (y .2), y .3, z)
 
-  pub split : (q : ℕ) (us : List Row) → Opens (a ++ s) 0 (suc k) → file (a ++ s) 0 ≡ ok q us → Halves 0 q us
+  pub split : (q : ℕ) (us : List Row) → Opens (a ++ s) 0 (suc k) → file (a ++ s) 0 ≡ ok q us → SplitReading 0 q us
   split q us o f = split-by q us o refl f

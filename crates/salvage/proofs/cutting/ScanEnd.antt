@@ -1,9 +1,9 @@
 -- Where a scan of a class of characters ends.
---     Halts, Clear                what is seen stops the scan; no character reaches over a place
---     Scanned                     the scan ends at the first place that stops it
---     scan-found, scan-stays      every scan ends; one that is stopped at once eats nothing
---     white-found, white-scanned, white-stays     these laws for white space
---     true-not-false, ok-place    a test is not both true and false; equal answers have equal places
+--     Halts, NoneOver                            what is seen stops the scan; no character reaches over a place
+--     Scanned                                    the scan ends at the first place that stops it
+--     scan-found, scan-stays                     every scan ends; one that is stopped at once eats nothing
+--     white-found, white-scanned, white-stays    these laws for white space
+--     ok-place                                   equal answers have equal places
 -- Assumes nothing.
 use Prim.Native.Nat.{ℕ, zero, suc, _+_, _≤_, _<_}
 use native.Mathlib.Omega.{arith}
@@ -16,6 +16,7 @@ use Rattle.text.specs.Scan.{see}
 use Rattle.text.specs.declared.scanner.Seen.{Seen}
 use Rattle.text.specs.declared.scanner.Seen.the-variants.{End, Char}
 use Rattle.text.proofs.Seeing.{seeing}
+use Rattle.text.proofs.general.Tests.{true-not-false}
 use Rattle.row.specs.Row.{Row}
 use Rattle.raw.specs.Reader.{ok, more, after, eaten, stop, turn, many, scanTurn, scan}
 use Rattle.raw.specs.Grammar.{white}
@@ -27,18 +28,15 @@ Halts t End = Unit {0}
 Halts t (Char c n) = t c ≡ false
 
 -- no character of the text reaches over the place j
-abbrev pub Clear : List ℕ → ℕ → Type 0
-Clear s j = (i c n : ℕ) → see s i ≡ Char c n → i < j → n ≤ j
+abbrev pub NoneOver : List ℕ → ℕ → Type 0
+NoneOver s j = (i c n : ℕ) → see s i ≡ Char c n → i < j → n ≤ j
 
 -- the scan ends at a place that stops it, and before or at every such place that no character reaches over
 pub record Scanned (t : ℕ → Bool) (s : List ℕ) (p q : ℕ) : Type 0 where
   pub found : scan {P = Row} t s p ≡ ok q []
   pub from : p ≤ q
   pub halts : Halts t (see s q)
-  pub least : (j : ℕ) → p ≤ j → Clear s j → Halts t (see s j) → q ≤ j
-
-pub true-not-false : {b : Bool} {X : Type 0} → b ≡ true → b ≡ false → X
-true-not-false h k = let z : _≡_ {A = ℕ} 0 1 = cc in absurd (omega arith)
+  pub least : (j : ℕ) → p ≤ j → NoneOver s j → Halts t (see s j) → q ≤ j
 
 pub ok-place : {q r : ℕ} {rs ss : List Row} → ok q rs ≡ ok r ss → q ≡ r
 ok-place e = cc
@@ -60,9 +58,9 @@ module _ (t : ℕ → Bool) (s : List ℕ) where
 
   -- where the character at p is of the class, the scan goes past it
   module _ (p c m : ℕ) (d : see s p ≡ Char c m) (k : t c ≡ true) where
-    beyond : (j : ℕ) → p ≤ j → Clear s j → Halts t (see s j) → m ≤ j
+    beyond : (j : ℕ) → p ≤ j → NoneOver s j → Halts t (see s j) → m ≤ j
     beyond j a l h =
-        let ne : p ≡ j → ⊥ = λ e. true-not-false k (subst (Halts t) (ap (see s) (sym e) ∙ d) h) in
+        let ne : p ≡ j → ⊥ = λ e. true-not-false _ k (subst (Halts t) (ap (see s) (sym e) ∙ d) h) in
         l p c m d (omega arith)
 
     passed : (q : ℕ) × Scanned t s m q → (q : ℕ) × Scanned t s p q

@@ -2,7 +2,7 @@
 -- is cut. A turn that ends at the cut or before it answers the same on both.
 --     item, turn-white, item-ok     an item; a turn is the item after the white space; the last item is the end
 --     item-ahead                    an item that says `again` ends inside the text
---     Alike                         the two texts
+--     AlikeToNewline                the two texts
 --     white-cut, turn-cut           white space, and a turn, are read the same on both
 -- Assumes nothing.
 use Prim.Native.Nat.{ℕ, suc, _+_, _≤_, _<_, max}
@@ -19,13 +19,14 @@ use Rattle.text.specs.Scan.{see, fails}
 use Rattle.text.specs.declared.scanner.Seen.{Seen}
 use Rattle.text.specs.declared.scanner.Seen.the-variants.{End, Char}
 use Rattle.text.specs.declared.class.Test.the-variants as test
+use Rattle.text.proofs.general.Tests.{true-not-false}
 use Rattle.row.specs.Row.{Row}
 use Rattle.raw.specs.Reader.{Out, ok, again, bad, Reader, andThen, eaten, stop, turn}
 use Rattle.raw.specs.Grammar.{is, any, white, comment, entry, fileTurn}
-use Rattle.raw.specs.Strict.{Same, Stops}
+use Rattle.raw.specs.Strict.{ShowsSame, Stops}
 use Rattle.raw.proofs.Strict.{strict-reading}
 use Rattle.raw.proofs.Steps.{steps}
-use Rattle.salvage.proofs.cutting.ScanEnd.{Halts, Clear, Scanned, true-not-false, ok-place, scan-found, white-found, white-stays}
+use Rattle.salvage.proofs.cutting.ScanEnd.{Halts, NoneOver, Scanned, ok-place, scan-found, white-found, white-stays}
 
 -- ---- after the white space
 
@@ -80,16 +81,16 @@ ends o i e = subst (λ (o : Out). Stops o i) (sym e) refl
 
 -- two texts that show the same up to and including a newline at k. After it the second text ends or shows no white space. No character
 -- reaches over the newline, or over the place after it
-pub record Alike (s t : List ℕ) (k : ℕ) : Type 0 where
+pub record AlikeToNewline (s t : List ℕ) (k : ℕ) : Type 0 where
   pub same : (i : ℕ) → i < suc k → see s i ≡ see t i
   pub first : suc k ≤ length s
   pub second : suc k ≤ length t
   pub halts : Halts isWhitespace (see t (suc k))
-  pub clear : Clear t (suc k)
+  pub clear : NoneOver t (suc k)
   pub newline : see s k ≡ Char 0x0A (suc k)
-  pub before : Clear s k
+  pub before : NoneOver s k
 
-module _ {s t : List ℕ} {k : ℕ} (m : Alike s t k) where
+module _ {s t : List ℕ} {k : ℕ} (m : AlikeToNewline s t k) where
   pub white-cut : (p q : ℕ) → white s p ≡ ok q [] → p ≤ suc k → q ≤ suc k → white t p ≡ ok q []
   white-cut p q a g h = by (eq-or-lt-of-le h)
     where
@@ -120,7 +121,7 @@ module _ {s t : List ℕ} {k : ℕ} (m : Alike s t k) where
       let y : Scanned (fails test.Newline) s n (z .0) = z .1 in
       let f : comment s p ≡ ok (z .0) [] = rw (d, b) (y .found) in
       let g : z .0 ≡ q = stops-at (comment s p) (z .0) [] f q x in
-      let o : p ≡ k → ⊥ = λ e. true-not-false b (ap (λ (c : ℕ). eqb c 0x25) (code c n (sym d ∙ ap (see s) e ∙ m .newline))) in
+      let o : p ≡ k → ⊥ = λ e. true-not-false _ b (ap (λ (c : ℕ). eqb c 0x25) (code c n (sym d ∙ ap (see s) e ∙ m .newline))) in
       let v : z .0 ≤ k = y .least k (m .before p c n d (omega arith)) (m .before) (rw (m .newline) refl) in
       omega arith
     where
@@ -130,7 +131,7 @@ module _ {s t : List ℕ} {k : ℕ} (m : Alike s t k) where
   pub item-cut : (p q : ℕ) → p < suc k → Stops (item s p) q → q ≤ suc k → item t p ≡ item s p
   item-cut p q h x y = rw (← m .same p h) (go (see s p) refl x)
     where
-      inside : Same s t p q
+      inside : ShowsSame s t p q
       inside i a b = m .same i (omega arith)
 
       go : (z : Seen) → see s p ≡ z → Stops (itemBy s p z) q → itemBy t p z ≡ itemBy s p z
@@ -147,7 +148,7 @@ module _ {s t : List ℕ} {k : ℕ} (m : Alike s t k) where
           by false true e x =
               let x′ = turned-stops (comment s p) 0 q x in
               let l : q ≤ k = comment-cut p q c n d e h x′ in
-              let same : Same s t p (q + 1) = λ i a b. m .same i (omega arith) in
+              let same : ShowsSame s t p (q + 1) = λ i a b. m .same i (omega arith) in
               ap (λ (o : Out). andThen o (turn 0 s)) (strict-reading .comments s t p q x′ (omega (arith, m .second)) same)
           by false false e x = refl
 

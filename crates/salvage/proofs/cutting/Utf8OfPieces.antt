@@ -1,5 +1,5 @@
 -- The pieces of a text that is UTF-8 are UTF-8.
---     octets-halves                  where a valid text is cut at the beginning of a piece, both parts are valid
+--     octets-both                    where a valid text is cut at the beginning of a piece, both parts are valid
 --     front-append, octets-piece     a text is its front and what follows; a piece of a valid front is valid
 -- Assumes nothing.
 use Prim.Native.Nat.{ℕ, _+_, _-_, _≤_}
@@ -24,8 +24,8 @@ fresh-boundary a r f =
     let g : getD (a ++ r) (length a) 256 ≡ getD r 0 256 = ap (λ (n : ℕ). getD (a ++ r) n 256) z ∙ getD-append-add a r 0 256 in
     rw (le-leb (length a) (length (a ++ r)) (omega (arith, length-append a r)), g, f) refl
 
-pub octets-halves : (a r : List ℕ) → Fresh r → Octets (a ++ r) → Octets a × Octets r
-octets-halves a r f o =
+pub octets-both : (a r : List ℕ) → Fresh r → Octets (a ++ r) → Octets a × Octets r
+octets-both a r f o =
     let c : Cut (a ++ r) (length a) = rfc3629 .boundary (a ++ r) (length a) o .0 (fresh-boundary a r f) in
     (subst Octets (take-append-seam a r) (c .before), subst Octets (drop-append-seam a r) (c .after))
 
@@ -52,4 +52,4 @@ module _ (s : List ℕ) (v : ℕ) (h : v ≤ length s) where
 
   pub octets-piece : (p e : ℕ) → p ≤ e → e ≤ v → Fresh (drop e (take v s)) → Octets (drop p (take v s))
       → Octets (take (e - p) (drop p s)) × Octets (drop e (take v s))
-  octets-piece p e l m f o = octets-halves (take (e - p) (drop p s)) (drop e (take v s)) f (subst Octets (front-split p e l m) o)
+  octets-piece p e l m f o = octets-both (take (e - p) (drop p s)) (drop e (take v s)) f (subst Octets (front-split p e l m) o)

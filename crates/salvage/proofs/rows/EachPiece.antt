@@ -12,6 +12,7 @@ use mathlib.Core.List.{List, _∷_, _++_}
 use lib.ListN.{length, length-append}
 use lib.Dec.{leb}
 use borrow.Author.Tests.{leb-true, le-leb}
+use Rattle.text.proofs.general.Tests.{true-not-false}
 use Rattle.row.specs.declared.fault.Fault.{Fault}
 use Rattle.row.specs.declared.fault.Reason.the-variants.{TooLong}
 use Rattle.row.specs.Fault.{nowhere}
@@ -27,7 +28,6 @@ use Rattle.row.proofs.Laid.{laid}
 use Rattle.raw.proofs.Steps.{steps}
 use Rattle.salvage.specs.Salvage.{Texts, cut, damaged, told, pieces, salvageOf, salvaged, Salvage}
 use Rattle.salvage.specs.Demand3.{lined, fresh, Holds, joined, CauseOf, PieceGives}
-use Rattle.salvage.proofs.cutting.ScanEnd.{true-not-false}
 use Rattle.salvage.proofs.cutting.PiecesAppend.{joined-cut, joined-append, pieces-append, salvage-append}
 
 -- ---- a piece
@@ -45,7 +45,7 @@ module _ (w : List ℕ) (P : List Row → Type 0) where
 told-damaged : (w : List ℕ) → (clean (told w (strict w)) ≡ false) ↔ ((f : Fault) × (strict w ≡ bad f))
 unfolding clean
 told-damaged w = (
-  told-by w (λ rs. clean rs ≡ false → (f : Fault) × (strict w ≡ bad f)) (λ q rs e h. true-not-false (strict-reading .accepts w q rs e .undamaged) h)
+  told-by w (λ rs. clean rs ≡ false → (f : Fault) × (strict w ≡ bad f)) (λ q rs e h. true-not-false _ (strict-reading .accepts w q rs e .undamaged) h)
       (λ f e h. (f, e)),
   λ z. rw (z .1) refl,
 )

@@ -12,7 +12,7 @@ use lib.ListN.{length, length-append}
 use Rattle.text.specs.Walk.{walkFrom}
 use Rattle.text.specs.Utf8.{Octets, validityOf}
 use Rattle.text.specs.Scan.{seeFrom}
-use Rattle.text.proofs.general.Tests.{both-true}
+use Rattle.text.proofs.general.Tests.{both-true, true-not-false}
 use Rattle.text.proofs.Shapes.{shapes}
 use Rattle.row.specs.Row.{Row, moved}
 use Rattle.raw.specs.Reader.{ok, more, loop, many}
@@ -27,19 +27,18 @@ use Rattle.row.proofs.Laid.{laid}
 use Rattle.row.proofs.Ruled.{ruled}
 use Rattle.salvage.specs.Salvage.{head, cut, told, pieces, salvageOf}
 use Rattle.salvage.specs.Demand3.{lined, Boundary, first, line, Opens, Whole}
-use Rattle.salvage.proofs.cutting.ScanEnd.{true-not-false}
-use Rattle.salvage.proofs.cutting.Utf8OfPieces.{octets-halves}
+use Rattle.salvage.proofs.cutting.Utf8OfPieces.{octets-both}
 use Rattle.salvage.proofs.cutting.PiecesAppend.{pieces-move, salvage-append}
 use Rattle.salvage.proofs.cutting.ReadingAcrossCut.{through, split}
-use Rattle.salvage.proofs.cutting.Boundaries.{Seam, Front, front, meet, parts, head-opens, head-fresh}
-use Rattle.salvage.proofs.cutting.Boundaries.{seam-boundary, boundary-shift, opens-first, pass, file-back, opens-back}
+use Rattle.salvage.proofs.cutting.Boundaries.{CutBetween, Front, front, meet, parts, head-opens, head-fresh}
+use Rattle.salvage.proofs.cutting.Boundaries.{cut-boundary, boundary-shift, opens-first, pass, file-back, opens-back}
 use Rattle.salvage.proofs.rows.EachPiece.{told-by}
 
 -- ---- a piece, and the rest
 
 told-ok : (w : List ℕ) → clean (told w (strict w)) ≡ true → (q : ℕ) × (strict w ≡ ok q (told w (strict w)))
 unfolding clean
-told-ok w = told-by w (λ rs. clean rs ≡ true → (q : ℕ) × (strict w ≡ ok q rs)) (λ q rs e h. (q, e)) (λ f e h. true-not-false h refl)
+told-ok w = told-by w (λ rs. clean rs ≡ true → (q : ℕ) × (strict w ≡ ok q rs)) (λ q rs e h. (q, e)) (λ f e h. true-not-false _ h refl)
 
 salvage-front : (s w r : List ℕ) → cut s ≡ w ∷ cut r → salvageOf s ≡ told w (strict w) ++ moved (length w) (salvageOf r)
 unfolding salvageOf pieces
@@ -112,17 +111,17 @@ module _ (b : ℕ) (s : List ℕ) where
       → clean (salvageOf (b ∷ s)) ≡ true → Accepts (b ∷ s) (salvageOf (b ∷ s))
   accepts-step h ih k = by (f .4)
     where
-      halves : (clean (told w (strict w)) ≡ true) × (clean (moved (length w) (salvageOf r)) ≡ true)
-      halves =
+      both-clean : (clean (told w (strict w)) ≡ true) × (clean (moved (length w) (salvageOf r)) ≡ true)
+      both-clean =
           both-true (clean (told w (strict w))) (clean (moved (length w) (salvageOf r)))
           (sym (ap clean rows ∙ ruled .clean-append (told w (strict w)) (moved (length w) (salvageOf r))) ∙ k)
 
       o : Accepts w (told w (strict w))
-      o = told-ok w (halves .0)
+      o = told-ok w (both-clean .0)
 
-      by : Seam w r → Accepts (b ∷ s) (salvageOf (b ∷ s))
+      by : CutBetween w r → Accepts (b ∷ s) (salvageOf (b ∷ s))
       by (inl e) = (o .0, strict-alone e ∙ o .1 ∙ ap (ok (o .0)) (sym (rows-alone e)))
-      by (inr m) = both-accepted h m o (ih r shorter (sym (ruled .clean-moved (length w) (salvageOf r)) ∙ halves .1))
+      by (inr m) = both-accepted h m o (ih r shorter (sym (ruled .clean-moved (length w) (salvageOf r)) ∙ both-clean .1))
 
   -- ---- where strict reading accepts the whole
 
@@ -131,7 +130,7 @@ module _ (b : ℕ) (s : List ℕ) where
       → Opens (w ++ r) 0 (suc (length (f .0))) → ((ss : List Row) → strict r ≡ ok (length r) ss → salvageOf r ≡ ss) → salvageOf (b ∷ s) ≡ rs
   both-same m rs e p ih =
       let u = steps .strict-ok (b ∷ s) (length (b ∷ s)) rs e in
-      let o = octets-halves w r (head-fresh r (m .1)) (subst Octets whole (u .1)) in
+      let o = octets-both w r (head-fresh r (m .1)) (subst Octets whole (u .1)) in
       let v = sym (ap (λ (l : List ℕ). file l 0) whole) ∙ u .2 in
       let x = split w r (length (f .0)) (meet b (f .0) r (m .0) (m .1)) (length (b ∷ s)) rs p v in
       let n : 0 + length w ≡ suc (length (f .0)) = omega arith in
@@ -177,7 +176,7 @@ AllOpen s = (e : ℕ) → Boundary s e → Opens s 0 e
 -- where this holds of the whole, it holds of the rest behind the first piece
 module _ (b : ℕ) (xs r : List ℕ) (h : lined (b ∷ xs) ≡ true) (k : head r ≡ true) (all : AllOpen ((b ∷ xs) ++ r)) where
   there : Opens ((b ∷ xs) ++ r) 0 (suc (length xs))
-  there = all (suc (length xs)) (seam-boundary b xs r h k)
+  there = all (suc (length xs)) (cut-boundary b xs r h k)
 
   rest-opens : {e : ℕ} → Boundary r e → Opens r 0 e
   rest-opens (first x) = opens-first r x
@@ -190,7 +189,7 @@ module _ (b : ℕ) (s : List ℕ) where
       → (rs : List Row) → Whole (b ∷ s) rs → salvageOf (b ∷ s) ≡ rs
   same-step ih rs v = by (f b s .4)
     where
-      by : Seam (w b s) (r b s) → salvageOf (b ∷ s) ≡ rs
+      by : CutBetween (w b s) (r b s) → salvageOf (b ∷ s) ≡ rs
       by (inl e) = rows-alone b s e ∙ ap (told (w b s)) (sym (strict-alone b s e) ∙ v .accepts)
       by (inr m) =
           let all : AllOpen (w b s ++ r b s) = subst AllOpen (whole b s) (v .opens) in

@@ -24,7 +24,7 @@ use Rattle.row.proofs.Laid.{laid}
 use Rattle.row.proofs.Ruled.{ruled}
 use Rattle.salvage.specs.Salvage.{cut, told, pieces, salvageOf}
 use Rattle.salvage.specs.Demand3.{fresh}
-use Rattle.salvage.specs.Inner.{Ends, PieceToRead, tallyOf, Puts, ValidTo, Fills}
+use Rattle.salvage.specs.Inner.{PieceEnds, PieceToRead, tallyOf, PutsPiece, ValidTo, FillsRows}
 use Rattle.salvage.specs.declared.piece.Tally.{Tally}
 use Rattle.salvage.specs.declared.piece.Tally.the-variants.{Sound, Damaged}
 use Rattle.salvage.proofs.cutting.Utf8OfPieces.{front-append, octets-piece}
@@ -104,7 +104,7 @@ unfolding fresh
 fresh-front [] t h = refl
 fresh-front (b ∷ u) t h = head-fresh (b ∷ u) (sym (head-append b u t) ∙ h)
 
-module _ (s b₀ b : List ℕ) (v p e n : ℕ) (sound : Bool) (c : Going s b₀ b v p n sound) (x : Ends s p e) where
+module _ (s b₀ b : List ℕ) (v p e n : ℕ) (sound : Bool) (c : Going s b₀ b v p n sound) (x : PieceEnds s p e) where
   -- the bytes of the piece, and its rows
   abbrev w : List ℕ
   w = take (e - p) (drop p s)
@@ -144,7 +144,7 @@ module _ (s b₀ b : List ℕ) (v p e n : ℕ) (sound : Bool) (c : Going s b₀ 
       }
 
   module _ (k : ValidTo s v) {i : ℕ} (h : i ≡ min (n * 4) (length b)) (y : List ℕ) {r : Tally}
-      (z : Puts w p (take (length b - i) (drop i b)) r y) (g : length y ≡ length (take (length b - i) (drop i b))) where
+      (z : PutsPiece w p (take (length b - i) (drop i b)) r y) (g : length y ≡ length (take (length b - i) (drop i b))) where
     part-length : length y ≡ length b - i
     part-length =
         let l = length-drop i b in
@@ -204,8 +204,8 @@ module _ (s b₀ b : List ℕ) (v p n : ℕ) (sound : Bool) (c : Going s b₀ b 
       ∙ sym (ap (λ (rs : List Row). take (n * 4) b ++ flat rs) (left-end s p h))
       ∙ c .rows l
 
-  pub gone-sound : sound ≡ true → Fills s b₀ (Sound n) b
+  pub gone-sound : sound ≡ true → FillsRows s b₀ (Sound n) b
   gone-sound e = record { tally = rw (sym gone-clean ∙ e, gone-count) refl; rows = gone-rows }
 
-  pub gone-damaged : sound ≡ false → Fills s b₀ (Damaged n) b
+  pub gone-damaged : sound ≡ false → FillsRows s b₀ (Damaged n) b
   gone-damaged e = record { tally = rw (sym gone-clean ∙ e, gone-count) refl; rows = gone-rows }

@@ -21,12 +21,12 @@ use Rattle.raw.specs.Reader.{Out, ok, again, bad}
 use Rattle.raw.specs.Grammar.{file}
 use Rattle.raw.specs.Read.{strict}
 use Rattle.row.specs.Rules.{clean}
-use Rattle.raw.specs.Says.{answerOf, Room, Says, Within}
+use Rattle.raw.specs.Says.{answerOf, RowsLaid, Says, Within}
 use Rattle.raw.proofs.Strict.{strict-reading}
 use Rattle.raw.proofs.Steps.{steps}
 use Rattle.row.proofs.Laid.{laid}
 use Rattle.salvage.specs.Salvage.{damaged, told}
-use Rattle.salvage.specs.Inner.{Puts, PieceToRead, DamageToWrite}
+use Rattle.salvage.specs.Inner.{PutsPiece, PieceToRead, DamageToWrite}
 use Rattle.salvage.specs.declared.piece.Tally.the-variants.{Sound, Damaged}
 
 -- ---- `read_alone`
@@ -57,13 +57,13 @@ overlay-front base rs b e h =
 
 module _ (w : List ℕ) {base : ℕ} {valid : Bool} (k : PieceToRead w base valid) (b : List ℕ) where
   pub piece-sound : {q n : ℕ} {r : Answer} {b′ : List ℕ} → r ≡ answer.Next q n → Says base (strict w) 0 b r b′ → Within (length w) 0 0 0 r
-      → Puts w base b (Sound n) b′
-  piece-sound {q} {n} {r} {b′} e p l = by (strict w) refl (sym e ∙ p .told) (p .room)
+      → PutsPiece w base b (Sound n) b′
+  piece-sound {q} {n} {r} {b′} e p l = by (strict w) refl (sym e ∙ p .told) (p .rows)
     where
       most : Within (length w) 0 0 0 (answer.Next q n)
       most = subst (Within (length w) 0 0 0) e l
 
-      by : (o : Out) → strict w ≡ o → answer.Next q n ≡ answerOf o 0 → Room base o 0 b b′ → Puts w base b (Sound n) b′
+      by : (o : Out) → strict w ≡ o → answer.Next q n ≡ answerOf o 0 → RowsLaid base o 0 b b′ → PutsPiece w base b (Sound n) b′
       by (ok p rs) x y z =
           let c = strict-reading .accepts w p rs x .undamaged in
           let m : n ≡ 0 + length rs = cc in
@@ -91,7 +91,7 @@ module _ (w : List ℕ) {base : ℕ} {valid : Bool} (k : PieceToRead w base vali
         record { file = k .file; from = r .place; to = omega (arith, r .place, r .empty) }
 
     pub piece-damaged : (b₁ : List ℕ) {b′ : List ℕ} → length b₁ ≡ length b → b′ ≡ overlay b₁ 0 (moved base (damaged w f))
-        → Puts w base b (Damaged 2) b′
+        → PutsPiece w base b (Damaged 2) b′
     unfolding clean
     piece-damaged b₁ h p =
         record {

@@ -1,5 +1,5 @@
 -- The ways through the functions of src/file.rt, over what their calls answered. The loop of `read_pieces` is in PieceLoop.antt.
---     valid-all, valid-part       `valid_to`
+--     valid-all, valid-part                               `valid_to`
 --     salvage-full, salvage-strictly, salvage-fills       `write_sound`, `write_damaged`
 --     salvage-long, counted-sound, counted-damaged        `salvage`
 -- Assumes nothing.
@@ -25,11 +25,11 @@ use Rattle.raw.specs.Reader.{Out, ok}
 use Rattle.raw.specs.Grammar.{file}
 use Rattle.row.specs.Limits.{mostBytes}
 use Rattle.row.specs.Rules.{clean}
-use Rattle.raw.specs.Says.{Room, Says}
+use Rattle.raw.specs.Says.{RowsLaid, Says}
 use Rattle.raw.proofs.Steps.{steps}
 use Rattle.row.proofs.Laid.{laid}
 use Rattle.salvage.specs.Salvage.{salvageOf, salvaged, Salvage}
-use Rattle.salvage.specs.Inner.{ValidTo, Counted, Fills}
+use Rattle.salvage.specs.Inner.{ValidTo, RowsToWrite, FillsRows}
 use Rattle.salvage.specs.declared.piece.Tally.{Tally}
 use Rattle.salvage.specs.declared.piece.Tally.the-variants.{Sound, Damaged}
 use Rattle.salvage.proofs.rows.Undamaged.{accepts}
@@ -46,7 +46,7 @@ module _ (s : List ℕ) {v : Validity} (d : v ≡ validityOf s) where
 
 -- ---- `write_sound`, `write_damaged`
 
-module _ (s b : List ℕ) {n : ℕ} (c : Counted s n) where
+module _ (s b : List ℕ) {n : ℕ} (c : RowsToWrite s n) where
   count-short : leb (length s) mostBytes ≡ true
   count-short = le-leb (length s) mostBytes (c .short)
 
@@ -69,11 +69,11 @@ module _ (s b : List ℕ) {n : ℕ} (c : Counted s n) where
   salvage-strictly k l {r} {b′} p =
       let rs = salvageOf s in
       let e : file s 0 ≡ ok (length s) rs = steps .strict-ok s (length s) rs (accepts s (c .short) k) .2 in
-      let o : b′ ≡ overlay b 0 (moved 0 rs) = subst (λ (o : Out). Room 0 o 0 b b′) e (p .room) in
+      let o : b′ ≡ overlay b 0 (moved 0 rs) = subst (λ (o : Out). RowsLaid 0 o 0 b b′) e (p .rows) in
       fits l (o ∙ ap (overlay b 0) (laid .moved-none rs) ∙ laid .overlay-fits rs b (omega (arith, c .rows)))
 
   -- the pieces were lent exactly the numbers that their rows need
-  pub salvage-fills : n ≤ length b / 4 → {r : Tally} {y : List ℕ} → Fills s (take (n * 4) b) r y
+  pub salvage-fills : n ≤ length b / 4 → {r : Tally} {y : List ℕ} → FillsRows s (take (n * 4) b) r y
       → Salvage s b (reading.Rows n) (y ++ drop (n * 4) b)
   salvage-fills l {r} {y} p =
       let k = length-take-le (n * 4) b (omega arith) ∙ ap (λ (m : ℕ). m * 4) (c .rows) in
@@ -85,9 +85,9 @@ pub salvage-long : (s b : List ℕ) → mostBytes < length s → Salvage s b (re
 unfolding salvaged
 salvage-long s b h = let t = lt-leb (length s) mostBytes h in record { answer = rw t; rows = rw t }
 
-module _ (s : List ℕ) (h : length s ≤ mostBytes) {b b′ : List ℕ} {t : Tally} (f : Fills s b t b′) {n : ℕ} where
-  pub counted-sound : t ≡ Sound n → Counted s n × (clean (salvageOf s) ≡ true)
+module _ (s : List ℕ) (h : length s ≤ mostBytes) {b b′ : List ℕ} {t : Tally} (f : FillsRows s b t b′) {n : ℕ} where
+  pub counted-sound : t ≡ Sound n → RowsToWrite s n × (clean (salvageOf s) ≡ true)
   counted-sound e = let k = tally-sound (salvageOf s) (f .tally) e in (record { short = h; rows = k .1 }, k .0)
 
-  pub counted-damaged : t ≡ Damaged n → Counted s n
+  pub counted-damaged : t ≡ Damaged n → RowsToWrite s n
   counted-damaged e = record { short = h; rows = tally-damaged (salvageOf s) (f .tally) e .1 }

@@ -2,8 +2,9 @@
 --     part-none                a part that ends where it begins is empty
 --     part-more, part-head     a part with one octet more at its end; a part by its first octet
 --     part-join                two parts that meet make one part
---     length-part              the length of a part
+--     length-part, part-size   the length of a part that lies in the text; at most the distance of its ends
 --     drop-take, drop-part     a beginning, and a part, without their first octets
+--     part-drop, part-take     a part that lies in the text is a beginning of it without its first octets, or a beginning
 -- Assumes nothing.
 use Prim.Native.Nat.{ℕ, zero, suc, _+_, _-_, _≤_, _<_, min}
 use native.Mathlib.Omega.{arith}
@@ -26,6 +27,9 @@ length-part s a e h l =
   where
     least : (a e n : ℕ) → a ≤ e → e ≤ n → min (min e n - a) (n - a) ≡ e - a
     least a e n h l = omega arith
+
+pub part-size : (s : List ℕ) (a e : ℕ) → length (part s a e) ≤ e - a
+part-size s a e = omega (arith, length-take (min e (length s) - a) (drop a s))
 
 pub part-more : (s : List ℕ) (a i : ℕ) → a ≤ i → i < length s → part s a (i + 1) ≡ part s a i ++ (getD s i 0 ∷ [])
 part-more s a i h l =
@@ -87,3 +91,12 @@ drop-part s a e k = drop-take k (min e (length s) - a) (drop a s) ∙ ap₂ take
   where
     less : (n a k : ℕ) → n - a - k ≡ n - (a + k)
     less n a k = omega arith
+
+pub part-drop : (s : List ℕ) (a e : ℕ) → e ≤ length s → part s a e ≡ drop a (take e s)
+part-drop s a e h = ap (λ (n : ℕ). take (n - a) (drop a s)) (least e (length s) h) ∙ sym (drop-take a e s)
+  where
+    least : (e n : ℕ) → e ≤ n → min e n ≡ e
+    least e n h = omega arith
+
+pub part-take : (s : List ℕ) (e : ℕ) → e ≤ length s → part s 0 e ≡ take e s
+part-take s e h = part-drop s 0 e h

@@ -1,5 +1,7 @@
 -- What follows from a test that passes, and tests that only ASCII passes.
 --     both-true       where `a && b` passes, a passes and b passes
+--     both-false      where `a || b` fails, a fails and b fails
+--     true-not-false  no test both passes and fails
 --     beq-eq          two tests that compare as equal are equal
 --     within-true     a number that passes the test of a range lies in it
 --     told-apart      where one number passes a test and another does not, the two numbers differ
@@ -17,6 +19,13 @@ use Rattle.text.specs.Range.{Range, within}
 pub both-true : (a b : Bool) → (a && b) ≡ true → (a ≡ true) × (b ≡ true)
 both-true true b e = (refl, e)
 both-true false b e = let z : _≡_ {A = ℕ} 0 1 = cc in absurd (omega arith)
+
+pub both-false : (a b : Bool) → (a || b) ≡ false → (a ≡ false) × (b ≡ false)
+both-false false b e = (refl, e)
+both-false true b e = let z : _≡_ {A = ℕ} 0 1 = cc in absurd (omega arith)
+
+pub true-not-false : {X : Type 0} (b : Bool) → b ≡ true → b ≡ false → X
+true-not-false b h k = let z : _≡_ {A = ℕ} 0 1 = cc in absurd (omega arith)
 
 pub beq-eq : (a b : Bool) → T (Bool·beq a b) → a ≡ b
 beq-eq true true t = refl

@@ -81,36 +81,36 @@ begins-take (r ∷ rs) (b ∷ u) e =
     let ih = begins-take rs u (h .1) in (on (k .0) (k .1) (ih .0), omega arith)
 
 -- the first n octets of u are a sequence of one of the alternatives
-abbrev Leads : List (List Range) → List ℕ → ℕ → Type 0
-Leads alts u n = Any alts (take n u) × (n ≤ length u)
+abbrev FirstOctets : List (List Range) → List ℕ → ℕ → Type 0
+FirstOctets alts u n = Any alts (take n u) × (n ≤ length u)
 
-leads-step : (a : List Range) (others : List (List Range)) (u : List ℕ) (n : ℕ) → (0 < n → Leads others u n) → (x : Bool) → begins a u ≡ x →
-    0 < cond x (length a) n → Leads (a ∷ others) u (cond x (length a) n)
-leads-step a others u n ih true e h = let k = begins-take a u e in (here (k .0), k .1)
-leads-step a others u n ih false e h = let k = ih h in (there (k .0), k .1)
+first-step : (a : List Range) (others : List (List Range)) (u : List ℕ) (n : ℕ) → (0 < n → FirstOctets others u n) → (x : Bool) → begins a u ≡ x →
+    0 < cond x (length a) n → FirstOctets (a ∷ others) u (cond x (length a) n)
+first-step a others u n ih true e h = let k = begins-take a u e in (here (k .0), k .1)
+first-step a others u n ih false e h = let k = ih h in (there (k .0), k .1)
 
-widthBy-leads : (alts : List (List Range)) (u : List ℕ) → 0 < widthBy alts u → Leads alts u (widthBy alts u)
+widthBy-first : (alts : List (List Range)) (u : List ℕ) → 0 < widthBy alts u → FirstOctets alts u (widthBy alts u)
 unfolding widthBy
-widthBy-leads [] u h = absurd (omega arith)
-widthBy-leads (a ∷ others) u h = leads-step a others u (widthBy others u) (widthBy-leads others u) (begins a u) refl h
+widthBy-first [] u h = absurd (omega arith)
+widthBy-first (a ∷ others) u h = first-step a others u (widthBy others u) (widthBy-first others u) (begins a u) refl h
 
 pub width-char : (u : List ℕ) → 0 < width u → (isChar (take (width u) u) ≡ true) × (width u ≤ length u)
-width-char u h = let k = widthBy-leads alternatives u h in (of-any (k .0), k .1)
+width-char u h = let k = widthBy-first alternatives u h in (of-any (k .0), k .1)
 
 -- ---- the first octet tells the alternatives apart
 
 -- the first ranges rise: the first of them begins at n or above, and each other one above the end of the one before
-data Rising : ℕ → List (List Range) → Type 0 where
-  last : {n : ℕ} → Rising n []
-  step : {n : ℕ} {r : Range} {rs : List Range} {others : List (List Range)} → n ≤ r .first → n ≤ r .last → Rising (suc (r .last)) others →
-      Rising n ((r ∷ rs) ∷ others)
+data FirstRising : ℕ → List (List Range) → Type 0 where
+  last : {n : ℕ} → FirstRising n []
+  step : {n : ℕ} {r : Range} {rs : List Range} {others : List (List Range)} → n ≤ r .first → n ≤ r .last → FirstRising (suc (r .last)) others →
+      FirstRising n ((r ∷ rs) ∷ others)
 
 abbrev rising : ℕ → List (List Range) → Bool
 rising n [] = true
 rising n ([] ∷ others) = false
 rising n ((r ∷ rs) ∷ others) = leb n (r .first) && leb n (r .last) && rising (suc (r .last)) others
 
-rises : (n : ℕ) (alts : List (List Range)) → rising n alts ≡ true → Rising n alts
+rises : (n : ℕ) (alts : List (List Range)) → rising n alts ≡ true → FirstRising n alts
 rises n [] e = last
 rises n ([] ∷ others) e = let z : _≡_ {A = ℕ} 0 1 = cc in absurd (omega arith)
 rises n ((r ∷ rs) ∷ others) e =
@@ -125,7 +125,7 @@ data From (n : ℕ) : List ℕ → Type 0 where
 from-less : {n m : ℕ} {w : List ℕ} → m ≤ n → From n w → From m w
 from-less h (from {b} l) = from {b = b} (omega arith)
 
-rising-from : {n : ℕ} {alts : List (List Range)} {w : List ℕ} → Rising n alts → Any alts w → From n w
+rising-from : {n : ℕ} {alts : List (List Range)} {w : List ℕ} → FirstRising n alts → Any alts w → From n w
 rising-from (step f l r) (here (on {b = b} p q m)) = from {b = b} (omega arith)
 rising-from (step f l r) (there m) = from-less (omega arith) (rising-from r m)
 
@@ -138,7 +138,7 @@ begins-other : (r : Range) (rs : List Range) {w : List ℕ} (t : List ℕ) → F
 unfolding begins
 begins-other r rs t (from {b} h) = rw (lt-leb b (r .last) h, and-false (leb (r .first) b))
 
-widthBy-of : {n : ℕ} {alts : List (List Range)} {w : List ℕ} (t : List ℕ) → Rising n alts → Any alts w → widthBy alts (w ++ t) ≡ length w
+widthBy-of : {n : ℕ} {alts : List (List Range)} {w : List ℕ} (t : List ℕ) → FirstRising n alts → Any alts w → widthBy alts (w ++ t) ≡ length w
 unfolding widthBy
 widthBy-of t r (here m) = rw (match-begins t m) (of-match m .1)
 widthBy-of t (step {r = r} {rs = rs} f l k) (there m) = rw (begins-other r rs t (rising-from k m)) (widthBy-of t k m)

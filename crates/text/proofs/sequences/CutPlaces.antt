@@ -3,9 +3,10 @@
 --     decode-char, see-char       where a sequence stands, `decodeAt` and `see` read it
 --     decodes                     what `octets` wrote is read back, wherever it stands
 --     boundary                    in a text, the boundaries are the places that do not cut a sequence
+--     first, between              a text begins at a boundary, and is UTF-8 between two of them
 --     sees, skips                 from a boundary, the scanner reads a character as `decodeAt` does, and goes to a boundary
 -- Assumes nothing.
-use Prim.Native.Nat.{ℕ, zero, suc, _+_, _-_, _≤_, _<_}
+use Prim.Native.Nat.{ℕ, zero, suc, _+_, _-_, _≤_, _<_, min}
 use mathlib.Core.Path.{_≡_, refl, sym, ap, subst, _∙_}
 use mathlib.Core.Logic.{_↔_}
 use mathlib.Core.Bool.{Bool, true, false, not}
@@ -18,7 +19,7 @@ use borrow.Author.Tests.{leb-true, leb-false, le-leb, ne-eqb, not-true}
 use Rattle.text.specs.Range.{within}
 use Rattle.text.specs.Walk.{answer, pass, walkFrom}
 use Rattle.text.specs.Utf8.{tail, isChar, Octets, none, next, value, octets, isScalar, decodeFrom, decodeAt, isBoundary}
-use Rattle.text.specs.Scan.{code, rest, seeFrom, see, lookPast, skip}
+use Rattle.text.specs.Scan.{code, rest, seeFrom, see, lookPast, skip, part}
 use Rattle.text.specs.Rfc3629.{Cut}
 use Rattle.text.specs.declared.utf8.Decoded.the-variants as decoded
 use Rattle.text.specs.declared.scanner.Seen.the-variants.{Char}
@@ -27,7 +28,7 @@ use Rattle.text.proofs.sequences.Alternatives.{char-width}
 use Rattle.text.proofs.general.Tests.{both-true}
 use Rattle.text.proofs.sequences.Lengths.{char-some, char-first, char-further}
 use Rattle.text.proofs.sequences.ScalarValues.{writes, reads}
-use Rattle.text.proofs.sequences.Octets.{octets-char, octets-append, walk-char}
+use Rattle.text.proofs.sequences.Octets.{octets-char, octets-append, octets-after, walk-char}
 
 -- ---- a sequence at a place
 
@@ -68,44 +69,57 @@ cut-boundary s n c =
     rw (le-leb n (length s) (c .inside), g)
 
 -- the place n cuts s into two texts that are UTF-8
-abbrev Halves : List ℕ → ℕ → Type 0
-Halves s n = Octets (take n s) × Octets (drop n s)
+abbrev BothOctets : List ℕ → ℕ → Type 0
+BothOctets s n = Octets (take n s) × Octets (drop n s)
 
 -- where no tail stands at n, the place n cuts s in this way
-abbrev Parts : List ℕ → ℕ → Type 0
-Parts s n = n ≤ length s → within tail (getD s n 256) ≡ false → Halves s n
+abbrev CutsApart : List ℕ → ℕ → Type 0
+CutsApart s n = n ≤ length s → within tail (getD s n 256) ≡ false → BothOctets s n
 
-halves-further : (w s : List ℕ) (n : ℕ) → isChar w ≡ true → length w ≤ n → ((m : ℕ) → Parts s m) → Parts (w ++ s) n
-halves-further w s n e l ih h q =
+apart-further : (w s : List ℕ) (n : ℕ) → isChar w ≡ true → length w ≤ n → ((m : ℕ) → CutsApart s m) → CutsApart (w ++ s) n
+apart-further w s n e l ih h q =
     let k : length w + (n - length w) ≡ n = omega arith in
     let m = ih (n - length w) (omega (arith, length-append w s)) (rw (← k, getD-append-add w s (n - length w) 256) at q) in
-    subst (Halves (w ++ s)) k (rw (take-append-add w s (n - length w), drop-append-add w s (n - length w)) (next w e (m .0), m .1))
+    subst (BothOctets (w ++ s)) k (rw (take-append-add w s (n - length w), drop-append-add w s (n - length w)) (next w e (m .0), m .1))
 
 -- a tail stands at every place inside a sequence
-halves-inside : (w s : List ℕ) (n : ℕ) → isChar w ≡ true → 0 < n → n < length w → within tail (getD (w ++ s) n 256) ≡ false → ⊥
-halves-inside w s n e l h q =
+apart-inside : (w s : List ℕ) (n : ℕ) → isChar w ≡ true → 0 < n → n < length w → within tail (getD (w ++ s) n 256) ≡ false → ⊥
+apart-inside w s n e l h q =
     let g = char-further w n 256 e l h in
     let a = List·getD-append w s 256 n h in
     let b = ap (within tail) a in let z : _≡_ {A = ℕ} 0 1 = cc in omega arith
 
-halves : {s : List ℕ} (n : ℕ) → Octets s → Parts s n
-halves n none h q = rw (take-nil {A = ℕ} n, drop-nil {A = ℕ} n) (none, none)
-halves zero (next w e o) h q = (none, next w e o)
-halves (suc n) (next w {s} e o) h q = go (leb (length w) (suc n)) refl (λ m l g. halves m o l g)
+cuts-apart : {s : List ℕ} (n : ℕ) → Octets s → CutsApart s n
+cuts-apart n none h q = rw (take-nil {A = ℕ} n, drop-nil {A = ℕ} n) (none, none)
+cuts-apart zero (next w e o) h q = (none, next w e o)
+cuts-apart (suc n) (next w {s} e o) h q = go (leb (length w) (suc n)) refl (λ m l g. cuts-apart m o l g)
   where
-    go : (x : Bool) → leb (length w) (suc n) ≡ x → ((m : ℕ) → Parts s m) → Halves (w ++ s) (suc n)
-    go true p ih = halves-further w s (suc n) e (leb-true _ _ p) ih h q
-    go false p ih = absurd (halves-inside w s (suc n) e (omega arith) (leb-false _ _ p) q)
+    go : (x : Bool) → leb (length w) (suc n) ≡ x → ((m : ℕ) → CutsApart s m) → BothOctets (w ++ s) (suc n)
+    go true p ih = apart-further w s (suc n) e (leb-true _ _ p) ih h q
+    go false p ih = absurd (apart-inside w s (suc n) e (omega arith) (leb-false _ _ p) q)
 
 boundary-cut : (s : List ℕ) (n : ℕ) → Octets s → isBoundary s n ≡ true → Cut s n
 unfolding isBoundary
 boundary-cut s n o e =
     let b = both-true (leb n (length s)) (not (within tail (getD s n 256))) e in
     let l = leb-true _ _ (b .0) in
-    let h = halves n o l (not-true _ (b .1)) in record { inside = l; before = h .0; after = h .1 }
+    let h = cuts-apart n o l (not-true _ (b .1)) in record { inside = l; before = h .0; after = h .1 }
 
 pub boundary : (s : List ℕ) (n : ℕ) → Octets s → (isBoundary s n ≡ true) ↔ Cut s n
 boundary s n o = (boundary-cut s n o, cut-boundary s n)
+
+pub first : (s : List ℕ) → Octets s → isBoundary s 0 ≡ true
+first s o = cut-boundary s 0 (record { inside = omega arith; before = none; after = o })
+
+pub between : (s : List ℕ) (a e : ℕ) → Octets s → a ≤ e → isBoundary s a ≡ true → isBoundary s e ≡ true → Octets (part s a e)
+between s a e o h p q =
+    let x = boundary-cut s a o p in
+    let y = boundary-cut s e o q in
+    octets-after (part s a e) (x .before) (subst Octets (ap (λ (k : ℕ). take k s) (sum a e (length s) h (y .inside))
+    ∙ take-add a (min e (length s) - a) s) (y .before))
+  where
+    sum : (a e n : ℕ) → a ≤ e → e ≤ n → e ≡ a + (min e n - a)
+    sum a e n h l = omega arith
 
 -- ---- the scanner
 

@@ -91,9 +91,9 @@ record Reached (s : List ℕ) (i : ℕ) (u : List ℕ) : Type 0 where
   pub before : Octets (take i s)
   pub left : u ≡ drop i s
 
-abbrev Outcome : List ℕ → Validity → Type 0
-Outcome s validity.Valid = Octets s
-Outcome s (validity.IllFormed n) = Reached s n (drop n s) × (width (drop n s) ≡ 0)
+abbrev ValidityMeans : List ℕ → Validity → Type 0
+ValidityMeans s validity.Valid = Octets s
+ValidityMeans s (validity.IllFormed n) = Reached s n (drop n s) × (width (drop n s) ≡ 0)
 
 left-length : (s : List ℕ) (i : ℕ) (u : List ℕ) → Reached s i u → length u ≡ length s - i
 left-length s i u r = ap length (r .left) ∙ length-drop i s
@@ -105,22 +105,22 @@ reached-pass s i k u r e =
     let w : Octets (take (suc k) u) = octets-char (take (suc k) u) (rw e at (c .0)) in
     (omega arith, record { inside = omega arith; before = rw (take-add, ← r .left) (octets-append (r .before) w); left = ap (drop (suc k)) (r .left) ∙ drop-drop (suc k) i s })
 
-reached-stop : (s : List ℕ) (i : ℕ) (u : List ℕ) (x : Validity) → Reached s i u → lookValid i u ≡ answer x → Outcome s x
+reached-stop : (s : List ℕ) (i : ℕ) (u : List ℕ) (x : Validity) → Reached s i u → lookValid i u ≡ answer x → ValidityMeans s x
 reached-stop s i u x r q =
     let a = valid-answer i u x q in
-    subst (Outcome s) (a .1) (record { inside = r .inside; before = r .before; left = refl }, ap width (sym (r .left)) ∙ a .0)
+    subst (ValidityMeans s) (a .1) (record { inside = r .inside; before = r .before; left = refl }, ap width (sym (r .left)) ∙ a .0)
 
 reached-end : (s : List ℕ) (i : ℕ) → Reached s i [] → Octets s
 reached-end s i r = let n = left-length s i [] r in rw (take-all i s (omega arith)) at (r .before)
 
-outcome : (s : List ℕ) → Outcome s (validityOf s)
+outcome : (s : List ℕ) → ValidityMeans s (validityOf s)
 unfolding validityOf
 outcome s =
-    walk-keeps lookValid (λ n. validity.Valid) (Reached s) (Outcome s) (λ i k u l r q. reached-pass s i k u r (valid-pass i k u q)) (reached-stop s) (reached-end s) s 0
+    walk-keeps lookValid (λ n. validity.Valid) (Reached s) (ValidityMeans s) (λ i k u l r q. reached-pass s i k u r (valid-pass i k u q)) (reached-stop s) (reached-end s) s 0
     (record { inside = omega arith; before = none; left = refl })
 
-outcome-of : (s : List ℕ) (x : Validity) → validityOf s ≡ x → Outcome s x
-outcome-of s x e = subst (Outcome s) e (outcome s)
+outcome-of : (s : List ℕ) (x : Validity) → validityOf s ≡ x → ValidityMeans s x
+outcome-of s x e = subst (ValidityMeans s) e (outcome s)
 
 pub accepts : (s : List ℕ) → (validityOf s ≡ validity.Valid) ↔ Octets s
 accepts s = (outcome-of s validity.Valid, octets-valid s)

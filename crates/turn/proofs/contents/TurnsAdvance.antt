@@ -1,7 +1,7 @@
 -- Every turn of content goes on, and not past the end, whatever arguments come to; so content is its first turn and then content.
---     end-inside          an argument ends before the text's end
---     content-sound       of `contentTurn`
---     turns-on            content is its first turn and then content
+--     end-inside             an argument ends before the text's end
+--     content-advances       every turn goes on, and not past the end
+--     turns-on               content is its first turn and then content
 -- Assumes nothing.
 use Prim.Native.Nat.{ℕ, zero, suc, _+_, _≤_, _<_, max}
 use native.Mathlib.Omega.{arith}
@@ -27,11 +27,11 @@ use Rattle.command.specs.Commands.{isSingleCharFunc}
 use Rattle.turn.specs.Content.{Part, put, cut, math, Reader, nameEnd, takesOne, opensAt, withName, command, braced, argumentEnd, endTurn, endsAt, ran}
 use Rattle.command.specs.Execute.{absent, executeCommand}
 use Rattle.turn.specs.Content.{backslash, backslashAt, isEscape, begins, maths, closing, hyphens, copy, contentTurn}
-use Rattle.turn.specs.Turns.{turns, Ends}
+use Rattle.turn.specs.Turns.{turns, ArgumentEnds}
 
 -- ---- where an argument ends
 
--- a turn that is done is inside; one that goes on goes on
+-- a turn of the search for an argument's end: an end that is found lies inside the text, and a search that goes on has read something
 abbrev EndsTurn : ℕ → ℕ → OutOf Part → Type 0
 EndsTurn len p (ok e xs) = (p ≤ e) × (e < len)
 EndsTurn len p (again e xs a) = (p < e) × (e ≤ len)
@@ -73,27 +73,27 @@ module _ (s : List ℕ) (p : ℕ) (h : p ≤ length s) where
           two false false k l = tt
 
 ends-after : (s : List ℕ) (p : ℕ) (o : OutOf Part) (g : ℕ → ℕ → OutOf Part) → EndsTurn (length s) p o
-    → ((b q : ℕ) → q ≤ length s → Ends (length s) q (g b q)) → Ends (length s) p (after o g)
+    → ((b q : ℕ) → q ≤ length s → ArgumentEnds (length s) q (g b q)) → ArgumentEnds (length s) p (after o g)
 ends-after s p (ok e xs) g h ih = h
 ends-after s p (again e xs a) g h ih = on (g a e) (ih a e (h .1))
   where
-    on : (o : OutOf Part) → Ends (length s) e o → Ends (length s) p (more xs o)
+    on : (o : OutOf Part) → ArgumentEnds (length s) e o → ArgumentEnds (length s) p (more xs o)
     on (ok r ys) k = (omega (arith, h .0, k .0), k .1)
     on (again r ys b) k = k
     on (bad f) k = tt
 ends-after s p (bad f) g h ih = tt
 
-ends-loop : (n d : ℕ) (s : List ℕ) (p : ℕ) → p ≤ length s → Ends (length s) p (loop endTurn n d s p)
+ends-loop : (n d : ℕ) (s : List ℕ) (p : ℕ) → p ≤ length s → ArgumentEnds (length s) p (loop endTurn n d s p)
 unfolding loop
 ends-loop zero d s p h = tt
 ends-loop (suc n) d s p h = ends-after s p (endTurn d s p) (λ b q. loop endTurn n b s q) (end-turn s p h d) (λ b q k. ends-loop n b s q k)
 
-pub end-inside : (s : List ℕ) (p : ℕ) → p ≤ length s → Ends (length s) p (argumentEnd s p)
+pub end-inside : (s : List ℕ) (p : ℕ) → p ≤ length s → ArgumentEnds (length s) p (argumentEnd s p)
 unfolding argumentEnd many
 end-inside s p h = ends-loop (suc (length s)) 0 s p h
 
-pub end-sound : (d : ℕ) (s : List ℕ) (p : ℕ) → p ≤ length s → Advances 1 0 p (length s) (endTurn d s p)
-end-sound d s p h = by (endTurn d s p) (end-turn s p h d)
+pub end-advances : (d : ℕ) (s : List ℕ) (p : ℕ) → p ≤ length s → Advances 1 0 p (length s) (endTurn d s p)
+end-advances d s p h = by (endTurn d s p) (end-turn s p h d)
   where
     by : (o : OutOf Part) → EndsTurn (length s) p o → Advances 1 0 p (length s) o
     by (ok e xs) k = (omega (arith, k .0), omega (arith, k .1))
@@ -121,7 +121,7 @@ braced-fine argument name s q b h k = by (argumentEnd s b) (end-inside s b k)
     run e l m (again r xs a) = fine-ok s q (e + 1) (omega (arith, h, l)) (omega (arith, m))
     run e l m (bad f) = tt
 
-    by : (o : OutOf Part) → Ends (length s) b o → Fine s q (endsAt o (λ e. ran b name (argument (take e s) b) (λ w. ok (e + 1) (put w ∷ []))))
+    by : (o : OutOf Part) → ArgumentEnds (length s) b o → Fine s q (endsAt o (λ e. ran b name (argument (take e s) b) (λ w. ok (e + 1) (put w ∷ []))))
     by (ok e xs) x = run e (x .0) (x .1) (argument (take e s) b)
     by (again e xs a) x = absurd x
     by (bad f) x = tt
@@ -186,16 +186,16 @@ backslash-fine argument verb s q h = by verb (see s q) refl
 -- ---- a turn
 
 -- a reader from q on, and then the loop
-turned : (s : List ℕ) (p q d : ℕ) (o : OutOf Part) → p < q → q ≤ length s → Fine s q o → Advances 1 0 p (length s) (andThen o (turn d s))
-turned s p q d (ok r xs) h k f = (omega (arith, h, f .0), omega (arith, h, k, f .1))
-turned s p q d (again r xs a) h k f = (omega (arith, h, f .0), omega (arith, h, k, f .1))
-turned s p q d (bad g) h k f = tt
+turn-advances : (s : List ℕ) (p q d : ℕ) (o : OutOf Part) → p < q → q ≤ length s → Fine s q o → Advances 1 0 p (length s) (andThen o (turn d s))
+turn-advances s p q d (ok r xs) h k f = (omega (arith, h, f .0), omega (arith, h, k, f .1))
+turn-advances s p q d (again r xs a) h k f = (omega (arith, h, f .0), omega (arith, h, k, f .1))
+turn-advances s p q d (bad g) h k f = tt
 
 -- by what is seen at p
-eaten-sound : (t : ℕ → Bool) (s : List ℕ) (p : ℕ) (f : ℕ → OutOf Part) (o : OutOf Part)
+eaten-advances : (t : ℕ → Bool) (s : List ℕ) (p : ℕ) (f : ℕ → OutOf Part) (o : OutOf Part)
     → ((c n : ℕ) → see s p ≡ Char c n → p < n → n ≤ length s → t c ≡ true → Advances 1 0 p (length s) (f n)) → Advances 1 0 p (length s) o
     → Advances 1 0 p (length s) (eaten t (see s p) f o)
-eaten-sound t s p f o h k = by (see s p) refl
+eaten-advances t s p f o h k = by (see s p) refl
   where
     by : (v : Seen) → see s p ≡ v → Advances 1 0 p (length s) (eaten t v f o)
     by End e = k
@@ -205,9 +205,9 @@ eaten-sound t s p f o h k = by (see s p) refl
         two true g = g refl
         two false g = k
 
-maths-sound : (d : ℕ) (s : List ℕ) (p : ℕ) → p < length s → Advances 1 0 p (length s) (andThen (maths d s p) (turn d s))
+maths-advances : (d : ℕ) (s : List ℕ) (p : ℕ) → p < length s → Advances 1 0 p (length s) (andThen (maths d s p) (turn d s))
 unfolding maths
-maths-sound d s p h = by (skip (fails test.Dollar) s (p + 1)) (seeing .skip-inside (fails test.Dollar) s (p + 1) (omega (arith, h)))
+maths-advances d s p h = by (skip (fails test.Dollar) s (p + 1)) (seeing .skip-inside (fails test.Dollar) s (p + 1) (omega (arith, h)))
   where
     by : (e : ℕ) → (p + 1 ≤ e) × (e ≤ length s)
         → Advances 1 0 p (length s) (andThen (cond (ltb e (length s)) (ok (e + 1) (cut d p (e + 1) ∷ math (part s (p + 1) e) (p + 1) e ∷ []))
@@ -220,9 +220,9 @@ maths-sound d s p h = by (skip (fails test.Dollar) s (p + 1)) (seeing .skip-insi
         two true m = let k = m refl in (omega (arith, l .0), omega (arith, k))
         two false m = tt
 
-hyphens-sound : (d : ℕ) (s : List ℕ) (p c n : ℕ) → see s p ≡ Char c n → eqb c 0x2D ≡ true → Advances 1 0 p (length s) (andThen (hyphens s p) (turn d s))
+hyphens-advances : (d : ℕ) (s : List ℕ) (p c n : ℕ) → see s p ≡ Char c n → eqb c 0x2D ≡ true → Advances 1 0 p (length s) (andThen (hyphens s p) (turn d s))
 unfolding hyphens
-hyphens-sound d s p c n e t =
+hyphens-advances d s p c n e t =
     let a = seeing .see-ahead s p c n e in
     rw (e, t) (by (see s n) refl (a .0) (a .1))
   where
@@ -254,16 +254,16 @@ and-left : (a b : Bool) → (a && b) ≡ true → a ≡ true
 and-left true b h = refl
 and-left false b h = h
 
-pub content-sound : (argument : Reader) (verb : Bool) (d : ℕ) (s : List ℕ) (p : ℕ) → Advances 1 0 p (length s) (contentTurn argument verb d s p)
+pub content-advances : (argument : Reader) (verb : Bool) (d : ℕ) (s : List ℕ) (p : ℕ) → Advances 1 0 p (length s) (contentTurn argument verb d s p)
 unfolding contentTurn closing
-content-sound argument verb d s p =
-    eaten-sound (is 0x5C) s p _ _ (λ c n e h k t. turned s p n d (backslash argument verb s n) h k (backslash-fine argument verb s n k))
-    (eaten-sound (λ c. eqb c 0x24 && not verb) s p _ _ (λ c n e h k t. maths-sound d s p (omega (arith, h, k)))
-    (eaten-sound (is 0x7B) s p _ _ (λ c n e h k t. (omega arith, omega (arith, h, k)))
-    (eaten-sound (is 0x7D) s p _ _ (λ c n e h k t. closes d (omega (arith, h, k)))
-    (eaten-sound (λ c. eqb c 0x2D && not verb) s p _ _ (λ c n e h k t. hyphens-sound d s p c n e (and-left (eqb c 0x2D) (not verb) t))
-    (eaten-sound isWhitespace s p _ _ (λ c n e h k t. blank c n e h k t)
-    (eaten-sound any s p _ _ (λ c n e h k t. one c n e h k) (omega arith, omega arith)))))))
+content-advances argument verb d s p =
+    eaten-advances (is 0x5C) s p _ _ (λ c n e h k t. turn-advances s p n d (backslash argument verb s n) h k (backslash-fine argument verb s n k))
+    (eaten-advances (λ c. eqb c 0x24 && not verb) s p _ _ (λ c n e h k t. maths-advances d s p (omega (arith, h, k)))
+    (eaten-advances (is 0x7B) s p _ _ (λ c n e h k t. (omega arith, omega (arith, h, k)))
+    (eaten-advances (is 0x7D) s p _ _ (λ c n e h k t. closes d (omega (arith, h, k)))
+    (eaten-advances (λ c. eqb c 0x2D && not verb) s p _ _ (λ c n e h k t. hyphens-advances d s p c n e (and-left (eqb c 0x2D) (not verb) t))
+    (eaten-advances isWhitespace s p _ _ (λ c n e h k t. blank c n e h k t)
+    (eaten-advances any s p _ _ (λ c n e h k t. one c n e h k) (omega arith, omega arith)))))))
   where
     closes : (d : ℕ) → p < length s → Advances 1 0 p (length s) (closing d s p)
     closes zero h = tt
@@ -280,4 +280,4 @@ content-sound argument verb d s p =
 
 pub turns-on : (argument : Reader) (verb : Bool) (d : ℕ) (s : List ℕ) (p : ℕ)
     → turns argument verb d s p ≡ after (contentTurn argument verb d s p) (λ b q. turns argument verb b s q)
-turns-on argument verb d s p = advancing-turn 0 (contentTurn argument verb) (λ d s p. content-sound argument verb d s p) d s p
+turns-on argument verb d s p = advancing-turn 0 (contentTurn argument verb) (λ d s p. content-advances argument verb d s p) d s p

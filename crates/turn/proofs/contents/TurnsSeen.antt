@@ -95,7 +95,7 @@ turn-blank argument verb d s p c n e w =
     ∙ rw (white-other c 0x5C refl w, white-other c 0x24 refl w, white-other c 0x7B refl w, white-other c 0x7D refl w, white-other c 0x2D refl w, w)
     refl
 
--- a character that is no other case of a turn
+-- a character that a turn copies: it is none of the other cases of a turn
 pub record Itself (verb : Bool) (c : ℕ) : Type 0 where
   pub slash : eqb c 0x5C ≡ false
   pub dollar : (eqb c 0x24 && not verb) ≡ false

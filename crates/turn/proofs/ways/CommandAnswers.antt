@@ -7,7 +7,7 @@ use mathlib.Core.Bool.{Bool, true, false, cond, not, _&&_, _||_}
 use mathlib.Core.List.{List, [], _∷_}
 use lib.ListN.{length, getD}
 use lib.Dec.{eqb, ltb}
-use borrow.Author.Tests.{eqb-true, eqb-false, eq-eqb, ne-eqb, ltb-true, ltb-false}
+use borrow.Author.Tests.{eqb-true, eqb-false, eq-eqb, ne-eqb, ltb-true, ltb-false, not-true}
 use Rattle.text.specs.Class.{isWhitespace, isControl}
 use Rattle.text.specs.Scan.{see, nextOf, skip, part, Inside}
 use Rattle.text.specs.declared.scanner.Seen.{Seen}
@@ -19,7 +19,7 @@ use Rattle.row.specs.Fault.{faultAt}
 use Rattle.raw.specs.declared.answer.Step.{Step}
 use Rattle.raw.specs.declared.answer.Step.the-variants as step
 use Rattle.raw.specs.Reader.{OutOf, ok, again, bad}
-use Rattle.text.proofs.general.Tests.{both-true}
+use Rattle.text.proofs.general.Tests.{both-true, both-false}
 use Rattle.command.specs.declared.meaning.Meaning.{Meaning}
 use Rattle.command.specs.Stack.{Lays}
 use Rattle.command.specs.Commands.{meaningOf}
@@ -29,7 +29,7 @@ use Rattle.turn.specs.Content.{Part, Reader, isEscape, begins, nameEnd, 
 use Rattle.turn.specs.declared.turn.Text.{Text}
 use Rattle.turn.specs.declared.turn.Text.the-variants as text
 use Rattle.turn.specs.Turns.{turns, opened, isSign, endsText, SaysText, Grows, Behind, Took, endOf, EndInside, Ordinary}
-use Rattle.turn.specs.Turns.{Ends}
+use Rattle.turn.specs.Turns.{ArgumentEnds}
 use Rattle.turn.proofs.contents.TurnsAdvance.{end-inside, opens-inside}
 use Rattle.turn.proofs.contents.TurnsSeen.{stopped, slash-end-verb, slash-end, slash-escape, slash-verb, took-one, took-none, took-endless, took-argument}
 use Rattle.turn.proofs.ways.TextTurns.{wrote-one, says-put, says-as}
@@ -107,7 +107,7 @@ module _ (s : List ℕ) (p c m n : ℕ) (o : List ℕ) (h : Behind s p c m) (k :
           less : (x y : ℕ) → suc x ≡ suc y → x ≡ y
           less x y e = omega (arith, e)
 
-          by : (O : OutOf Part) → argumentEnd s (w + 1) ≡ O → endOf O ≡ step.At a → Ends (length s) (w + 1) O → (argument : Reader) (d : ℕ)
+          by : (O : OutOf Part) → argumentEnd s (w + 1) ≡ O → endOf O ≡ step.At a → ArgumentEnds (length s) (w + 1) O → (argument : Reader) (d : ℕ)
               → turns argument false d s p ≡ opened argument false d s p f (w + 1) a
           by (ok e₁ xs) q₁ r₁ in₁ argument d =
               took-argument argument d s p (h .inside) (h .backslash) c m (h .seen) (h .command) k f w i j (sym x ∙ e) is-open a xs
@@ -176,11 +176,7 @@ begins-so c h e k f = rw (sym h ∙ e, sym k ∙ f) refl
 
 -- a sign x that is one unless the field is verbatim
 pub sign-tests : (x b : ℕ) (verb : Bool) → (eqb b x && not verb) ≡ true → (b ≡ x) × (verb ≡ false)
-sign-tests x b verb h = let y = both-true (eqb b x) (not verb) h in (eqb-true b x (y .0), no verb (y .1))
-  where
-    no : (v : Bool) → not v ≡ true → v ≡ false
-    no true h = sym h
-    no false h = refl
+sign-tests x b verb h = let y = both-true (eqb b x) (not verb) h in (eqb-true b x (y .0), not-true verb (y .1))
 
 pub no-sign : (x b : ℕ) (verb : Bool) → (eqb b x && not verb) ≡ false → b ≡ x → verb ≡ true
 no-sign x b verb h e = by verb (ap (λ (w : Bool). w && not verb) (sym (eq-eqb b x e)) ∙ h)
@@ -188,10 +184,6 @@ no-sign x b verb h e = by verb (ap (λ (w : Bool). w && not verb) (sym (eq-eqb b
     by : (v : Bool) → not v ≡ false → v ≡ true
     by true h = refl
     by false h = sym h
-
-neither : (a b : Bool) → (a || b) ≡ false → (a ≡ false) × (b ≡ false)
-neither true b h = let z : _≡_ {A = ℕ} 0 1 = ap (λ (w : Bool). cond w 0 1) h in absurd (omega (arith, z))
-neither false b h = (refl, h)
 
 -- a place past the end has no sign
 none-there : (s : List ℕ) (i : ℕ) → length s ≤ i → getD s i 0 ≡ 0
@@ -213,17 +205,13 @@ sign-inside verb s i h = by (ltb i (length s)) refl
 
 pub ordinary : (verb : Bool) (b : ℕ) → isSign verb b ≡ false → Ordinary verb b
 ordinary verb b h =
-    let x = neither (eqb b 0x7B || eqb b 0x7D) (eqb b 0x24 && not verb) h in
-    let y = neither (eqb b 0x7B) (eqb b 0x7D) (x .0) in
+    let x = both-false (eqb b 0x7B || eqb b 0x7D) (eqb b 0x24 && not verb) h in
+    let y = both-false (eqb b 0x7B) (eqb b 0x7D) (x .0) in
     (eqb-false b 0x7B (y .0), eqb-false b 0x7D (y .1), no-sign 0x24 b verb (x .1))
 
--- which sign it is
+-- which sign a byte is
 pub sign-dollar : (verb : Bool) (b : ℕ) → isSign verb b ≡ true → b ≡ 0x24 → verb ≡ false
-sign-dollar verb b h e = by verb (sym (ap (isSign verb) e) ∙ h)
-  where
-    by : (v : Bool) → not v ≡ true → v ≡ false
-    by true h = sym h
-    by false h = refl
+sign-dollar verb b h e = not-true verb (sym (ap (isSign verb) e) ∙ h)
 
 pub sign-closing : (verb : Bool) (b : ℕ) → isSign verb b ≡ true → (b ≡ 0x7B → ⊥) → (b ≡ 0x24 → ⊥) → b ≡ 0x7D
 sign-closing verb b h x y = by (eqb b 0x7D) refl
@@ -237,7 +225,7 @@ sign-closing verb b h x y = by (eqb b 0x7D) refl
 
 -- where text does not end, and where it does
 pub not-ends : (verb : Bool) (b : ℕ) → endsText verb b ≡ false → Ordinary verb b × (b ≡ 0x5C → ⊥)
-not-ends verb b h = let x = neither (eqb b 0x5C) (isSign verb b) h in (ordinary verb b (x .1), eqb-false b 0x5C (x .0))
+not-ends verb b h = let x = both-false (eqb b 0x5C) (isSign verb b) h in (ordinary verb b (x .1), eqb-false b 0x5C (x .0))
 
 pub ends-not : (verb : Bool) (b : ℕ) → endsText verb b ≡ true → Ordinary verb b → (b ≡ 0x5C → ⊥) → ⊥
 ends-not verb b h k n = by (sign-tests 0x24 b verb (sym (rw (ne-eqb b 0x5C n, ne-eqb b 0x7B (k .0), ne-eqb b 0x7D (k .1)) refl) ∙ h))

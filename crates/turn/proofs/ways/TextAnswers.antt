@@ -1,4 +1,5 @@
--- What the functions of src/turn.rt answer, in the form of their proofs: the calls' answers in, `SaysText` and `GrowsText` out.
+-- What `other`, `back_blank` and `back_control` of src/turn.rt answer, in the form of their proofs: from the answers of the calls to `SaysText`
+-- and `Grows`.
 -- Assumes nothing.
 use Prim.Native.Nat.{ℕ, _+_, _-_, _*_, _≤_, _<_}
 use native.Mathlib.Omega.{arith}

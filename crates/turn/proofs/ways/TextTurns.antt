@@ -1,8 +1,8 @@
 -- Turns that write text, as the functions of src/turn.rt answer them.
---     wrote-one, wrote-two                    one turn; two
---     plain-copies, wide-copies, blank-copies turns that copy what stands there
---     runs-.., wrote-.., grows-on             many turns, one behind the other
---     says-.., grows-..                       by what a function answers
+--     wrote-one, wrote-two                         one turn; two turns
+--     plain-copies, wide-copies, blank-copies      turns that copy what stands there
+--     runs-.., wrote-.., grows-on                  many turns, one behind the other
+--     says-.., grows-..                            what a function's answer says, and its bounds
 -- Assumes nothing.
 use Prim.Native.Nat.{ℕ, _+_, _-_, _≤_, _<_, max}
 use native.Mathlib.Omega.{arith}
@@ -11,7 +11,7 @@ use mathlib.Core.Bool.{Bool, true, false, cond, not, _&&_}
 use mathlib.Core.List.{List, [], _∷_, _++_, map, append-assoc, append-nil, map-append}
 use lib.ListN.{length, take, drop, getD}
 use lib.Dec.{T, eqb, ltb}
-use borrow.Author.Tests.{ltb-true}
+use borrow.Author.Tests.{ltb-true, not-true}
 use Rattle.text.specs.Class.{isWhitespace, whiteSpace}
 use Rattle.text.specs.Scan.{see, skip, part, code, rest}
 use Rattle.text.specs.declared.scanner.Seen.the-variants.{Char}
@@ -26,7 +26,7 @@ use Rattle.command.proofs.stacks.LaysLaws.{lays-as, lays-on}
 use Rattle.turn.specs.declared.turn.Text.{Text}
 use Rattle.turn.specs.declared.turn.Text.the-variants as text
 use Rattle.turn.specs.Content.{Part, put, Reader, contentTurn}
-use Rattle.turn.specs.Turns.{turns, concat, Copies, Steps, Runs, Wrote, SaysText, isPlain, GrowsText, Grows}
+use Rattle.turn.specs.Turns.{turns, concat, Copies, CopiesOne, CopiesAll, Wrote, SaysText, isPlain, GrowsText, Grows}
 use Rattle.turn.proofs.contents.TurnsSeen.{leads, Itself, turn-copy, turn-blank}
 
 pub more-more : (xs ys : List Part) (o : OutOf Part) → more xs (more ys o) ≡ more (xs ++ ys) o
@@ -76,10 +76,6 @@ is-true : (a : Bool) → T a → a ≡ true
 is-true true t = refl
 is-true false t = absurd t
 
-is-not : (a : Bool) → not a ≡ true → a ≡ false
-is-not true h = sym h
-is-not false h = refl
-
 nor : (a b : Bool) → a ≡ false → (a && b) ≡ false
 nor a b h = rw h refl
 
@@ -93,12 +89,12 @@ plain-itself verb b h =
     let o = both-true (not (eqb b 0x7D)) _ (i .1) in
     let u = both-true (not (eqb b 0x2D)) _ (o .1) in
     record {
-      slash = is-not _ (a .0);
-      dollar = nor (eqb b 0x24) (not verb) (is-not _ (e .0));
-      opening = is-not _ (i .0);
-      closing = is-not _ (o .0);
-      hyphen = nor (eqb b 0x2D) (not verb) (is-not _ (u .0));
-      white = is-not _ (u .1);
+      slash = not-true _ (a .0);
+      dollar = nor (eqb b 0x24) (not verb) (not-true _ (e .0));
+      opening = not-true _ (i .0);
+      closing = not-true _ (o .0);
+      hyphen = nor (eqb b 0x2D) (not verb) (not-true _ (u .0));
+      white = not-true _ (u .1);
     }
 
 -- a character that is no white space, from a byte that is not ASCII
@@ -137,13 +133,13 @@ blank-copies s p q l b h e argument verb d =
     same : 0x20 ∷ [] ≡ part s p q
     same = sym (ap (part s p) e ∙ part-head s p (p + 1) (omega arith) (omega (arith, l)) ∙ rw (b, part-none s (p + 1)) refl)
 
-pub steps-none : (s : List ℕ) (p : ℕ) → p < length s → Steps s p p
+pub steps-none : (s : List ℕ) (p : ℕ) → p < length s → CopiesOne s p p
 steps-none s p l = record { from = omega arith; to = omega (arith, l); copies = λ h. absurd (omega (arith, h)) }
 
-pub steps-blank : (s : List ℕ) (p q : ℕ) → p < length s → getD s p 0 ≡ 0x20 → q ≡ skip isWhitespace s p → q ≡ p + 1 → Steps s p q
+pub steps-blank : (s : List ℕ) (p q : ℕ) → p < length s → getD s p 0 ≡ 0x20 → q ≡ skip isWhitespace s p → q ≡ p + 1 → CopiesOne s p q
 steps-blank s p q l b h e = record { from = omega (arith, e); to = omega (arith, e, l); copies = λ k. blank-copies s p q l b h e }
 
-pub steps-wide : (s : List ℕ) (p c n : ℕ) → 0x80 ≤ getD s p 0 → see s p ≡ Char c n → isWhitespace c ≡ false → Steps s p n
+pub steps-wide : (s : List ℕ) (p c n : ℕ) → 0x80 ≤ getD s p 0 → see s p ≡ Char c n → isWhitespace c ≡ false → CopiesOne s p n
 steps-wide s p c n h e w =
     let a = seeing .see-ahead s p c n e in
     record { from = omega (arith, a .0); to = a .1; copies = λ k. wide-copies s p c n h e w }
@@ -167,7 +163,7 @@ concat-one w = append-nil w
 puts-on : (a b : List (List ℕ)) (o : OutOf Part) → more (map put a) (more (map put b) o) ≡ more (map put (a ++ b)) o
 puts-on a b o = more-more (map put a) (map put b) o ∙ ap (λ (xs : List Part). more xs o) (sym (map-append put a b))
 
-pub runs-none : (s : List ℕ) (p : ℕ) → Runs s p p
+pub runs-none : (s : List ℕ) (p : ℕ) → CopiesAll s p p
 unfolding concat
 runs-none s p = record {
   from = omega arith;
@@ -177,7 +173,7 @@ runs-none s p = record {
   leads = λ argument verb d. sym (none (turns argument verb d s p));
 }
 
-pub runs-on : (s : List ℕ) (p i r : ℕ) → Runs s p i → i < r → r ≤ length s → Copies s i r → Runs s p r
+pub runs-on : (s : List ℕ) (p i r : ℕ) → CopiesAll s p i → i < r → r ≤ length s → Copies s i r → CopiesAll s p r
 runs-on s p i r h a l t = record {
   from = omega (arith, h .from, a);
   to = omega (arith, l);
@@ -199,7 +195,7 @@ wrote-none verb s p n o = record {
   lays = record { end = omega arith; text = sym (append-nil (take n o)) };
 }
 
-pub wrote-run : (verb : Bool) (s : List ℕ) (p n : ℕ) (o : List ℕ) (r l : ℕ) (o′ : List ℕ) → Runs s p r → Lays n (part s p r) o l o′
+pub wrote-run : (verb : Bool) (s : List ℕ) (p n : ℕ) (o : List ℕ) (r l : ℕ) (o′ : List ℕ) → CopiesAll s p r → Lays n (part s p r) o l o′
     → Wrote verb s p n o r l o′
 wrote-run verb s p n o r l o′ h y = record {
   texts = h .texts;
@@ -219,7 +215,7 @@ wrote-on verb s p n o q k o₁ r l o₂ x y = record {
 
 -- a run behind turns that wrote text
 pub wrote-more : (verb : Bool) (s : List ℕ) (p n : ℕ) (o : List ℕ) (i l : ℕ) (o₁ : List ℕ) (j k : ℕ) (o₂ : List ℕ) → Wrote verb s p n o i l o₁
-    → Runs s i j → Lays l (part s i j) o₁ k o₂ → Wrote verb s p n o j k o₂
+    → CopiesAll s i j → Lays l (part s i j) o₁ k o₂ → Wrote verb s p n o j k o₂
 wrote-more verb s p n o i l o₁ j k o₂ x h y = wrote-on verb s p n o i l o₁ j k o₂ x (wrote-run verb s i l o₁ j k o₂ h y)
 
 pub grows-more : (len p n i l j k : ℕ) → Grows len 0 p n i l → i ≤ j → j ≤ max i len → k + i ≡ l + j → Grows len 0 p n j k

@@ -1,7 +1,7 @@
 -- The ways through the functions of src/turn.rt.
 --     hyphen-one, hyphen-two, hyphen-three       `hyphens`
 --     itself-of                                  `other`
---     back-blank, back-control                   a backslash before white space or a control character
+--     back-turn, blank-turn, control-turn        a backslash before white space or a control character, and then that character
 --     end-off, end-open, end-close, end-found    `argument_end`
 -- Assumes nothing.
 use Prim.Native.Nat.{ℕ, zero, suc, _+_, _-_, _≤_, _<_}
@@ -28,15 +28,12 @@ use Rattle.raw.specs.Grammar.{is}
 use Rattle.raw.proofs.readers.Kept.{Advances}
 use Rattle.raw.proofs.readers.Loop.{advancing-turn}
 use Rattle.text.proofs.general.Parts.{part-head}
+use Rattle.text.proofs.general.Tests.{true-not-false}
 use Rattle.turn.specs.Content.{Part, put, begins, hyphens, endTurn}
 use Rattle.turn.specs.Turns.{Behind, Ordinary, endOf}
-use Rattle.turn.proofs.contents.TurnsAdvance.{end-sound}
+use Rattle.turn.proofs.contents.TurnsAdvance.{end-advances}
 use Rattle.turn.proofs.contents.TurnsSeen.{turn-hyphens, turn-blank, turn-copy, Itself, slash-back}
 use Rattle.turn.proofs.ways.TextTurns.{Turns}
-
-no-loop : {A : Type 0} (b : Bool) → b ≡ true → b ≡ false → A
-no-loop true h k = let z : _≡_ {A = ℕ} 0 1 = ap (λ (b : Bool). cond b 0 1) k in absurd (omega (arith, z))
-no-loop false h k = let z : _≡_ {A = ℕ} 0 1 = ap (λ (b : Bool). cond b 1 0) h in absurd (omega (arith, z))
 
 -- ---- `hyphens`
 
@@ -57,12 +54,12 @@ module _ (s : List ℕ) (p : ℕ) (l : p < length s) (b : getD s p 0 ≡ 0x2D) w
   unfolding hyphens
   first = rw (seeing .at-byte s p 0x2D l b (omega arith)) refl
 
-  turned : (q : ℕ) (w : List ℕ) → second (see s (p + 1)) ≡ ok q (put w ∷ []) → Turns false s p w q
-  turned q w e argument d = turn-hyphens argument false d s p l b refl ∙ ap (λ (o : OutOf Part). andThen o (turn d s)) (first ∙ e)
+  turn-puts : (q : ℕ) (w : List ℕ) → second (see s (p + 1)) ≡ ok q (put w ∷ []) → Turns false s p w q
+  turn-puts q w e argument d = turn-hyphens argument false d s p l b refl ∙ ap (λ (o : OutOf Part). andThen o (turn d s)) (first ∙ e)
 
   module _ (two : ℕ) (h : two ≡ pastOne (single 0x2D) (p + 1) (see s (p + 1))) where
     pub hyphen-one : two ≡ p + 1 → Turns false s p (0x2D ∷ []) (p + 1)
-    hyphen-one e = turned (p + 1) (0x2D ∷ []) (by (see s (p + 1)) refl (sym h ∙ e))
+    hyphen-one e = turn-puts (p + 1) (0x2D ∷ []) (by (see s (p + 1)) refl (sym h ∙ e))
       where
         by : (v : Seen) → see s (p + 1) ≡ v → pastOne (single 0x2D) (p + 1) v ≡ p + 1 → second v ≡ ok (p + 1) (put (0x2D ∷ []) ∷ [])
         by End q k = refl
@@ -87,7 +84,7 @@ module _ (s : List ℕ) (p : ℕ) (l : p < length s) (b : getD s p 0 ≡ 0x2D) w
 
       module _ (three : ℕ) (k : three ≡ pastOne (single 0x2D) two (see s two)) where
         pub hyphen-two : three ≡ two → Turns false s p enDash two
-        hyphen-two f = turned two enDash (on ∙ by (see s two) refl (sym k ∙ f))
+        hyphen-two f = turn-puts two enDash (on ∙ by (see s two) refl (sym k ∙ f))
           where
             by : (v : Seen) → see s two ≡ v → pastOne (single 0x2D) two v ≡ two → third two v ≡ ok two (put enDash ∷ [])
             by End q k = refl
@@ -99,7 +96,7 @@ module _ (s : List ℕ) (p : ℕ) (l : p < length s) (b : getD s p 0 ≡ 0x2D) w
                 pick false a k = refl
 
         pub hyphen-three : (three ≡ two → ⊥) → Turns false s p emDash three
-        hyphen-three f = turned three emDash (on ∙ by (see s two) refl k)
+        hyphen-three f = turn-puts three emDash (on ∙ by (see s two) refl k)
           where
             by : (v : Seen) → see s two ≡ v → three ≡ pastOne (single 0x2D) two v → third two v ≡ ok three (put emDash ∷ [])
             by End q k = absurd (f k)
@@ -159,7 +156,7 @@ pub blank-turn : (verb : Bool) (s : List ℕ) (p c n : ℕ) → see s p ≡ Char
 blank-turn verb s p c n e w argument d = turn-blank argument verb d s p c n e w
 
 control-apart : (c x : ℕ) → isControl x ≡ false → isControl c ≡ true → eqb c x ≡ false
-control-apart c x h w = ne-eqb c x (λ e. no-loop (isControl c) w (ap isControl e ∙ h))
+control-apart c x h w = ne-eqb c x (λ e. true-not-false (isControl c) w (ap isControl e ∙ h))
 
 pub control-turn : (s : List ℕ) (p c n : ℕ) → see s p ≡ Char c n → isControl c ≡ true → isWhitespace c ≡ false → Turns false s p (part s p n) n
 unfolding isControl control
@@ -177,20 +174,20 @@ copy-turn verb s p c n e k argument d = turn-copy argument verb d s p c n e k
 
 -- ---- `argument_end`
 
-sound-any : (d : ℕ) (s : List ℕ) (p : ℕ) → Advances 1 0 p (length s) (endTurn d s p)
+any-advances : (d : ℕ) (s : List ℕ) (p : ℕ) → Advances 1 0 p (length s) (endTurn d s p)
 unfolding endTurn
-sound-any d s p = by (leb p (length s)) refl
+any-advances d s p = by (leb p (length s)) refl
   where
     past : (d : ℕ) → length s ≤ p → Advances 1 0 p (length s) (endTurn d s p)
     past zero h = rw (seeing .skip-end (fails test.Brace) s p h, seeing .see-end s p h) tt
     past (suc d) h = rw (seeing .skip-end (fails test.Brace) s p h, seeing .see-end s p h) tt
 
     by : (w : Bool) → leb p (length s) ≡ w → Advances 1 0 p (length s) (endTurn d s p)
-    by true e = end-sound d s p (leb-true p (length s) e)
+    by true e = end-advances d s p (leb-true p (length s) e)
     by false e = past d (omega (arith, leb-false p (length s) e))
 
 end-un : (d : ℕ) (s : List ℕ) (p : ℕ) → many endTurn d s p ≡ after (endTurn d s p) (λ b q. many endTurn b s q)
-end-un d s p = advancing-turn 0 endTurn sound-any d s p
+end-un d s p = advancing-turn 0 endTurn any-advances d s p
 
 end-more : (xs : List Part) (o : OutOf Part) → endOf (more xs o) ≡ endOf o
 end-more xs (ok q ys) = refl
@@ -214,7 +211,7 @@ module _ (d : ℕ) (s : List ℕ) (i j : ℕ) (h : j ≡ skip (fails test.Brace)
       none (suc d) = rw (sym h, seeing .see-end s j l) refl
 
   module _ (l : j < length s) where
-    -- it is a brace
+    -- the byte at j is an opening brace
     brace : getD s j 0 ≡ 0x7B → see s j ≡ Char 0x7B (j + 1)
     brace e = seeing .at-byte s j 0x7B l e (omega arith)
 
@@ -226,7 +223,7 @@ module _ (d : ℕ) (s : List ℕ) (i j : ℕ) (h : j ≡ skip (fails test.Brace)
         opens zero = rw (sym h, brace e) refl
         opens (suc d) = rw (sym h, brace e) refl
 
-    -- and the other one if not that
+    -- where the byte at j is no opening brace, it is a closing one
     closes : (getD s j 0 ≡ 0x7B → ⊥) → see s j ≡ Char 0x7D (j + 1)
     unfolding holdsOf
     closes n = by (eqb (code (drop j s)) 0x7B) (eqb (code (drop j s)) 0x7D) refl refl
@@ -240,7 +237,7 @@ module _ (d : ℕ) (s : List ℕ) (i j : ℕ) (h : j ≡ skip (fails test.Brace)
         by true y p q f = absurd (n (seeing .byte-of s j _ _ (seen ∙ ap (λ (c : ℕ). Char c (j + 1 + rest (drop j s))) (eqb-true _ _ p)) (omega arith)))
         by false true p q f = seeing .at-byte s j 0x7D l (seeing .byte-of s j _ _ (seen ∙ ap (λ (c : ℕ). Char c (j + 1 + rest (drop j s))) (eqb-true _ _ q))
             (omega arith)) (omega arith)
-        by false false p q f = no-loop (fails test.Brace (code (drop j s))) (rw (p, q) refl)
+        by false false p q f = true-not-false (fails test.Brace (code (drop j s))) (rw (p, q) refl)
             (ap (λ (j : ℕ). fails test.Brace (code (drop j s))) h ∙ f)
 
     module _ (n : getD s j 0 ≡ 0x7B → ⊥) where

@@ -1,6 +1,6 @@
 -- The search for a month word, from the first on.
 --     Seeking                                no word before number i is the name's
---     seek-starts, seek-room, seek-word      the beginning, and what is there
+--     seek-starts, seek-room, seek-word      where the search begins; a month's four numbers are there, and its word lies in the lent bytes
 --     seek-hit, seek-on, seek-none           the ways through `find_month`
 -- Assumes nothing.
 use Prim.Native.Nat.{ℕ, _+_, _-_, _%_, _≤_, _<_}
@@ -18,7 +18,8 @@ use Rattle.text.proofs.general.Tests.{both-true}
 use Rattle.row.specs.Numbers.{rowsOf}
 use Rattle.row.specs.Laid.{rowAt}
 use Rattle.row.proofs.Laid.{laid}
-use Rattle.text.specs.Same.{sameBytes}
+use Rattle.text.specs.SameBytes.{sameBytes}
+use Rattle.text.specs.Every.{every}
 use Rattle.resolve.specs.Checks.{monthIn, monthsOf, isValid, isText, isMonth, everyMonth, areMonths}
 use Rattle.values.specs.declared.months.Month.the-variants as found
 use Rattle.values.specs.Field.{monthOf}
@@ -49,7 +50,7 @@ module _ (months words name : List ℕ) where
 
     module _ (h : i < length months) where
       both : (isMonth words (rowAt months i) && everyMonth words (rowsOf (drop (i + 4) months))) ≡ true
-      unfolding everyMonth
+      unfolding every
       both = rw (laid .rows-next months i (seek-room h)) at (s .left)
 
       texts : (isText words (getD months i 0) (getD months (i + 1) 0) ≡ true) × (isText words (getD months (i + 2) 0) (getD months (i + 3) 0) ≡ true)

@@ -13,6 +13,7 @@ use lib.Seq.{getD-take}
 use borrow.Author.Tests.{eq-eqb, ne-eqb, lt-ltb, le-ltb}
 use Rattle.text.proofs.general.Places.{drop-next}
 use Rattle.row.specs.declared.fault.Reason.the-variants.{UnknownAbbreviation, Cyclic, TooDeep, TooManyNames}
+use Rattle.row.specs.Limits.{mostNames}
 use Rattle.values.specs.declared.elements.Meaning.{Meaning}
 use Rattle.values.specs.declared.elements.Meaning.the-variants as meaning
 use Rattle.values.specs.declared.elements.Allowed.{Allowed}
@@ -46,13 +47,13 @@ module _ (path : List ℕ) (used i k : ℕ) where
 pub limit-deep : (left names : ℕ) → left ≡ 0 → allowed.No TooDeep ≡ limits left names
 limit-deep left names e = rw e
 
-pub limit-many : (left names : ℕ) → (left ≡ 0 → ⊥) → 4096 ≤ names → allowed.No TooManyNames ≡ limits left names
+pub limit-many : (left names : ℕ) → (left ≡ 0 → ⊥) → mostNames ≤ names → allowed.No TooManyNames ≡ limits left names
 limit-many zero names n h = absurd (n refl)
-limit-many (suc left) names n h = rw (le-ltb names 4096 h)
+limit-many (suc left) names n h = rw (le-ltb names mostNames h)
 
-pub limit-none : (left names : ℕ) → (left ≡ 0 → ⊥) → names < 4096 → allowed.Yes ≡ limits left names
+pub limit-none : (left names : ℕ) → (left ≡ 0 → ⊥) → names < mostNames → allowed.Yes ≡ limits left names
 limit-none zero names n h = absurd (n refl)
-limit-none (suc left) names n h = rw (lt-ltb names 4096 h)
+limit-none (suc left) names n h = rw (lt-ltb names mostNames h)
 
 -- ---- one use
 

@@ -1,9 +1,9 @@
 -- The elements of a value, row by row.
 --     element-end, element-literal, element-name, element-other      the ways through `element_at` of src/elements.rt
---     Placed, placed, spans-from                                     where an element stands
---     value-end                                                      the ways through `value`: no element more,
---     literal-on, literal-stopped, name-on, name-stopped             and a literal or a name
---     sound-on                                                       what is asked further on
+--     ElementPlaced, placed, spans-from                              where an element stands
+--     value-end                                                      the way through `value` where no element is left
+--     literal-on, literal-stopped, name-on, name-stopped             the ways through `value` at a literal and at a name
+--     ready-value-on                                                 what `value` requires holds further on
 -- Assumes nothing.
 use Prim.Native.Nat.{ℕ, zero, suc, _+_, _*_, _/_, _%_, _≤_, _<_}
 use native.Mathlib.Omega.{arith}
@@ -15,6 +15,8 @@ use lib.Dec.{leb, ltb}
 use borrow.Author.Tests.{leb-true, leb-false, eq-eqb, ne-eqb}
 use Rattle.text.specs.Scan.{part}
 use Rattle.text.proofs.general.Tests.{both-true}
+use Rattle.text.specs.Every.{every}
+use Rattle.text.proofs.general.Lists.{every-drop}
 use Rattle.row.specs.declared.fault.Fault.{Fault}
 use Rattle.row.specs.declared.fault.Reason.the-variants.{TooDeep, TooManyNames}
 use Rattle.row.specs.declared.form.Kind.the-variants.{Literal, Name}
@@ -23,6 +25,7 @@ use Rattle.row.specs.Rules.{isKind}
 use Rattle.row.specs.Numbers.{rowsOf, areRows}
 use Rattle.row.specs.Laid.{rowAt}
 use Rattle.row.proofs.Laid.{laid}
+use Rattle.row.specs.Limits.{mostNames}
 use Rattle.literal.specs.Literal.{resolveLiteral}
 use Rattle.resolve.specs.declared.progress.Progress.{Progress}
 use Rattle.resolve.specs.declared.progress.Went.{Went}
@@ -35,9 +38,9 @@ use Rattle.resolve.proofs.Asking.{asking}
 use Rattle.values.specs.declared.elements.Element.{Element}
 use Rattle.values.specs.declared.elements.Element.the-variants as element
 use Rattle.values.specs.Field.{onward, walk, elements, Meaning, definition}
-use Rattle.values.specs.Field.{month, unknown, meaningOf, known, opened, atUse, elementsOf, parseField, mostNames, name}
+use Rattle.values.specs.Field.{month, unknown, meaningOf, known, opened, atUse, elementsOf, parseField, name}
 use Rattle.values.specs.Field as field
-use Rattle.values.specs.Uses.{firstElement, valueFrom, Sound}
+use Rattle.values.specs.Uses.{firstElement, valueFrom, ReadyValue}
 use Rattle.values.proofs.ways.RunWays.{says-end, says-on, says-stopped}
 
 -- ---- `element_at`
@@ -58,18 +61,12 @@ module _ (rows : List ℕ) (i : ℕ) where
 
 -- ---- where elements stand
 
-spans-drop : (file : List ℕ) (k : ℕ) (rs : List Row) → everySpan file rs ≡ true → everySpan file (drop k rs) ≡ true
-unfolding everySpan
-spans-drop file zero rs h = h
-spans-drop file (suc k) [] h = refl
-spans-drop file (suc k) (r ∷ rs) h = spans-drop file k rs (both-true (isSpan file (r .start) (r .end)) (everySpan file rs) h .1)
-
 pub spans-from : (file rows months words : List ℕ) (i : ℕ) → areLent file rows months words ≡ true → i % 4 ≡ 0 → everySpan file (rowsOf (drop i rows)) ≡ true
 unfolding areLent
 spans-from file rows months words i h m =
     let spans = both-true (everySpan file (rowsOf rows)) (areMonths months words) (both-true (areRows rows) _ h .1) .0 in
     ap (λ (rs : List Row). everySpan file rs) (sym (laid .rows-by (i / 4) rows ∙ ap (λ (n : ℕ). rowsOf (drop n rows)) (whole i m)))
-    ∙ spans-drop file (i / 4) (rowsOf rows) spans
+    ∙ every-drop (λ (r : Row). isSpan file (r .start) (r .end)) (i / 4) (rowsOf rows) spans
   where
     whole : (i : ℕ) → i % 4 ≡ 0 → i / 4 * 4 ≡ i
     whole i m = omega arith
@@ -79,21 +76,21 @@ unfolding areLent
 months-of file rows months words h = both-true (everySpan file (rowsOf rows)) (areMonths months words) (both-true (areRows rows) _ h .1) .1
 
 -- the element at number i is a row with a span in the file, and so are the rows behind it
-abbrev pub Place : List ℕ → List ℕ → ℕ → ℕ → ℕ → Type 0
-Place file rows i a e = (i + 4 ≤ length rows) × (a ≤ e) × (e ≤ length file) × (everySpan file (rowsOf (drop (i + 4) rows)) ≡ true)
+abbrev pub ElementSpan : List ℕ → List ℕ → ℕ → ℕ → ℕ → Type 0
+ElementSpan file rows i a e = (i + 4 ≤ length rows) × (a ≤ e) × (e ≤ length file) × (everySpan file (rowsOf (drop (i + 4) rows)) ≡ true)
 
-abbrev pub Placed : List ℕ → List ℕ → ℕ → Element → Type 0
-Placed file rows i (element.Literal a e) = Place file rows i a e
-Placed file rows i (element.Name a e) = Place file rows i a e
-Placed file rows i element.Nothing = Unit {0}
+abbrev pub ElementPlaced : List ℕ → List ℕ → ℕ → Element → Type 0
+ElementPlaced file rows i (element.Literal a e) = ElementSpan file rows i a e
+ElementPlaced file rows i (element.Name a e) = ElementSpan file rows i a e
+ElementPlaced file rows i element.Nothing = Unit {0}
 
 pub placed : (file rows : List ℕ) (i : ℕ) → everySpan file (rowsOf (drop i rows)) ≡ true → (v : Element) → v ≡ firstElement (rowsOf (drop i rows))
-    → (w : Element) → v ≡ w → Placed file rows i w
-unfolding everySpan
-placed file rows i h v p w q = subst (Placed file rows i) (sym p ∙ q) (by (leb (i + 4) (length rows)) refl)
+    → (w : Element) → v ≡ w → ElementPlaced file rows i w
+unfolding every
+placed file rows i h v p w q = subst (ElementPlaced file rows i) (sym p ∙ q) (by (leb (i + 4) (length rows)) refl)
   where
-    at-row : (r : Row) (x y : Bool) → Place file rows i (r .start) (r .end)
-        → Placed file rows i (cond x (element.Literal (r .start) (r .end)) (cond y (element.Name (r .start) (r .end)) element.Nothing))
+    at-row : (r : Row) (x y : Bool) → ElementSpan file rows i (r .start) (r .end)
+        → ElementPlaced file rows i (cond x (element.Literal (r .start) (r .end)) (cond y (element.Name (r .start) (r .end)) element.Nothing))
     at-row r true y p = p
     at-row r false true p = p
     at-row r false false p = tt
@@ -104,14 +101,14 @@ placed file rows i h v p w q = subst (Placed file rows i) (sym p ∙ q) (by (leb
         both-true (isSpan file (getD rows (i + 2) 0) (getD rows (i + 3) 0)) (everySpan file (rowsOf (drop (i + 4) rows)))
         (sym (ap (λ (rs : List Row). everySpan file rs) (laid .rows-next rows i l)) ∙ h)
 
-    by : (x : Bool) → leb (i + 4) (length rows) ≡ x → Placed file rows i (firstElement (rowsOf (drop i rows)))
+    by : (x : Bool) → leb (i + 4) (length rows) ≡ x → ElementPlaced file rows i (firstElement (rowsOf (drop i rows)))
     by true e =
         let l = leb-true (i + 4) (length rows) e in
         let ends = asking .span-ends file (getD rows (i + 2) 0) (getD rows (i + 3) 0) (both l .0) in
-        subst (λ (rs : List Row). Placed file rows i (firstElement rs)) (sym (laid .rows-next rows i l))
+        subst (λ (rs : List Row). ElementPlaced file rows i (firstElement rs)) (sym (laid .rows-next rows i l))
         (at-row (rowAt rows i) (isKind Literal (getD rows i 0)) (isKind Name (getD rows i 0)) (l, ends .0, ends .1, both l .1))
     by false e =
-        subst (λ (rs : List Row). Placed file rows i (firstElement rs)) (sym (laid .rows-end rows i (leb-false (i + 4) (length rows) e))) tt
+        subst (λ (rs : List Row). ElementPlaced file rows i (firstElement rs)) (sym (laid .rows-end rows i (leb-false (i + 4) (length rows) e))) tt
 
 -- ---- what a first element comes to
 
@@ -246,12 +243,12 @@ module _ (l : Lent) (verb : Bool) (left : ℕ) (path rows : List ℕ) (i : ℕ) 
       pub name-stopped : (f : Fault) → r ≡ went.Refused f → SaysRun here st b t (went.Refused f) b₁ t₁
       name-stopped = turn-stopped (name l verb left path₁ (row Name a e) (st .names)) name-here k
 
--- ---- what is asked further on
+-- ---- what `value` requires holds further on
 
-pub sound-on : (file rows months words heads next w byName byMark held : List ℕ) (left : ℕ) (w′ held′ : List ℕ)
-    → Sound file rows months words heads next w byName byMark held left → length w′ ≡ length w → length held′ ≡ length held
-    → Sound file rows months words heads next w′ byName byMark held′ left
-sound-on file rows months words heads next w byName byMark held left w′ held′ h e f = record {
+pub ready-value-on : (file rows months words heads next w byName byMark held : List ℕ) (left : ℕ) (w′ held′ : List ℕ)
+    → ReadyValue file rows months words heads next w byName byMark held left → length w′ ≡ length w → length held′ ≡ length held
+    → ReadyValue file rows months words heads next w′ byName byMark held′ left
+ready-value-on file rows months words heads next w byName byMark held left w′ held′ h e f = record {
   short = h .short;
   lent = h .lent;
   index = h .index;

@@ -1,9 +1,9 @@
 -- The ways through `name` of src/elements.rt.
 --     name-refused                       the use is not allowed
---     name-definition, name-month        it is, and the name has a definition, or is a month word
---     name-known                         a name that is allowed means something
---     some-left                          and may be opened
---     path-more, sound-down              what `value` asks of it
+--     name-definition, name-month        the use is allowed, and the name has a definition, or is a month word
+--     name-known                         a name whose use is allowed means something
+--     some-left                          a name whose use is allowed is within both limits
+--     path-more, ready-value-down        what `value` requires of `name`
 -- Assumes nothing.
 use Prim.Native.Nat.{ℕ, zero, suc, _+_, _-_, _*_, _≤_}
 use native.Mathlib.Omega.{arith}
@@ -21,6 +21,7 @@ use Rattle.row.specs.declared.fault.Reason.the-variants.{Cyclic, TooManyNames}
 use Rattle.row.specs.Row.{Row}
 use Rattle.row.specs.Numbers.{rowsOf}
 use Rattle.row.proofs.Laid.{laid}
+use Rattle.row.specs.Limits.{mostOpen, mostNames}
 use Rattle.chunk.specs.declared.form.Kind.the-variants.{Normal}
 use Rattle.chunk.specs.Chunk.{Chunk, chunk}
 use Rattle.resolve.specs.declared.progress.Progress.{Progress}
@@ -34,8 +35,8 @@ use Rattle.values.specs.declared.elements.Meaning.the-variants as meanin
 use Rattle.values.specs.declared.elements.Allowed.{Allowed}
 use Rattle.values.specs.declared.elements.Allowed.the-variants as allowed
 use Rattle.values.specs.Field.{Meaning, definition, month, unknown, meaningOf, onPath}
-use Rattle.values.specs.Field.{known, opened, atUse, element, elements, parseField, flattened, mostNames, name}
-use Rattle.values.specs.Uses.{Means, limits, allowedOf, valueFrom, Sound}
+use Rattle.values.specs.Field.{known, opened, atUse, element, elements, parseField, flattened, name}
+use Rattle.values.specs.Uses.{Means, limits, allowedOf, valueFrom, ReadyValue}
 use Rattle.values.proofs.ways.RunWays.{says-flat, says-from}
 use Rattle.values.proofs.ways.ElementWays.{inside}
 
@@ -62,7 +63,7 @@ orRefused allowed.Yes r go = go
 orRefused (allowed.No reason) r go = atUse reason r
 
 module _ (l : Lent) (verb : Bool) (path : List ℕ) (r : Row) (n : ℕ) where
-  -- with so many names left to open
+  -- what a name comes to that is neither unknown nor cyclic, with `left` names left to open
   abbrev limited : ℕ → Meaning → Run
   limited left m = orRefused (limits left n) r (opened r n m (inside l verb (left - 1) path n))
 
@@ -97,18 +98,18 @@ module _ (l : Lent) (verb : Bool) (path : List ℕ) (r : Row) (n : ℕ) where
   used words left unknown (meaning.Month a e) h = absurd h
   used words left unknown meaning.Unknown h = refl
 
-some-limits : (left n : ℕ) → limits left n ≡ allowed.Yes → (1 ≤ left) × (n + 1 ≤ 4096)
+some-limits : (left n : ℕ) → limits left n ≡ allowed.Yes → (1 ≤ left) × (n + 1 ≤ mostNames)
 some-limits zero n h = let z : _≡_ {A = ℕ} 0 1 = cc in absurd (omega arith)
 some-limits (suc left) n h = by (ltb n mostNames) refl h
   where
-    by : (x : Bool) → ltb n mostNames ≡ x → cond x allowed.Yes (allowed.No TooManyNames) ≡ allowed.Yes → (1 ≤ suc left) × (n + 1 ≤ 4096)
-    by true e k = let less = ltb-true n 4096 e in (omega arith, omega arith)
+    by : (x : Bool) → ltb n mostNames ≡ x → cond x allowed.Yes (allowed.No TooManyNames) ≡ allowed.Yes → (1 ≤ suc left) × (n + 1 ≤ mostNames)
+    by true e k = let less = ltb-true n mostNames e in (omega arith, omega arith)
     by false e k = let z : _≡_ {A = ℕ} 0 1 = cc in absurd (omega arith)
 
-pub some-left : (x : code.Meaning) (path : List ℕ) (left n : ℕ) → allowedOf x path left n ≡ allowed.Yes → (1 ≤ left) × (n + 1 ≤ 4096)
+pub some-left : (x : code.Meaning) (path : List ℕ) (left n : ℕ) → allowedOf x path left n ≡ allowed.Yes → (1 ≤ left) × (n + 1 ≤ mostNames)
 some-left (meaning.Definition i) path left n h = by (onPath i path) h
   where
-    by : (y : Bool) → cond y (allowed.No Cyclic) (limits left n) ≡ allowed.Yes → (1 ≤ left) × (n + 1 ≤ 4096)
+    by : (y : Bool) → cond y (allowed.No Cyclic) (limits left n) ≡ allowed.Yes → (1 ≤ left) × (n + 1 ≤ mostNames)
     by true k = let z : _≡_ {A = ℕ} 0 1 = cc in absurd (omega arith)
     by false k = some-limits left n k
 some-left (meaning.Month a e) path left n h = some-limits left n h
@@ -133,7 +134,7 @@ module _ (l : Lent) (verb : Bool) (left : ℕ) (path : List ℕ) (r : Row) (st :
       (sym (decided (allowed.No reason) e)) refl
 
   module _ (yes : a ≡ allowed.Yes) where
-    pub name-left : (1 ≤ left) × (st .names + 1 ≤ 4096)
+    pub name-left : (1 ≤ left) × (st .names + 1 ≤ mostNames)
     name-left = some-left m path left (st .names) (sym told ∙ yes)
 
     pub name-known : m ≡ meaning.Unknown → ⊥
@@ -172,7 +173,7 @@ module _ (l : Lent) (verb : Bool) (left : ℕ) (path : List ℕ) (r : Row) (st :
               ∙ ap (λ (ps : List ℕ). flattened (valueFrom l verb (left - 1) ps (rowsOf (drop (i * 4 + 8) rows)) (st₁ .names))) (sym q)
               ∙ ap (λ (n : ℕ). flattened (valueFrom l verb n path₁ (rowsOf (drop (i * 4 + 8) rows)) (st₁ .names))) (sym u)
 
-      -- or it is a month word, and `month` answered
+      -- the name is a month word, and `month` answered
       pub name-month : (x y : ℕ) → m ≡ meaning.Month x y → (st₂ : Progress) (b₁ t₁ : List ℕ) → st₂ .names ≡ st₁ .names
           → Adds (chunk Normal (part words x y) (r .start) (r .end) ∷ []) st₁ b t st₂ b₁ t₁ → SaysRun here st b t (went.Done st₂) b₁ t₁
       name-month x y e st₂ b₁ t₁ p k =
@@ -188,25 +189,25 @@ module _ (l : Lent) (verb : Bool) (left : ℕ) (path : List ℕ) (r : Row) (st :
 -- ---- the definitions that are being resolved
 
 -- one definition more
-pub path-more : (held : List ℕ) (left i : ℕ) → length held ≡ 32 → 1 ≤ left → left ≤ 32
-    → take (32 - (left - 1)) (set held (32 - left) i) ≡ take (32 - left) held ++ i ∷ []
+pub path-more : (held : List ℕ) (left i : ℕ) → length held ≡ mostOpen → 1 ≤ left → left ≤ mostOpen
+    → take (mostOpen - (left - 1)) (set held (mostOpen - left) i) ≡ take (mostOpen - left) held ++ i ∷ []
 path-more held left i e l m =
-    ap (λ (n : ℕ). take n (set held (32 - left) i)) (next left l m) ∙ take-suc-set held (32 - left) i (omega arith)
+    ap (λ (n : ℕ). take n (set held (mostOpen - left) i)) (next left l m) ∙ take-suc-set held (mostOpen - left) i (omega arith)
   where
-    next : (left : ℕ) → 1 ≤ left → left ≤ 32 → 32 - (left - 1) ≡ suc (32 - left)
+    next : (left : ℕ) → 1 ≤ left → left ≤ mostOpen → mostOpen - (left - 1) ≡ suc (mostOpen - left)
     next left l m = omega arith
 
--- those before it are as they were
-pub path-back : (held held′ : List ℕ) (left i : ℕ) → 1 ≤ left → left ≤ 32
-    → take (32 - (left - 1)) held′ ≡ take (32 - (left - 1)) (set held (32 - left) i) → take (32 - left) held′ ≡ take (32 - left) held
+-- the definitions before it are as they were
+pub path-back : (held held′ : List ℕ) (left i : ℕ) → 1 ≤ left → left ≤ mostOpen
+    → take (mostOpen - (left - 1)) held′ ≡ take (mostOpen - (left - 1)) (set held (mostOpen - left) i) → take (mostOpen - left) held′ ≡ take (mostOpen - left) held
 path-back held held′ left i l m e =
-    sym (take-take (32 - left) (32 - (left - 1)) held′ (omega arith)) ∙ ap (take (32 - left)) e
-    ∙ take-take (32 - left) (32 - (left - 1)) (set held (32 - left) i) (omega arith) ∙ take-set-le (32 - left) held (32 - left) i (omega arith)
+    sym (take-take (mostOpen - left) (mostOpen - (left - 1)) held′ (omega arith)) ∙ ap (take (mostOpen - left)) e
+    ∙ take-take (mostOpen - left) (mostOpen - (left - 1)) (set held (mostOpen - left) i) (omega arith) ∙ take-set-le (mostOpen - left) held (mostOpen - left) i (omega arith)
 
-pub sound-down : (file rows months words heads next w byName byMark held : List ℕ) (left : ℕ) (held′ : List ℕ)
-    → Sound file rows months words heads next w byName byMark held left → length held′ ≡ length held
-    → Sound file rows months words heads next w byName byMark held′ (left - 1)
-sound-down file rows months words heads next w byName byMark held left held′ h e = record {
+pub ready-value-down : (file rows months words heads next w byName byMark held : List ℕ) (left : ℕ) (held′ : List ℕ)
+    → ReadyValue file rows months words heads next w byName byMark held left → length held′ ≡ length held
+    → ReadyValue file rows months words heads next w byName byMark held′ (left - 1)
+ready-value-down file rows months words heads next w byName byMark held left held′ h e = record {
   short = h .short;
   lent = h .lent;
   index = h .index;

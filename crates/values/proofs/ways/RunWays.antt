@@ -1,7 +1,7 @@
 -- Elements of a value, one behind the other, as the code goes through them.
 --     says-end, says-on, says-stopped        no element more; one that came to chunks; one that was refused
---     says-flat                              chunks that are flattened by themselves flatten with those before as they were
---     says-from                              from a state that has the same chunks
+--     says-flat                              it makes no difference whether chunks are flattened before they are appended
+--     says-from                              a run goes on alike from a state that has the same chunks
 -- Assumes nothing.
 use Prim.Native.Nat.{ℕ}
 use mathlib.Core.Path.{_≡_, refl, sym, ap, subst, _∙_}
@@ -50,7 +50,7 @@ pub says-stopped : (run : Run) (g : ℕ → Run) (st : Progress) (b t : List ℕ
 says-stopped (done cs n) g st b t f b₁ t₁ h = absurd h
 says-stopped (stop x) g st b t f b₁ t₁ h = h
 
--- ---- flattened by themselves
+-- ---- flattened before they are appended
 
 has-flat : (ps cs : List Chunk) (b₀ t₀ : List ℕ) (st : Progress) (b t : List ℕ) → Has (ps ++ cs) b₀ t₀ st b t → Has (ps ++ flatten cs) b₀ t₀ st b t
 has-flat ps cs b₀ t₀ st b t h = record {

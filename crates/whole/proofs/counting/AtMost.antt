@@ -1,27 +1,30 @@
 -- What the literals of a value come to at most.
---     few-flat                      flattened chunks are no more than they were
---     none-most, literal-most       no element more, and a literal
---     row-there                     a literal is a whole row
---     spans, sums                   the tests of `most_of`
---     summed-none, summed-on, summed-end        `most_of`: the beginning, one literal more, and the end
---     field-under                   a value comes to no more than its elements
+--     few-flat                                 flattened chunks are no more than they were
+--     none-most, literal-most                  no element more, and a literal
+--     row-there                                a literal is a whole row
+--     spans, sums                              the tests of `most_of`
+--     summed-none, summed-on, summed-end       `most_of`: the beginning, one literal more, and the end
+--     field-under                              a value comes to no more than its elements
 -- Assumes nothing.
-use Prim.Native.Nat.{ℕ, suc, _+_, _-_, _*_, _≤_, min}
+use Prim.Native.Nat.{ℕ, suc, _+_, _-_, _*_, _≤_}
 use native.Mathlib.Omega.{arith}
 use native.Mathlib.Numerals.{add-one}
 use mathlib.Core.Path.{_≡_, refl, sym, ap, subst, _∙_}
 use mathlib.Core.Bool.{Bool, true, false, cond, _||_}
 use mathlib.Core.List.{List, [], _∷_}
-use lib.ListN.{length, drop, length-append, length-take}
+use lib.ListN.{length, drop, length-append}
 use lib.Dec.{leb, ltb}
 use borrow.Author.Tests.{leb-true, leb-false, ltb-false}
 use Rattle.text.specs.Scan.{part}
+use Rattle.text.proofs.general.Tests.{both-false}
+use Rattle.text.proofs.general.Parts.{part-size}
 use Rattle.row.specs.declared.form.Kind.the-variants.{Literal, Name}
 use Rattle.row.specs.Row.{Row}
 use Rattle.row.specs.Rules.{isKind}
 use Rattle.row.specs.Numbers.{rowsOf}
 use Rattle.row.specs.Laid.{rowAt}
 use Rattle.row.proofs.Laid.{laid}
+use Rattle.row.specs.Limits.{mostOpen, mostWritten}
 use Rattle.chunk.specs.Chunk.{Chunk}
 use Rattle.turn.specs.Content.{joins, join, flattenFrom, flatten}
 use Rattle.literal.specs.Literal.{Resolved, chunks, resolveLiteral}
@@ -29,16 +32,14 @@ use Rattle.literal.specs.Literal as literal
 use Rattle.literal.specs.Rows.{textsOf}
 use Rattle.literal.proofs.Flattening.{flattening}
 use Rattle.literal.proofs.WellFormed.{well-formed}
-use Rattle.resolve.specs.Resolves.{mostWritten}
 use Rattle.resolve.specs.Checks.{Lent}
 use Rattle.resolve.specs.Runs.{Run, done, stop, ofLiteral}
 use Rattle.values.specs.declared.elements.Element.{Element}
 use Rattle.values.specs.declared.elements.Element.the-variants as element
-use Rattle.values.specs.Field.{behind, onward, walk, elements, ofRun, flattened, name, mostOpen, fieldOf}
+use Rattle.values.specs.Field.{behind, onward, walk, elements, ofRun, flattened, name, fieldOf}
 use Rattle.values.specs.Field as field
 use Rattle.values.specs.Uses.{firstElement}
-use Rattle.whole.specs.Bounds.{Within, AtMost, Under}
-use Rattle.whole.proofs.counting.CountWays.{either-false}
+use Rattle.whole.specs.Bounds.{RunAtMost, AtMost, Under}
 
 -- ---- chunks
 
@@ -56,15 +57,12 @@ pub few-flat : (cs : List Chunk) → length (flatten cs) ≤ length cs
 few-flat [] = omega arith
 few-flat (c ∷ cs) = few-from cs c
 
-part-size : (s : List ℕ) (a e : ℕ) → length (part s a e) ≤ e - a
-part-size s a e = omega (arith, length-take (min e (length s) - a) (drop a s))
-
 -- ---- runs
 
-onward-within : (x : Run) (g : ℕ → Run) (n m p q : ℕ) → Within x n m → ((k : ℕ) → Within (g k) p q) → Within (onward x g) (n + p) (m + q)
+onward-within : (x : Run) (g : ℕ → Run) (n m p q : ℕ) → RunAtMost x n m → ((k : ℕ) → RunAtMost (g k) p q) → RunAtMost (onward x g) (n + p) (m + q)
 onward-within (done cs k) g n m p q h f = by (g k) (f k)
   where
-    by : (y : Run) → Within y p q → Within (behind cs y) (n + p) (m + q)
+    by : (y : Run) → RunAtMost y p q → RunAtMost (behind cs y) (n + p) (m + q)
     by (done ds j) i = (
       omega (arith, h .0, i .0, length-append cs ds),
       omega (arith, h .1, i .1, ap length (flattening .texts-both cs ds), length-append (textsOf cs) (textsOf ds)),
@@ -73,13 +71,13 @@ onward-within (done cs k) g n m p q h f = by (g k) (f k)
 onward-within (stop f) g n m p q h i = tt
 
 literal-within : (verb : Bool) (file : List ℕ) (a e k : ℕ)
-    → Within (ofLiteral (resolveLiteral verb (part file a e) a) k) (e - a + 1) (2 * (e - a))
+    → RunAtMost (ofLiteral (resolveLiteral verb (part file a e) a) k) (e - a + 1) (2 * (e - a))
 literal-within verb file a e k =
     by (resolveLiteral verb (part file a e) a) (well-formed .few verb (part file a e) a) (well-formed .twice verb (part file a e) a)
   where
     by : (x : Resolved) → ((cs : List Chunk) → x ≡ chunks cs → length cs ≤ length (part file a e) + 1)
         → ((cs : List Chunk) → x ≡ chunks cs → length (textsOf cs) ≤ 2 * length (part file a e))
-        → Within (ofLiteral x k) (e - a + 1) (2 * (e - a))
+        → RunAtMost (ofLiteral x k) (e - a + 1) (2 * (e - a))
     by (chunks cs) f t = (omega (arith, f cs refl, part-size file a e), omega (arith, t cs refl, part-size file a e))
     by (literal.refused g) f t = tt
 
@@ -108,7 +106,7 @@ pub none-most : (rs : List Row) → firstElement rs ≡ element.Nothing → AtMo
 unfolding walk elements textsOf
 none-most [] h l verb name k = (omega arith, omega arith)
 none-most (r ∷ rs) h l verb name k =
-    subst (λ (b : Bool). Within (walk (field.element l verb name) (cond b (r ∷ elements rs) []) k) 0 0) (sym (no-row r rs h)) (omega arith, omega arith)
+    subst (λ (b : Bool). RunAtMost (walk (field.element l verb name) (cond b (r ∷ elements rs) []) k) 0 0) (sym (no-row r rs h)) (omega arith, omega arith)
 
 pub literal-most : (r : Row) (ss : List Row) (a e n m : ℕ) → firstElement (r ∷ ss) ≡ element.Literal a e → AtMost ss n m
     → AtMost (r ∷ ss) (e - a + 1 + n) (2 * (e - a) + m)
@@ -118,7 +116,7 @@ literal-most r ss a e n m h f l verb name k =
     let one = field.element l verb name in
     let first = ofLiteral (resolveLiteral verb (part (l .file) a e) a) k in
     let is : walk one (elements (r ∷ ss)) k ≡ onward first (walk one (elements ss)) = (rw (t .0, t .0, t .1, t .2)) in
-    subst (λ (x : Run). Within x (e - a + 1 + n) (2 * (e - a) + m)) (sym is)
+    subst (λ (x : Run). RunAtMost x (e - a + 1 + n) (2 * (e - a) + m)) (sym is)
     (onward-within first (walk one (elements ss)) (e - a + 1) (2 * (e - a)) n m (literal-within verb (l .file) a e k) (f l verb name))
 
 -- ---- the loop
@@ -134,12 +132,12 @@ row-there rows i a e h = by (leb (i + 4) (length rows)) refl
 
 -- the tests of the code
 pub spans : (a e : ℕ) → (ltb e a || ltb mostWritten e) ≡ false → (a ≤ e) × (e ≤ mostWritten)
-spans a e h = let t = either-false (ltb e a) (ltb mostWritten e) h in (ltb-false e a (t .0), ltb-false mostWritten e (t .1))
+spans a e h = let t = both-false (ltb e a) (ltb mostWritten e) h in (ltb-false e a (t .0), ltb-false mostWritten e (t .1))
 
 pub sums : (n m : ℕ) → (ltb mostWritten n || ltb mostWritten m) ≡ false → (n ≤ mostWritten) × (m ≤ mostWritten)
-sums n m h = let t = either-false (ltb mostWritten n) (ltb mostWritten m) h in (ltb-false mostWritten n (t .0), ltb-false mostWritten m (t .1))
+sums n m h = let t = both-false (ltb mostWritten n) (ltb mostWritten m) h in (ltb-false mostWritten n (t .0), ltb-false mostWritten m (t .1))
 
--- the literals from number i to number j come to n and m at most, and those from j on to what comes on top
+-- the literals from number i to number j add at most n chunks and m bytes to what the elements from j on come to
 abbrev pub Summed : List ℕ → ℕ → ℕ → ℕ → ℕ → Type 0
 Summed rows i n m j = (p q : ℕ) → AtMost (rowsOf (drop j rows)) p q → AtMost (rowsOf (drop i rows)) (n + p) (m + q)
 
@@ -171,7 +169,7 @@ summed-end rows i n m j s v w x =
 
 -- ---- the value
 
-flat-under : (x : Run) (n m : ℕ) → Within x n m → Under (ofRun (flattened x)) n m
+flat-under : (x : Run) (n m : ℕ) → RunAtMost x n m → Under (ofRun (flattened x)) n m
 unfolding textsOf
 flat-under (done cs k) n m h = (omega (arith, few-flat cs, h .0), omega (arith, ap length (flattening .texts-flat cs), h .1))
 flat-under (stop f) n m h = (omega arith, omega arith)

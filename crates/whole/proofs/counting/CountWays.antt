@@ -1,10 +1,9 @@
 -- Values counted one after the other.
---     none-counted                        `none`
---     clash, either-false                 a test that is true and false, and two of which neither is true
---     much, much-not, add-much, add-on    `add`: too much, and not
---     counted-on                          `add_counted`: the value that was counted
---     resolving, few-values, count-flag   what `count` asks: the values so far are no more than the rows, and the next one has a flag
---     count-start, count-value, count-other, count-end      `count`: the beginning, one row more, and the end
+--     none-counted                                       `none`
+--     much, much-not, add-much, add-on                   `add`, where there is more than can be written and where there is not
+--     counted-on                                         `add_counted`: the value that was counted
+--     resolving, few-values, count-flag                  what `count` has to show: the values so far are no more than the rows, the next has a flag
+--     count-start, count-value, count-other, count-end   `count`: the beginning, one row more, and the end
 -- Assumes nothing.
 use Prim.Native.Nat.{ℕ, _+_, _/_, _≤_, _<_}
 use native.Mathlib.Omega.{arith}
@@ -14,28 +13,23 @@ use mathlib.Core.List.{List, [], _∷_, _++_}
 use lib.ListN.{length, drop, length-append}
 use lib.Dec.{ltb}
 use borrow.Author.Tests.{ltb-false, le-ltb, le-leb}
+use Rattle.text.proofs.general.Tests.{true-not-false, both-false}
 use Rattle.literal.specs.Rows.{textsOf}
 use Rattle.lookup.specs.Names.{rowNo}
 use Rattle.resolve.specs.declared.progress.Went.{Went}
 use Rattle.resolve.specs.declared.progress.Went.the-variants as went
-use Rattle.resolve.specs.Resolves.{Value, resolved, refused, mostWritten, small}
+use Rattle.resolve.specs.Resolves.{Value, resolved, refused, small}
 use Rattle.resolve.specs.Checks.{Lent}
 use Rattle.resolve.specs.Progress.{Counted}
 use Rattle.values.specs.Field.{fieldOf}
 use Rattle.fields.specs.OneField.{Resolving}
 use Rattle.whole.specs.declared.file.Totals.{Totals}
 use Rattle.whole.specs.WholeFile.{isValueRow, flag, values, results, chunksIn, texts, countRows, smallAll}
-use Rattle.whole.specs.Filing.{Filing, CountsAll, Begun, Sized, AddsTo, AddsCounted}
+use Rattle.whole.specs.Filing.{Filing, CountsAll, CountedTo, Sized, AddsTo, AddsCounted}
 use Rattle.whole.proofs.values.Appended.{rows-one, text-more}
 use Rattle.whole.proofs.values.Fitting.{small-counts, counts-small}
 use Rattle.whole.proofs.values.RowByRow.{valueOf, so-start, so-other, so-value, so-flag, so-end}
-
-pub clash : {A : Type 0} (b : Bool) → b ≡ true → b ≡ false → A
-clash b p q = let z : _≡_ {A = ℕ} 0 1 = cc in absurd (omega arith)
-
-pub either-false : (a b : Bool) → (a || b) ≡ false → (a ≡ false) × (b ≡ false)
-either-false true b e = clash true refl e
-either-false false b e = (refl, e)
+use Rattle.row.specs.Limits.{mostWritten}
 
 -- ---- no value
 
@@ -52,9 +46,9 @@ module _ (t : Totals) (n m : ℕ) (over : Bool) where
 
   pub much-not : much ≡ false → (t .over ≡ false) × (over ≡ false) × (t .rows + n ≤ mostWritten) × (t .bytes + m ≤ mostWritten)
   much-not e =
-      let a = either-false ((t .over || over) || ltb mostWritten (t .rows + n)) (ltb mostWritten (t .bytes + m)) e in
-      let b = either-false (t .over || over) (ltb mostWritten (t .rows + n)) (a .0) in
-      let d = either-false (t .over) over (b .0) in
+      let a = both-false ((t .over || over) || ltb mostWritten (t .rows + n)) (ltb mostWritten (t .bytes + m)) e in
+      let b = both-false (t .over || over) (ltb mostWritten (t .rows + n)) (a .0) in
+      let d = both-false (t .over) over (b .0) in
       (d .0, d .1, ltb-false mostWritten (t .rows + n) (b .1), ltb-false mostWritten (t .bytes + m) (a .1))
 
   module _ (vs : List Value) (v : Value) (k : CountsAll vs t) (z : Sized v n m over) where
@@ -85,15 +79,15 @@ module _ (t : Totals) (n m : ℕ) (over : Bool) where
     not-small e = by (smallAll more) refl
       where
         by : (b : Bool) → smallAll more ≡ b → smallAll more ≡ false
-        by true h = clash much e (small-then h)
+        by true h = true-not-false much e (small-then h)
         by false h = h
 
     much-counts : much ≡ true → (r : Totals) → r .values ≡ t .values + 1 → r .over ≡ true → CountsAll more r
     much-counts e r p o = record {
       values = one-longer r p;
       over = o ∙ sym (ap not (not-small e));
-      rows = λ q. clash (r .over) o q;
-      bytes = λ q. clash (r .over) o q;
+      rows = λ q. true-not-false (r .over) o q;
+      bytes = λ q. true-not-false (r .over) o q;
     }
 
     on-counts : much ≡ false → (r : Totals) → r .values ≡ t .values + 1 → r .rows ≡ t .rows + n → r .bytes ≡ t .bytes + m → r .over ≡ false
@@ -129,7 +123,7 @@ counted-on (refused g) (went.Refused f) k t r a vs c = a vs (refused g) c (refl,
 
 -- ---- all of them
 
--- what counting or writing the value of row i asks
+-- what counting or writing the value of row i requires
 pub resolving : (file rows flags months words heads next w byName byMark : List ℕ) → Filing file rows flags months words heads next w byName byMark
     → (w′ : List ℕ) → length w′ ≡ length w → (i : ℕ) → i < length rows / 4 → Resolving file rows months words heads next w′ byName byMark i
 resolving file rows flags months words heads next w byName byMark p w′ e i h = record {
@@ -141,10 +135,10 @@ resolving file rows flags months words heads next w byName byMark p w′ e i h =
 }
 
 module _ (l : Lent) (flags : List ℕ) where
-  pub count-start : (t : Totals) → CountsAll [] t → Begun l flags 0 t
+  pub count-start : (t : Totals) → CountsAll [] t → CountedTo l flags 0 t
   count-start t k = record { vs = []; so = so-start l flags t k }
 
-  module _ (i : ℕ) (t : Totals) (b : Begun l flags i t) where
+  module _ (i : ℕ) (t : Totals) (b : CountedTo l flags i t) where
     pub few-values : t .values ≤ i
     few-values = omega (arith, b .so .counts .values, b .so .few)
 
@@ -152,7 +146,7 @@ module _ (l : Lent) (flags : List ℕ) where
     count-end h = subst (λ (vs : List Value). CountsAll vs t) (so-end l flags i (b .vs) t h (b .so)) (b .so .counts)
 
     module _ (below : i < length (l .rows)) (w : Bool) (e : w ≡ isValueRow (rowNo (l .rows) i)) where
-      pub count-other : w ≡ false → Begun l flags (i + 1) t
+      pub count-other : w ≡ false → CountedTo l flags (i + 1) t
       count-other n = record { vs = b .vs; so = so-other l flags i (b .vs) t below (b .so) (sym e ∙ n) }
 
       module _ (y : w ≡ true) where
@@ -160,7 +154,7 @@ module _ (l : Lent) (flags : List ℕ) where
         count-flag h = omega (arith, so-flag l flags i (b .vs) t below (b .so) (sym e ∙ y) h, b .so .counts .values)
 
         pub count-value : (verb : Bool) → verb ≡ flag (drop (t .values) flags) → (g : Went) → Counted (fieldOf l verb i) g → (r : Totals)
-            → AddsCounted t g r → Begun l flags (i + 1) r
+            → AddsCounted t g r → CountedTo l flags (i + 1) r
         count-value verb f g k r a =
             let same : verb ≡ flag (drop (length (b .vs)) flags) = f ∙ ap (λ (n : ℕ). flag (drop n flags)) (b .so .counts .values) in
             let v = valueOf l flags i (b .vs) in

@@ -1,10 +1,10 @@
 -- Values that come to no more than was counted, one after the other.
---     counts-cover                             what was counted exactly
---     cover-much, cover-on                     `add`: too much, and not
---     covered-on                               a value that was counted
---     cover-start, cover-few, cover-flag       `bound_row`: the beginning, and what it asks
+--     counts-cover                                         an exact count is a bound too
+--     cover-much, cover-on                                 `add`, where there is more than can be written and where there is not
+--     covered-on                                           a value that was counted
+--     cover-start, cover-few, cover-flag                   `bound_row`: the beginning, and what it requires
 --     cover-other, cover-most, cover-count, cover-end      one row more, by its literals or counted, and the end
---     cover-fits                               `fits`
+--     cover-fits                                           `fits`
 -- Assumes nothing.
 use Prim.Native.Nat.{ℕ, _+_, _/_, _≤_, _<_}
 use native.Mathlib.Omega.{arith}
@@ -14,7 +14,7 @@ use mathlib.Core.List.{List, [], _∷_, _++_}
 use lib.ListN.{length, drop, length-append}
 use lib.Dec.{leb}
 use borrow.Author.Tests.{leb-true, not-true}
-use Rattle.text.proofs.general.Tests.{both-true}
+use Rattle.text.proofs.general.Tests.{both-true, true-not-false}
 use Rattle.literal.specs.Rows.{textsOf}
 use Rattle.lookup.specs.Names.{rowNo}
 use Rattle.resolve.specs.declared.progress.Went.{Went}
@@ -25,12 +25,12 @@ use Rattle.resolve.specs.Progress.{Counted}
 use Rattle.values.specs.Field.{fieldOf}
 use Rattle.whole.specs.declared.file.Totals.{Totals}
 use Rattle.whole.specs.WholeFile.{isValueRow, flag, values, results, fitsAll}
-use Rattle.whole.specs.Filing.{Bounded, CountsAll}
+use Rattle.whole.specs.Filing.{BoundedTotals, CountsAll}
 use Rattle.whole.specs.Bounds.{AtMost, CoversAll, CoversTo, CoversCounted, exactly, Covered}
 use Rattle.whole.proofs.values.Appended.{rows-one, text-more}
 use Rattle.whole.proofs.values.Fitting.{room-fits}
 use Rattle.whole.proofs.values.RowByRow.{valueOf, so-start, so-other, so-value, so-flag, so-end}
-use Rattle.whole.proofs.counting.CountWays.{clash, much, much-not}
+use Rattle.whole.proofs.counting.CountWays.{much, much-not}
 use Rattle.whole.proofs.counting.AtMost.{field-under}
 
 pub counts-cover : (vs : List Value) (t : Totals) → CountsAll vs t → CoversAll vs t
@@ -42,8 +42,8 @@ module _ (t : Totals) (n m : ℕ) (over : Bool) where
   pub cover-much : (r : Totals) → r .values ≡ t .values + 1 → r .over ≡ true → CoversTo t n m over r
   cover-much r p o vs v k z = record {
     values = omega (arith, p, k .values, length-append vs (v ∷ []));
-    rows = λ q. clash (r .over) o q;
-    bytes = λ q. clash (r .over) o q;
+    rows = λ q. true-not-false (r .over) o q;
+    bytes = λ q. true-not-false (r .over) o q;
   }
 
   pub cover-on : much t n m over ≡ false → (r : Totals) → r .values ≡ t .values + 1 → r .rows ≡ t .rows + n → r .bytes ≡ t .bytes + m
@@ -117,7 +117,7 @@ module _ (l : Lent) (flags : List ℕ) where
 
 -- ---- room
 
-pub cover-fits : (t : Totals) (q b x : List ℕ) → Bounded t → (vs : List Value) → CoversAll vs t
+pub cover-fits : (t : Totals) (q b x : List ℕ) → BoundedTotals t → (vs : List Value) → CoversAll vs t
     → (((not (t .over) && leb (t .values) (length q / 6)) && leb (t .rows) (length b / 5)) && leb (t .bytes) (length x)) ≡ true
     → fitsAll vs q b x ≡ true
 cover-fits t q b x u vs k h =

@@ -4,7 +4,7 @@
 --     values-on, values-other, values-end      `values`: one row more, and the end
 --     flag-of                       `flag_at`
 -- Assumes nothing.
-use Prim.Native.Nat.{ℕ, zero, suc, _+_, _*_, _/_, _≤_, _<_}
+use Prim.Native.Nat.{ℕ, suc, _+_, _*_, _/_, _≤_, _<_}
 use native.Mathlib.Omega.{arith}
 use native.Mathlib.Numerals.{add-one}
 use mathlib.Core.Path.{_≡_, sym, ap, _∙_}
@@ -15,9 +15,9 @@ use lib.Seq.{drop-cons}
 use lib.Dec.{eqb}
 use Rattle.row.specs.Row.{Row, rowOf}
 use Rattle.row.specs.Numbers.{rowsOf}
-use Rattle.row.specs.Laid.{rowAt}
 use Rattle.row.proofs.Laid.{laid}
 use Rattle.lookup.specs.Names.{rowNo}
+use Rattle.lookup.proofs.Lookup.{lookup}
 use Rattle.whole.specs.WholeFile.{isValueRow, flag, values}
 
 -- ---- a row
@@ -28,16 +28,8 @@ inside rows i h = omega (arith, laid .rows-length rows)
 pub past : (rows : List ℕ) (i : ℕ) → length rows / 4 ≤ i → length (rowsOf rows) ≤ i
 past rows i h = omega (arith, laid .rows-length rows)
 
-row-from : (i j : ℕ) (l : List ℕ) → j + i * 4 + 4 ≤ length l → rowNo (rowsOf (drop j l)) i ≡ rowAt l (j + i * 4)
-row-from zero j l h = let e : j + 0 * 4 ≡ j = omega arith in rw (laid .rows-next l j (omega arith), e)
-row-from (suc i) j l h =
-    let e : j + suc i * 4 ≡ j + 4 + i * 4 = omega arith in
-    rw (laid .rows-next l j (omega arith), e) (row-from i (j + 4) l (omega arith))
-
 pub kind-of : (rows : List ℕ) (i : ℕ) → i < length rows / 4 → eqb (getD rows (i * 4) 0) 5 ≡ isValueRow (rowNo (rowsOf rows) i)
-kind-of rows i h =
-    let e : 0 + i * 4 ≡ i * 4 = omega arith in
-    sym (ap isValueRow (row-from i 0 rows (omega arith) ∙ ap (rowAt rows) e))
+kind-of rows i h = sym (ap isValueRow (lookup .row-no rows i h))
 
 -- ---- how many rows are values
 

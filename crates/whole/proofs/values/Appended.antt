@@ -90,7 +90,7 @@ numbers-length [] = refl
 numbers-length (v ∷ vs) =
     omega (arith, length-append (flatChunks (rowsFrom 0 (chunksIn v))) (chunkNumbers vs), value-length (chunksIn v), numbers-length vs)
 
-six-length : (a t : ℕ) (v : Value) → length (six a t v) ≡ 6
+pub six-length : (a t : ℕ) (v : Value) → length (six a t v) ≡ 6
 six-length a t (resolved cs n) = refl
 six-length a t (refused f) = refl
 

@@ -1,8 +1,8 @@
 -- Values that fit, and those in front of them.
---     Room, fits-room, room-fits      what `fitsAll` says, in numbers
---     fits-as                         it asks only how long the lent outputs are
---     room-front                      values in front of others need no more room
---     small-counts, counts-small      what `smallAll` says, in numbers
+--     ValuesRoom, fits-room, room-fits      what `fitsAll` says, in numbers
+--     fits-as                               `fitsAll` depends only on how long the lent outputs are
+--     room-front                            values in front of others need no more room
+--     small-counts, counts-small            what `smallAll` says, in numbers
 -- Assumes nothing.
 use Prim.Native.Nat.{ℕ, _+_, _/_, _≤_}
 use native.Mathlib.Omega.{arith}
@@ -13,12 +13,13 @@ use lib.ListN.{length, length-append}
 use lib.Dec.{leb}
 use borrow.Author.Tests.{leb-true, le-leb}
 use Rattle.text.proofs.general.Tests.{both-true}
-use Rattle.resolve.specs.Resolves.{Value, mostWritten}
+use Rattle.row.specs.Limits.{mostWritten}
+use Rattle.resolve.specs.Resolves.{Value}
 use Rattle.whole.specs.WholeFile.{texts, countRows, smallAll, fitsAll}
 use Rattle.whole.proofs.values.Appended.{rows-append, texts-append}
 
--- the values have so much room
-pub record Room (vs : List Value) (q b t : List ℕ) : Type 0 where
+-- there is room for the values
+pub record ValuesRoom (vs : List Value) (q b t : List ℕ) : Type 0 where
   pub few : countRows vs ≤ mostWritten
   pub short : length (texts vs) ≤ mostWritten
   pub answers : length vs ≤ length q / 6
@@ -35,7 +36,7 @@ pub counts-small : (vs : List Value) → countRows vs ≤ mostWritten → length
 unfolding smallAll
 counts-small vs h k = rw (le-leb (countRows vs) mostWritten h, le-leb (length (texts vs)) mostWritten k)
 
-pub fits-room : (vs : List Value) (q b t : List ℕ) → fitsAll vs q b t ≡ true → Room vs q b t
+pub fits-room : (vs : List Value) (q b t : List ℕ) → fitsAll vs q b t ≡ true → ValuesRoom vs q b t
 unfolding fitsAll
 fits-room vs q b t h =
     let n = leb (length vs) (length q / 6) in
@@ -53,7 +54,7 @@ fits-room vs q b t h =
       text = leb-true (length (texts vs)) (length t) (g .1);
     }
 
-pub room-fits : (vs : List Value) (q b t : List ℕ) → Room vs q b t → fitsAll vs q b t ≡ true
+pub room-fits : (vs : List Value) (q b t : List ℕ) → ValuesRoom vs q b t → fitsAll vs q b t ≡ true
 unfolding fitsAll
 room-fits vs q b t r =
     rw (
@@ -70,7 +71,7 @@ fits-as vs q b t q′ b′ t′ hq hb ht h =
     room-fits vs q′ b′ t′
     (record { few = r .few; short = r .short; answers = rw hq (r .answers); chunks = rw hb (r .chunks); text = rw ht (r .text) })
 
-pub room-front : (vs ws : List Value) (q b t : List ℕ) → Room (vs ++ ws) q b t → Room vs q b t
+pub room-front : (vs ws : List Value) (q b t : List ℕ) → ValuesRoom (vs ++ ws) q b t → ValuesRoom vs q b t
 room-front vs ws q b t r =
     let n = length-append vs ws in
     let k = rows-append vs ws in

@@ -1,7 +1,7 @@
 -- The values row by row.
 --     so-start                    before the first row
 --     so-other, so-value          a row that is no value, and one that is
---     so-split, so-flag           a value row: the values before it, its value and the others are all; and its flag is there
+--     so-split, so-flag           a value row: the values before it, its value and those behind it make up all values; and its flag is there
 --     so-end                      behind the last row
 -- Assumes nothing.
 use Prim.Native.Nat.{ℕ, suc, _+_, _≤_, _<_}

@@ -1,9 +1,9 @@
--- What is asked of the call, and all values.
+-- The checks of the call, and then all values.
 --     fits-told                                         what `fits` answers
 --     file-full, file-wrote                             the ways through `indexed`
---     all-file, all-rows, all-scratch, all-good         what the call comes to, by what `whole` asks
---     refuse, refuse-as, writes-as                      what it then writes
---     Asked, asked-of                                   what is so of a call that is not refused
+--     all-file, all-rows, all-scratch, all-good         what the call comes to, by what `whole` checks
+--     refuse, refuse-as, writes-as                      what the call then writes
+--     CallAsks, asked-of                                what is so of a call that is not refused
 -- Assumes nothing.
 use Prim.Native.Nat.{ℕ, _/_, _≤_, _<_}
 use native.Mathlib.Omega.{arith}
@@ -18,9 +18,10 @@ use Rattle.row.specs.declared.fault.Fault.{Fault}
 use Rattle.row.specs.declared.fault.Reason.the-variants.{NoRoom, BadRows}
 use Rattle.row.specs.Fault.{nowhere}
 use Rattle.row.specs.Numbers.{rowsOf}
+use Rattle.row.specs.Limits.{leastScratch}
 use Rattle.chunk.specs.declared.answer.Checked.{Checked}
 use Rattle.chunk.specs.declared.answer.Checked.the-variants as checked
-use Rattle.resolve.specs.Resolves.{Value, leastScratch, checkedFile}
+use Rattle.resolve.specs.Resolves.{Value, checkedFile}
 use Rattle.resolve.specs.Checks.{areLent, lentOf}
 use Rattle.whole.specs.declared.file.Filed.{Filed}
 use Rattle.whole.specs.declared.file.Filed.the-variants as filed
@@ -72,7 +73,7 @@ refuse a f q b x e = writes-as (sym e) (none-writes f q b x)
 pub refuse-as : {a : All} {f : Fault} (r : Filed) → r ≡ filed.Refused f → (q b x : List ℕ) → a ≡ none f → WritesAll a q b x r q b x
 refuse-as {a} {f} r k q b x e = subst (λ (z : Filed). WritesAll a q b x z q b x) (sym k) (refuse a f q b x e)
 
--- ---- what is asked
+-- ---- the checks
 
 module _ (file rows flags months words : List ℕ) (w : ℕ) (k : Checked) (c : k ≡ checkedFile file) where
   -- the rest, where the file passes
@@ -108,10 +109,10 @@ module _ (file rows flags months words : List ℕ) (w : ℕ) (k : Checked) (c : 
           let e = both-true (areLent file rows months words) (leb (values (rowsOf rows)) (length flags)) filed-good in
           (e .0, leb-true (values (rowsOf rows)) (length flags) (e .1))
 
-      pub all-scratch : w < 32768 → allOf file rows flags months words w ≡ none (nowhere NoRoom)
+      pub all-scratch : w < leastScratch → allOf file rows flags months words w ≡ none (nowhere NoRoom)
       all-scratch h = after-file ∙ (rw (filed-good, lt-leb leastScratch w h))
 
-      pub all-good : 32768 ≤ w → allOf file rows flags months words w ≡ all (results (lentOf file rows months words) flags)
+      pub all-good : leastScratch ≤ w → allOf file rows flags months words w ≡ all (results (lentOf file rows months words) flags)
       all-good h = after-file ∙ (rw (filed-good, le-leb leastScratch w h))
 
 -- ---- a call that is not refused
@@ -124,15 +125,15 @@ abbrev valuesIn : All → List Value
 valuesIn (all vs) = vs
 valuesIn (none f) = []
 
--- what is asked of the call, where it is not refused
-pub record Asked (file rows flags months words : List ℕ) (w : ℕ) (vs : List Value) : Type 0 where
+-- what has been checked where the call is not refused
+pub record CallAsks (file rows flags months words : List ℕ) (w : ℕ) (vs : List Value) : Type 0 where
   pub passed : checkedFile file ≡ checked.Passed
   pub lent : areLent file rows months words ≡ true
   pub room : leb leastScratch w ≡ true
   pub values-are : results (lentOf file rows months words) flags ≡ vs
 
 pub asked-of : (file rows flags months words : List ℕ) (w : ℕ) (vs : List Value) → allOf file rows flags months words w ≡ all vs
-    → Asked file rows flags months words w vs
+    → CallAsks file rows flags months words w vs
 unfolding areFiled
 asked-of file rows flags months words w vs =
     by (checkedFile file) (areFiled file rows flags months words) (leb leastScratch w) (nowhere NoRoom) (nowhere BadRows) refl refl refl
@@ -140,7 +141,7 @@ asked-of file rows flags months words w vs =
     by : (x : Checked) (good room : Bool) (f g : Fault) → checkedFile file ≡ x → areFiled file rows flags months words ≡ good
         → leb leastScratch w ≡ room
         → afterAll x (cond good (cond room (all (results (lentOf file rows months words) flags)) (none f)) (none g)) ≡ all vs
-        → Asked file rows flags months words w vs
+        → CallAsks file rows flags months words w vs
     by checked.Passed true true f g p q r e =
         record { passed = p; lent = both-true (areLent file rows months words) _ q .0; room = r; values-are = ap valuesIn e }
     by checked.Passed true false f g p q r e = absurd (omega (arith, ap isAll e))

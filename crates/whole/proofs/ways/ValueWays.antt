@@ -1,7 +1,7 @@
 -- One value more, counted and written behind the values before it.
 --     One, one-is                  what was written of a value that has room
 --     six-refused, six-chunks      the answer row of a value: `answer_row`
---     here-row, behind-row         what is asked where a value row is next, and that its answer fits behind what was written: `write_row`
+--     here-row, behind-row         what is required where a value row is next, and that its answer fits behind what was written: `write_row`
 --     wrote-row, row-other         what is written when the row is done
 --     wrote-start, wrote-end       before the first row and behind the last: `write`
 -- Assumes nothing.
@@ -19,17 +19,18 @@ use Rattle.literal.specs.Rows.{rowsFrom, textsOf}
 use Rattle.row.specs.declared.fault.Fault.{Fault}
 use Rattle.row.specs.Fault.{numberOf}
 use Rattle.row.specs.Numbers.{rowsOf}
+use Rattle.row.specs.Limits.{mostWritten}
 use Rattle.lookup.specs.Names.{rowNo}
 use Rattle.resolve.specs.declared.answer.Answer.{Answer}
 use Rattle.resolve.specs.declared.answer.Answer.the-variants as answer
-use Rattle.resolve.specs.Resolves.{Value, resolved, refused, mostWritten, small, fits, Writes}
+use Rattle.resolve.specs.Resolves.{Value, resolved, refused, small, fits, Writes}
 use Rattle.resolve.specs.Checks.{Lent, lentOf}
 use Rattle.values.specs.Field.{fieldOf}
 use Rattle.whole.specs.declared.file.Totals.{Totals}
 use Rattle.whole.specs.WholeFile.{isValueRow, flag, results, values, chunksIn, texts, chunkNumbers, countRows, six, answerNumbers, smallAll, fitsAll}
-use Rattle.whole.specs.Filing.{Filing, CountsAll, SoFar, Begun, AddsAnswer, FitsBehind, sixOf, WroteAll, Wrote}
-use Rattle.whole.proofs.values.Appended.{rows-one, text-one, text-more, numbers-one, answers-one, numbers-length, answers-length}
-use Rattle.whole.proofs.values.Fitting.{Room, fits-room, room-front, counts-small}
+use Rattle.whole.specs.Filing.{Filing, CountsAll, SoFar, CountedTo, AddsAnswer, FitsBehind, sixOf, WroteAll, WroteTo}
+use Rattle.whole.proofs.values.Appended.{rows-one, text-one, text-more, numbers-one, answers-one, numbers-length, answers-length, six-length}
+use Rattle.whole.proofs.values.Fitting.{ValuesRoom, fits-room, room-front, counts-small}
 use Rattle.whole.proofs.values.RowByRow.{valueOf, so-start, so-other, so-split, so-value, so-flag, so-end}
 use Rattle.whole.proofs.counting.RowKinds.{inside, past}
 use Rattle.whole.proofs.ways.LentParts.{mid-rest, put-rest, put-behind, sets-behind}
@@ -67,10 +68,6 @@ six-is : (t : Totals) (v : Value) → sixOf t (toldOf v) ≡ six (t .rows) (t .b
 six-is t (resolved cs n) = refl
 six-is t (refused f) = refl
 
-six-length : (a t : ℕ) (v : Value) → length (six a t v) ≡ 6
-six-length a t (resolved cs n) = refl
-six-length a t (refused f) = refl
-
 not-small : (cs : List Chunk) → small cs ≡ true → false ≡ not (small cs)
 not-small cs e = rw e
 
@@ -87,7 +84,7 @@ fits-one t (refused f) h k = tt
 
 -- ---- a value row
 
--- what is asked of the counts, over the flags and the answers q, the chunk rows b and the text x
+-- what is required of the counts, with the flags, the answers q, the chunk rows b and the text x
 pub record Here (t : Totals) (flags q b x : List ℕ) : Type 0 where
   pub flag : t .values < length flags
   pub few : t .rows ≤ mostWritten
@@ -105,12 +102,12 @@ counts-are vs t k e =
 module _ (l : Lent) (flags : List ℕ) (i : ℕ) (t : Totals) (q b x : List ℕ) (below : i < length (l .rows))
     (y : isValueRow (rowNo (l .rows) i) ≡ true) (fit : fitsAll (results l flags) q b x ≡ true) where
   module _ (vs : List Value) (s : SoFar l flags i vs t) where
-    room-next : Room (vs ++ valueOf l flags i vs ∷ []) q b x
+    room-next : ValuesRoom (vs ++ valueOf l flags i vs ∷ []) q b x
     room-next =
         let split = so-split l flags i vs t below s y in
         room-front (vs ++ valueOf l flags i vs ∷ []) _ q b x (fits-room _ q b x (ap (λ (ws : List Value). fitsAll ws q b x) split ∙ fit))
 
-    room-here : Room vs q b x
+    room-here : ValuesRoom vs q b x
     room-here = room-front vs (valueOf l flags i vs ∷ []) q b x room-next
 
     counts-here : (t .rows ≡ countRows vs) × (t .bytes ≡ length (texts vs))
@@ -216,7 +213,7 @@ module _ (l : Lent) (flags : List ℕ) (i : ℕ) (t : Totals) (q b x : List ℕ)
             ∙ ap (λ (u : List ℕ). u ++ drop (n + length e) x₀) (sym (text-one vs v))
             ∙ ap (λ (j : ℕ). texts (vs ++ v ∷ []) ++ drop j x₀) (sym (text-more vs v))
 
-        pub row-value-by : Wrote l flags (i + 1) q₀ b₀ x₀ r (sets q (t .values * 6) (sixOf t a))
+        pub row-value-by : WroteTo l flags (i + 1) q₀ b₀ x₀ r (sets q (t .values * 6) (sixOf t a))
             (putMid (t .rows * 5) (length b - t .rows * 5) b b′) (putMid (t .bytes) (length x - t .bytes) x x′)
         row-value-by =
             record {
@@ -226,7 +223,7 @@ module _ (l : Lent) (flags : List ℕ) (i : ℕ) (t : Totals) (q b x : List ℕ)
             }
 
 pub row-other : (l : Lent) (flags : List ℕ) (i : ℕ) (t : Totals) → i < length (l .rows) → isValueRow (rowNo (l .rows) i) ≡ false
-    → (q b x q₀ b₀ x₀ : List ℕ) → Wrote l flags i q₀ b₀ x₀ t q b x → Wrote l flags (i + 1) q₀ b₀ x₀ t q b x
+    → (q b x q₀ b₀ x₀ : List ℕ) → WroteTo l flags i q₀ b₀ x₀ t q b x → WroteTo l flags (i + 1) q₀ b₀ x₀ t q b x
 row-other l flags i t below n q b x q₀ b₀ x₀ o = record { vs = o .vs; so = so-other l flags i (o .vs) t below (o .so) n; wrote = o .wrote }
 
 -- ---- the answer row
@@ -251,10 +248,10 @@ module _ (file rows flags months words : List ℕ) (i : ℕ) (t : Totals) (q b x
   is-value : isValueRow (rowNo (rowsOf rows) i) ≡ true
   is-value = sym re ∙ not-false r no
 
-  pub here-row : values (rowsOf rows) ≤ length flags → Begun l flags i t → Here t flags q b x
+  pub here-row : values (rowsOf rows) ≤ length flags → CountedTo l flags i t → Here t flags q b x
   here-row h s = here-by l flags i t q b x (inside rows i below) is-value fit (s .vs) (s .so) h
 
-  pub behind-row : Begun l flags i t → (f : Bool) → f ≡ flag (drop (t .values) flags) → (a : Answer) (b′ x′ : List ℕ)
+  pub behind-row : CountedTo l flags i t → (f : Bool) → f ≡ flag (drop (t .values) flags) → (a : Answer) (b′ x′ : List ℕ)
       → Writes (fieldOf l f i) (midOf (t .rows * 5) (length b - t .rows * 5) b) (midOf (t .bytes) (length x - t .bytes) x) a b′ x′
       → FitsBehind t a
   behind-row s f fe a b′ x′ w =
@@ -263,10 +260,10 @@ module _ (file rows flags months words : List ℕ) (i : ℕ) (t : Totals) (q b x
   pub wrote-row : (f : Bool) → f ≡ flag (drop (t .values) flags) → (a : Answer) (b′ x′ : List ℕ)
       → Writes (fieldOf l f i) (midOf (t .rows * 5) (length b - t .rows * 5) b) (midOf (t .bytes) (length x - t .bytes) x) a b′ x′
       → (t′ : Totals) → AddsAnswer t a t′ → (q′ : List ℕ) → q′ ≡ sets q (t .values * 6) (sixOf t a) → (q₀ b₀ x₀ : List ℕ)
-      → Wrote l flags i q₀ b₀ x₀ t q b x
-      → Wrote l flags (i + 1) q₀ b₀ x₀ t′ q′ (putMid (t .rows * 5) (length b - t .rows * 5) b b′) (putMid (t .bytes) (length x - t .bytes) x x′)
+      → WroteTo l flags i q₀ b₀ x₀ t q b x
+      → WroteTo l flags (i + 1) q₀ b₀ x₀ t′ q′ (putMid (t .rows * 5) (length b - t .rows * 5) b b′) (putMid (t .bytes) (length x - t .bytes) x x′)
   wrote-row f fe a b′ x′ w t′ g q′ qe q₀ b₀ x₀ o =
-      subst (λ (z : List ℕ). Wrote l flags (i + 1) q₀ b₀ x₀ t′ z (putMid (t .rows * 5) (length b - t .rows * 5) b b′)
+      subst (λ (z : List ℕ). WroteTo l flags (i + 1) q₀ b₀ x₀ t′ z (putMid (t .rows * 5) (length b - t .rows * 5) b b′)
       (putMid (t .bytes) (length x - t .bytes) x x′)) (sym qe)
       (row-value-by l flags i t q b x (inside rows i below) is-value fit (o .vs) (o .so) f fe a b′ x′ w t′ g q₀ b₀ x₀ (o .wrote))
 
@@ -283,13 +280,13 @@ filing-on file rows flags months words heads next w byName byMark w′ f e =
       flagged = f .flagged;
     }
 
-pub wrote-start : (l : Lent) (flags : List ℕ) (t : Totals) (q b x : List ℕ) → CountsAll [] t → Wrote l flags 0 q b x t q b x
+pub wrote-start : (l : Lent) (flags : List ℕ) (t : Totals) (q b x : List ℕ) → CountsAll [] t → WroteTo l flags 0 q b x t q b x
 unfolding answerNumbers chunkNumbers texts countRows
 wrote-start l flags t q b x k =
     record { vs = []; so = so-start l flags t k; wrote = record { answers = refl; chunks = refl; text = refl } }
 
 pub wrote-end : (file rows flags months words : List ℕ) (i : ℕ) (t : Totals) (q b x q′ b′ x′ : List ℕ) → length rows / 4 ≤ i
-    → Wrote (lentOf file rows months words) flags i q b x t q′ b′ x′
+    → WroteTo (lentOf file rows months words) flags i q b x t q′ b′ x′
     → WroteAll (results (lentOf file rows months words) flags) q b x q′ b′ x′ × CountsAll (results (lentOf file rows months words) flags) t
 wrote-end file rows flags months words i t q b x q′ b′ x′ h o =
     let all = so-end (lentOf file rows months words) flags i (o .vs) t (past rows i h) (o .so) in (

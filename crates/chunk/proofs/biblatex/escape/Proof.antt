@@ -9,13 +9,13 @@ use Rattle.chunk.proofs.biblatex.escape.Tie as tie
 
 returns : tie.Need-returns
 returns c =
-    let test = c .before .before .before .before .before .before .before .before in
+    let y = c .before .before in
+    let x = y .before .before .before .before in
+    let test = x .before .before in
     let entry = test .before .before .before in
     let a = entry .args in
-    let x = c .before .before .before .before .before .before .put in
-    let y = c .before .before .put2 in
     let e = escape-some (a .verb) (a .b) (sym (test .before .is-escapable .ensures) ∙ test .if1 .taken) in
-    (puts-as e (puts-on (x .ensures .0) (y .ensures .0)), omega (arith, x .ensures .1, y .ensures .1))
+    (puts-as e (puts-on (x .put .ensures .0) (y .put2 .ensures .0)), omega (arith, x .put .ensures .1, y .put2 .ensures .1))
 
 returns-2 : tie.Need-returns-2
 returns-2 c =

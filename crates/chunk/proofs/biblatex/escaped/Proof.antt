@@ -29,14 +29,15 @@ escape-requires c κs = omega arith
 
 loop-again : tie.Need-loop-again Inv-loop μ-loop
 loop-again c =
-    let turn = c .before .before .before .before .before .before in
+    let y = c .before .before in
+    let loop-test = y .before .before .before in
+    let turn = loop-test .before in
     let entry = turn .before .before .before in
     let a = entry .args in
     let b = turn .loop in
-    let y = c .before .before .escape in
-    let inside : b .i < length (a .t .now) = omega (arith, c .before .before .before .before .before .loop-test .taken, entry .pre .1) in
-    let put = laws.escaped-on (a .verb) (a .t .now) (a .from) (b .inv .1) inside (b .inv .0) (y .ensures .0) in
-    (put, omega arith, omega arith, omega (arith, y .ensures .1, b .inv .3), y .kept .1 .1 .0 ∙ b .inv .4)
+    let inside : b .i < length (a .t .now) = omega (arith, loop-test .loop-test .taken, entry .pre .1) in
+    let put = laws.escaped-on (a .verb) (a .t .now) (a .from) (b .inv .1) inside (b .inv .0) (y .escape .ensures .0) in
+    (put, omega arith, omega arith, omega (arith, y .escape .ensures .1, b .inv .3), y .escape .kept .1 .1 .0 ∙ b .inv .4)
 
 same-length : tie.Need-same-length Inv-loop μ-loop
 same-length c = c .before .loop .inv .4

@@ -27,13 +27,13 @@ returns-2 c =
 
 returns-3 : tie.Need-returns-3
 returns-3 c =
-    let told = c .before .before .before .before .before .before .before .before in
+    let y = c .before .before in
+    let x = y .before .before .before .before in
+    let told = x .before .before in
     let entry = told .before .before .before .before in
     let a = entry .args in
-    let x = c .before .before .before .before .before .before .copy in
-    let y = c .before .before .put in
     let e = sym (ap (λ (k : Kind). bodyOf (a .verb) k (part (a .t .now) (a .from) (a .to))) (told .enum-told3 .given .1)) in
-    (puts-as e (puts-on (x .ensures .0) (y .ensures .0)), omega (arith, x .ensures .1, y .ensures .1, entry .pre .0))
+    (puts-as e (puts-on (x .copy .ensures .0) (y .put .ensures .0)), omega (arith, x .copy .ensures .1, y .put .ensures .1, entry .pre .0))
 
 pub put-body-spec : {M : Type 1} → statement M
 put-body-spec =

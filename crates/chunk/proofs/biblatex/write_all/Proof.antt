@@ -11,17 +11,17 @@ use Rattle.chunk.proofs.biblatex.write_all.Statement.{statement}
 use Rattle.chunk.proofs.biblatex.write_all.Tie as tie
 
 abbrev Inv-loop : tie.InvT-loop
-Inv-loop t rows verb room out₀ extra₀ at₀ i₀ out extra at i = laws.Writes verb t rows out₀ at₀ out extra at i × (at ≤ room + 1)
+Inv-loop t rows verb room out₀ extra₀ at₀ i₀ out extra at i = laws.WritingBiblatex verb t rows out₀ at₀ out extra at i × (at ≤ room + 1)
 
 abbrev μ-loop : tie.MeasureT-loop
 μ-loop t rows verb room out₀ extra₀ at₀ i₀ out extra at i = length rows - i
 
 loop-holds : tie.Need-loop-holds Inv-loop μ-loop
 loop-holds c =
-    let entry = c .before .before .before .before .before .before .before in
+    let y = c .before .before in
+    let entry = y .before .before .before .before .before in
     let a = entry .args in
-    let y = c .before .before .put in
-    (laws.write-start (a .verb) (a .t .now) (a .rows .now) _ (y .result) (entry .pre .0), omega (arith, y .ensures .1))
+    (laws.write-start (a .verb) (a .t .now) (a .rows .now) _ (y .put .result) (entry .pre .0), omega (arith, y .put .ensures .1))
 
 row-at-requires : tie.Need-row-at-requires Inv-loop μ-loop
 row-at-requires c κs = five (c .before .loop .inv .0 .checks) (c .loop-test .taken)
@@ -92,31 +92,34 @@ put-closing-requires c κs =
 
 same-length-2 : tie.Need-same-length-2 Inv-loop μ-loop
 same-length-2 c =
-    let turn = c .before .before .before .before .before .before in
-    c .before .before .before .put-closing .kept .1 .0 ∙ (turn .loop .inv .0 .long ∙ turn .before .before .before .put .kept .0)
+    let put-closing = c .before .before .before in
+    let turn = put-closing .before .before .before in
+    put-closing .put-closing .kept .1 .0 ∙ (turn .loop .inv .0 .long ∙ turn .before .before .before .put .kept .0)
 
 returns-2 : tie.Need-returns-2 Inv-loop μ-loop
 returns-2 c =
-    let last = c .before .before .before .before .before in
+    let y = c .before .before .before in
+    let last = y .before .before in
     let turn = last .before in
     let entry = turn .before .before .before .before .before .before .before .before in
     let first = turn .before .before .before .put .ensures .0 in
-    let y = c .before .before .before .put-closing .ensures .0 in
-    laws.close-more (entry .args .verb) (turn .loop .inv .0) first (entry .pre .0) (last .loop-test .left) y (c .if2 .taken)
+    laws.close-more (entry .args .verb) (turn .loop .inv .0) first (entry .pre .0) (last .loop-test .left) (y .put-closing .ensures .0)
+    (c .if2 .taken)
 
 same-length-3 : tie.Need-same-length-3 Inv-loop μ-loop
 same-length-3 c =
-    let turn = c .before .before .before .before .before .before in
-    c .before .before .before .put-closing .kept .1 .0 ∙ (turn .loop .inv .0 .long ∙ turn .before .before .before .put .kept .0)
+    let put-closing = c .before .before .before in
+    let turn = put-closing .before .before .before in
+    put-closing .put-closing .kept .1 .0 ∙ (turn .loop .inv .0 .long ∙ turn .before .before .before .put .kept .0)
 
 returns-3 : tie.Need-returns-3 Inv-loop μ-loop
 returns-3 c =
-    let last = c .before .before .before .before .before in
+    let y = c .before .before .before in
+    let last = y .before .before in
     let turn = last .before in
     let entry = turn .before .before .before .before .before .before .before .before in
     let first = turn .before .before .before .put .ensures .0 in
-    let y = c .before .before .before .put-closing .ensures .0 in
-    laws.write-done (entry .args .verb) (turn .loop .inv .0) first (entry .pre .0) (last .loop-test .left) y (c .if2 .left)
+    laws.write-done (entry .args .verb) (turn .loop .inv .0) first (entry .pre .0) (last .loop-test .left) (y .put-closing .ensures .0) (c .if2 .left)
 
 pub write-all-spec : {M : Type 1} → statement M
 write-all-spec =

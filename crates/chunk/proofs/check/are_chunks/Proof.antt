@@ -24,15 +24,25 @@ row-at-requires c κs = laws.five (c .before .loop .inv) (c .loop-test .taken)
 
 loop-again : tie.Need-loop-again Inv-loop μ-loop
 loop-again c =
-    let a = c .before .before .before .before .before .before .before .before .args in
-    let e = laws.told (a .t .now) (a .rows .now) (c .before .before .row-at .ensures) (sym (c .before .is-chunk .ensures) ∙ c .if2 .taken) in
-    laws.check-turn (c .before .before .before .before .loop .inv) (c .before .before .before .loop-test .taken) e
+    let is-chunk = c .before in
+    let row-at = is-chunk .before in
+    let loop-test = row-at .before in
+    let looping = loop-test .before in
+    let begin = looping .before .before .before .before in
+    let a = begin .args in
+    let e = laws.told (a .t .now) (a .rows .now) (row-at .row-at .ensures) (sym (is-chunk .is-chunk .ensures) ∙ c .if2 .taken) in
+    laws.check-turn (looping .loop .inv) (loop-test .loop-test .taken) e
 
 returns-2 : tie.Need-returns-2 Inv-loop μ-loop
 returns-2 c =
-    let a = c .before .before .before .before .before .before .before .before .args in
-    let e = laws.told (a .t .now) (a .rows .now) (c .before .before .row-at .ensures) (sym (c .before .is-chunk .ensures) ∙ c .if2 .left) in
-    laws.check-stop (c .before .before .before .before .loop .inv) (c .before .before .before .loop-test .taken) e
+    let is-chunk = c .before in
+    let row-at = is-chunk .before in
+    let loop-test = row-at .before in
+    let looping = loop-test .before in
+    let begin = looping .before .before .before .before in
+    let a = begin .args in
+    let e = laws.told (a .t .now) (a .rows .now) (row-at .row-at .ensures) (sym (is-chunk .is-chunk .ensures) ∙ c .if2 .left) in
+    laws.check-stop (looping .loop .inv) (loop-test .loop-test .taken) e
 
 returns-3 : tie.Need-returns-3 Inv-loop μ-loop
 returns-3 c = laws.check-done (c .before .loop .inv) (c .loop-test .left)

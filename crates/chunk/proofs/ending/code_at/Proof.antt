@@ -11,15 +11,18 @@ slice-aggregate-seen c = sym (length-take-le (c .before .before .args .to) (c .b
 
 returns : tie.Need-returns
 returns c =
-    let a = c .before .before .before .before .before .args in
-    let p = c .before .before .before .before .before .pre in
-    code-seen (a .t .now) _ (a .at) (a .to) _ _ refl (p .0) (p .1) (c .before .before .seen .ensures .0) (c .enum-told .given .1)
+    let seen = c .before .before in
+    let p = seen .before .before .before in
+    let a = p .args in
+    code-seen (a .t .now) _ (a .at) (a .to) _ _ refl (p .pre .0) (p .pre .1) (seen .seen .ensures .0) (c .enum-told .given .1)
 
 returns-2 : tie.Need-returns-2
 returns-2 c =
-    let asked = c .before .before .before .before .before .before in
+    let code = c .before in
+    let seen = code .before .before in
+    let asked = seen .before .before .before in
     let a = asked .args in
-    code-seen (a .t .now) _ (a .at) (a .to) _ _ refl (asked .pre .0) (asked .pre .1) (c .before .before .before .seen .ensures .0) (c .before .code .given .1)
+    code-seen (a .t .now) _ (a .at) (a .to) _ _ refl (asked .pre .0) (asked .pre .1) (seen .seen .ensures .0) (code .code .given .1)
 
 pub code-at-spec : {M : Type 1} → statement M
 code-at-spec =

@@ -69,7 +69,9 @@ same-length-2 c = c .before .loop .inv .0 .long
 
 returns-2 : tie.Need-returns-2 Inv-loop μ-loop
 returns-2 c =
-    let g = c .before .loop .inv in laws.format-done (g .0) (c .before .before .before .before .before .pre .0) (c .loop-test .left) (g .1)
+    let g = c .before in
+    let begin = g .before .before .before .before in
+    laws.format-done (g .loop .inv .0) (begin .pre .0) (c .loop-test .left) (g .loop .inv .1)
 
 pub format-all-spec : {M : Type 1} → statement M
 format-all-spec =

@@ -17,9 +17,10 @@ copy-requires-2 c κs =
 
 put-requires-2 : tie.Need-put-requires-2
 put-requires-2 c κs =
-    let first = c .before .before .before .before .before .before .before in
+    let copy2 = c .before .before .before in
+    let first = copy2 .before .before .before .before in
     let p = first .before .before .before .before .before .before .pre in
-    omega (arith, c .before .before .before .copy2 .ensures .1, first .put .ensures .1, p .0, p .2)
+    omega (arith, copy2 .copy2 .ensures .1, first .put .ensures .1, p .0, p .2)
 
 returns : tie.Need-returns
 returns c =
@@ -32,25 +33,26 @@ returns c =
 
 returns-2 : tie.Need-returns-2
 returns-2 c =
-    let told = c .before .before .before .before .before in
+    let x = c .before .before in
+    let ends-white = x .before .before in
+    let told = ends-white .before in
     let entry = told .before .before .before .before in
     let a = entry .args in
-    let x = c .before .before .copy in
     let e = sym (ap (λ (k : Kind). formatOne (a .white) k (part (a .t .now) (a .from) (a .to))) (told .enum-told2 .given .1)) in
-    let put = puts-as (ap (λ (w : Written). w .text) e) (x .ensures .0) in
-    (put, (c .before .before .before .before .ends-white .ensures ∙ ap (λ (w : Written). w .white) e, omega (arith, x .ensures .1, entry .pre .0)))
+    let put = puts-as (ap (λ (w : Written). w .text) e) (x .copy .ensures .0) in
+    (put, (ends-white .ends-white .ensures ∙ ap (λ (w : Written). w .white) e, omega (arith, x .copy .ensures .1, entry .pre .0)))
 
 returns-3 : tie.Need-returns-3
 returns-3 c =
-    let told = c .before .before .before .before .before .before .before .before .before .before .before .before in
+    let z = c .before .before in
+    let y = z .before .before .before .before in
+    let x = y .before .before .before .before in
+    let told = x .before .before in
     let entry = told .before .before .before .before in
     let a = entry .args in
-    let x = c .before .before .before .before .before .before .before .before .before .before .put in
-    let y = c .before .before .before .before .before .before .copy2 in
-    let z = c .before .before .put2 in
     let e = sym (ap (λ (k : Kind). formatOne (a .white) k (part (a .t .now) (a .from) (a .to))) (told .enum-told3 .given .1)) in
-    let put = puts-as (ap (λ (w : Written). w .text) e) (puts-on (puts-on (x .ensures .0) (y .ensures .0)) (z .ensures .0)) in
-    (put, (ap (λ (w : Written). w .white) e, omega (arith, x .ensures .1, y .ensures .1, z .ensures .1, entry .pre .0)))
+    let put = puts-as (ap (λ (w : Written). w .text) e) (puts-on (puts-on (x .put .ensures .0) (y .copy2 .ensures .0)) (z .put2 .ensures .0)) in
+    (put, (ap (λ (w : Written). w .white) e, omega (arith, x .put .ensures .1, y .copy2 .ensures .1, z .put2 .ensures .1, entry .pre .0)))
 
 pub format-one-spec : {M : Type 1} → statement M
 format-one-spec =

@@ -25,15 +25,17 @@ line-end-requires c κs = (omega (arith, c .loop-test .taken), c .before .before
 
 ends-white-requires : tie.Need-ends-white-requires Inv-loop μ-loop
 ends-white-requires c κs =
-    let n = c .before .line-end .ensures in
-    (n .2, omega (arith, n .3, c .before .before .before .before .before .before .pre .1))
+    let n = c .before in
+    let begin = n .before .before .before .before .before in
+    (n .line-end .ensures .2, omega (arith, n .line-end .ensures .3, begin .pre .1))
 
 copy-requires : tie.Need-copy-requires Inv-loop μ-loop
 copy-requires c κs =
-    let turn = c .before .before .before .before .before in
+    let line-end = c .before .before .before in
+    let turn = line-end .before .before in
     let p = turn .before .before .before .pre in
     let g = turn .loop .inv in
-    let n = c .before .before .before .line-end .ensures in
+    let n = line-end .line-end .ensures in
     (n .2, omega (arith, n .3, p .1), omega (arith, n .2, n .3, g .room, g .first, p .2))
 
 loop-less : tie.Need-loop-less Inv-loop μ-loop
@@ -43,16 +45,20 @@ loop-less c =
 
 loop-again : tie.Need-loop-again Inv-loop μ-loop
 loop-again c =
-    let turn = c .before .before .before .before .before .before .before .before in
+    let y = c .before .before in
+    let white = y .before .before in
+    let if1 = white .before in
+    let n = if1 .before in
+    let turn = n .before .before in
     let b = turn .loop in
-    let n = c .before .before .before .before .before .before .line-end in
-    let white = c .before .before .before .before .ends-white in
-    let y = c .before .before .copy in
-    let run = laws.runs (b .inv) (turn .before .before .before .pre .1) (c .before .before .before .before .before .if1 .taken) (n .ensures .3) in
-    run (n .ensures .0) (n .ensures .1) (white .ensures) (y .ensures .0) (y .kept .1 .1 .1 .0)
+    let run = laws.runs (b .inv) (turn .before .before .before .pre .1) (if1 .if1 .taken) (n .line-end .ensures .3) in
+    run (n .line-end .ensures .0) (n .line-end .ensures .1) (white .ends-white .ensures) (y .copy .ensures .0) (y .copy .kept .1 .1 .1 .0)
 
 add-i : tie.Need-add-i Inv-loop μ-loop
-add-i c = omega (arith, c .before .before .before .loop-test .taken, c .before .before .before .before .before .before .before .pre .1)
+add-i c =
+    let loop-test = c .before .before .before in
+    let begin = loop-test .before .before .before .before in
+    omega (arith, loop-test .loop-test .taken, begin .pre .1)
 
 loop-less-2 : tie.Need-loop-less-2 Inv-loop μ-loop
 loop-less-2 c = omega (arith, c .before .before .before .loop-test .taken)
@@ -70,9 +76,10 @@ loop-again-2 c =
 
 put-requires : tie.Need-put-requires Inv-loop μ-loop
 put-requires c κs =
-    let turn = c .before .before .before .before .before in
+    let loop-test = c .before .before .before .before in
+    let turn = loop-test .before in
     let g = turn .loop .inv in
-    omega (arith, g .room, g .first, c .before .before .before .before .loop-test .taken, turn .before .before .before .pre .2)
+    omega (arith, g .room, g .first, loop-test .loop-test .taken, turn .before .before .before .pre .2)
 
 add-i-2 : tie.Need-add-i-2 Inv-loop μ-loop
 add-i-2 c =
@@ -84,16 +91,17 @@ loop-less-3 c = omega (arith, c .before .before .before .before .before .before 
 
 loop-again-3 : tie.Need-loop-again-3 Inv-loop μ-loop
 loop-again-3 c =
-    let turn = c .before .before .before .before .before .before .before .before in
+    let y = c .before .before in
+    let left = y .before .before in
+    let n = left .before .before in
+    let turn = n .before .before in
     let entry = turn .before .before .before in
     let a = entry .args in
     let b = turn .loop in
-    let n = c .before .before .before .before .before .before .line-end in
-    let y = c .before .before .put in
-    let left = c .before .before .before .before in
-    let e : n .result ≡ b .i = omega (arith, n .ensures .2, left .before .if1 .left) in
-    let stop = subst (λ (k : ℕ). stops (part (a .t .now) k (a .to)) ≡ true) e (n .ensures .1) in
-    laws.blanks (b .inv) (entry .pre .1) (left .before .before .before .loop-test .taken) stop (left .if2 .left) (y .ensures .0) (y .kept .0)
+    let e : n .line-end .result ≡ b .i = omega (arith, n .line-end .ensures .2, left .before .if1 .left) in
+    let stop = subst (λ (k : ℕ). stops (part (a .t .now) k (a .to)) ≡ true) e (n .line-end .ensures .1) in
+    laws.blanks (b .inv) (entry .pre .1) (left .before .before .before .loop-test .taken) stop (left .if2 .left) (y .put .ensures .0)
+    (y .put .kept .0)
 
 same-length : tie.Need-same-length Inv-loop μ-loop
 same-length c = c .before .loop .inv .long

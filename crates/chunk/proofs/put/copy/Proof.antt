@@ -43,23 +43,25 @@ loop-less c = omega arith
 
 loop-again : tie.Need-loop-again Inv-loop μ-loop
 loop-again c =
-    let turn = c .before .before .before .before .before .before in
+    let y = c .before .before in
+    let loop-test = y .before .before .before in
+    let turn = loop-test .before in
     let entry = turn .before .before .before .before in
     let a = entry .args in
     let b = turn .loop in
-    let y = c .before .before .put in
-    let inside : b .i < length (a .s .now) = omega (arith, c .before .before .before .before .before .loop-test .taken, entry .pre .1) in
-    let put = laws.copy-on (a .s .now) (a .from) (b .inv .1) inside (b .inv .0) (y .ensures .0) in
-    (put, omega arith, omega arith, omega (arith, y .ensures .1), y .kept .0 ∙ b .inv .4)
+    let inside : b .i < length (a .s .now) = omega (arith, loop-test .loop-test .taken, entry .pre .1) in
+    let put = laws.copy-on (a .s .now) (a .from) (b .inv .1) inside (b .inv .0) (y .put .ensures .0) in
+    (put, omega arith, omega arith, omega (arith, y .put .ensures .1), y .put .kept .0 ∙ b .inv .4)
 
 same-length : tie.Need-same-length Inv-loop μ-loop
 same-length c = c .before .loop .inv .4
 
 returns-2 : tie.Need-returns-2 Inv-loop μ-loop
 returns-2 c =
-    let a = c .before .before .before .before .before .args in
-    let b = c .before .loop in
-    let end : b .i ≡ a .to = omega arith in (laws.copied (a .s .now) (a .from) end (b .inv .0), omega arith)
+    let b = c .before in
+    let begin = b .before .before .before .before in
+    let a = begin .args in
+    let end : b .loop .i ≡ a .to = omega arith in (laws.copied (a .s .now) (a .from) end (b .loop .inv .0), omega arith)
 
 pub copy-spec : {M : Type 1} → statement M
 copy-spec =

@@ -14,84 +14,89 @@ use Rattle.command.proofs.execute.execute_bare.Tie as tie
 
 put-code-requires : tie.Need-put-code-requires
 put-code-requires c κs =
-    let a = c .before .before .before .before .before .before .args in
-    let p = c .before .before .before .before .before .before .pre in
-    let s = subst Sane (c .before .before .m .given .1) (p .0) in
-    (s .0, omega (arith, octets-three _ (s .1), p .1, p .3))
+    let m = c .before .before in
+    let p = m .before .before .before .before in
+    let a = p .args in
+    let s = subst Sane (m .m .given .1) (p .pre .0) in
+    (s .0, omega (arith, octets-three _ (s .1), p .pre .1, p .pre .3))
 
 put-code-requires-2 : tie.Need-put-code-requires-2
 put-code-requires-2 c κs =
-    let a = c .before .before .before .before .before .before .args in
-    let p = c .before .before .before .before .before .before .pre in
-    let s = subst Sane (c .before .before .m2 .given .1) (p .0) in
-    (s .0, omega (arith, octets-two _ (s .1), p .1, p .3))
+    let m2 = c .before .before in
+    let p = m2 .before .before .before .before in
+    let a = p .args in
+    let s = subst Sane (m2 .m2 .given .1) (p .pre .0) in
+    (s .0, omega (arith, octets-two _ (s .1), p .pre .1, p .pre .3))
 
 put-code-requires-3 : tie.Need-put-code-requires-3
 unfolding isScalar
 put-code-requires-3 c κs =
-    let a = c .before .before .before .before .before .args in
-    let p = c .before .before .before .before .before .pre in
-    (refl, omega (arith, octets-two 0xF8 (omega arith), p .1, p .3))
+    let p = c .before .before .before .before .before in
+    let a = p .args in
+    (refl, omega (arith, octets-two 0xF8 (omega arith), p .pre .1, p .pre .3))
 
 put-code-requires-4 : tie.Need-put-code-requires-4
 unfolding isScalar
 put-code-requires-4 c κs =
-    let a = c .before .before .before .before .before .args in
-    let p = c .before .before .before .before .before .pre in
-    (refl, omega (arith, octets-two 0xA9 (omega arith), p .1, p .3))
+    let p = c .before .before .before .before .before in
+    let a = p .args in
+    (refl, omega (arith, octets-two 0xA9 (omega arith), p .pre .1, p .pre .3))
 
 returns : tie.Need-returns
 returns c =
-    let a = c .before .before .before .before .before .before .before .before .args in
-    let p = c .before .before .before .before .before .before .before .before .pre in
-    let y = c .before .before .copy in (
-      laws.bare-as (part (a .s .now) (a .a) (a .e)) (a .m) (a .out .now) (a .at) Itself _ (y .result) _
-          (c .before .before .before .before .enum-told .given .1) refl (y .ensures .0),
-      omega (arith, y .ensures .1),
+    let y = c .before .before in
+    let enum-told = y .before .before in
+    let p = enum-told .before .before .before .before in
+    let a = p .args in (
+      laws.bare-as (part (a .s .now) (a .a) (a .e)) (a .m) (a .out .now) (a .at) Itself _ (y .copy .result) _
+          (enum-told .enum-told .given .1) refl (y .copy .ensures .0),
+      omega (arith, y .copy .ensures .1),
     )
 
 returns-2 : tie.Need-returns-2
 returns-2 c =
-    let a = c .before .before .before .before .before .before .before .before .before .args in
-    let p = c .before .before .before .before .before .before .before .before .before .pre in
-    let y = c .before .before .put-code in
-    let s = subst Sane (c .before .before .before .before .before .m .given .1) (p .0) in (
-      laws.bare-as (part (a .s .now) (a .a) (a .e)) (a .m) (a .out .now) (a .at) _ _ (y .result) _
-          (c .before .before .before .before .before .m .given .1) refl (y .ensures),
-      omega (arith, y .ensures .end, octets-three _ (s .1), p .1),
+    let y = c .before .before in
+    let m = y .before .before .before in
+    let p = m .before .before .before .before in
+    let a = p .args in
+    let s = subst Sane (m .m .given .1) (p .pre .0) in (
+      laws.bare-as (part (a .s .now) (a .a) (a .e)) (a .m) (a .out .now) (a .at) _ _ (y .put-code .result) _
+          (m .m .given .1) refl (y .put-code .ensures),
+      omega (arith, y .put-code .ensures .end, octets-three _ (s .1), p .pre .1),
     )
 
 returns-3 : tie.Need-returns-3
 returns-3 c =
-    let a = c .before .before .before .before .before .before .before .before .before .args in
-    let p = c .before .before .before .before .before .before .before .before .before .pre in
-    let y = c .before .before .put-code2 in
-    let s = subst Sane (c .before .before .before .before .before .m2 .given .1) (p .0) in (
-      laws.bare-as (part (a .s .now) (a .a) (a .e)) (a .m) (a .out .now) (a .at) _ _ (y .result) _
-          (c .before .before .before .before .before .m2 .given .1) refl (y .ensures),
-      omega (arith, y .ensures .end, octets-two _ (s .1), p .1),
+    let y = c .before .before in
+    let m2 = y .before .before .before in
+    let p = m2 .before .before .before .before in
+    let a = p .args in
+    let s = subst Sane (m2 .m2 .given .1) (p .pre .0) in (
+      laws.bare-as (part (a .s .now) (a .a) (a .e)) (a .m) (a .out .now) (a .at) _ _ (y .put-code2 .result) _
+          (m2 .m2 .given .1) refl (y .put-code2 .ensures),
+      omega (arith, y .put-code2 .ensures .end, octets-two _ (s .1), p .pre .1),
     )
 
 returns-4 : tie.Need-returns-4
 returns-4 c =
-    let a = c .before .before .before .before .before .before .before .before .args in
-    let p = c .before .before .before .before .before .before .before .before .pre in
-    let y = c .before .before .put-code3 in (
-      laws.bare-as (part (a .s .now) (a .a) (a .e)) (a .m) (a .out .now) (a .at) Slash _ (y .result) _
-          (c .before .before .before .before .enum-told2 .given .1) refl (y .ensures),
-      omega
-          (arith, y .ensures .end, octets-two 0xF8 (omega arith), p .1),
+    let y = c .before .before in
+    let enum-told2 = y .before .before in
+    let p = enum-told2 .before .before .before .before in
+    let a = p .args in (
+      laws.bare-as (part (a .s .now) (a .a) (a .e)) (a .m) (a .out .now) (a .at) Slash _ (y .put-code3 .result) _
+          (enum-told2 .enum-told2 .given .1) refl (y .put-code3 .ensures),
+      omega (arith, y .put-code3 .ensures .end, octets-two 0xF8 (omega arith), p .pre .1),
     )
 
 returns-5 : tie.Need-returns-5
 returns-5 c =
-    let a = c .before .before .before .before .before .before .before .before .args in
-    let p = c .before .before .before .before .before .before .before .before .pre in
-    let y = c .before .before .put-code4 in (
-      laws.bare-as (part (a .s .now) (a .a) (a .e)) (a .m) (a .out .now) (a .at) Copyright _ (y .result) _
-          (c .before .before .before .before .enum-told3 .given .1) (sym (append-nil (octets 0xA9))) (y .ensures),
-      omega
-          (arith, y .ensures .end, octets-two 0xA9 (omega arith), p .1),
+    let y = c .before .before in
+    let enum-told3 = y .before .before in
+    let p = enum-told3 .before .before .before .before in
+    let a = p .args in (
+      laws.bare-as (part (a .s .now) (a .a) (a .e)) (a .m) (a .out .now) (a .at) Copyright _ (y .put-code4 .result) _
+          (enum-told3 .enum-told3 .given .1) (sym (append-nil (octets 0xA9))) (y .put-code4 .ensures),
+      omega (arith, y .put-code4 .ensures .end, octets-two 0xA9 (omega arith), p .pre .1),
     )
 
 returns-6 : tie.Need-returns-6
@@ -105,15 +110,15 @@ returns-6 c =
 
 returns-7 : tie.Need-returns-7
 returns-7 c =
-    let a = c .before .before .before .before .before .before .before .before .before .before .before .before .before .before .before .before .args in
-    let p = c .before .before .before .before .before .before .before .before .before .before .before .before .before .before .before .before .pre in
-    let x = c .before .before .before .before .before .before .before .before .before .before .push in
-    let y = c .before .before .before .before .before .before .copy2 in
-    let z = c .before .before .push2 in (
-      laws.bare-unknown (part (a .s .now) (a .a) (a .e)) (a .m) (a .out .now) (a .at) (x .result) _ (y .result) _ (z .result) _
-          (c .before .before .before .before .before .before .before .before .before .before .before .before .enum-told5 .given .1) (x .ensures .0)
-          (y .ensures .0) (z .ensures .0),
-      omega (arith, x .ensures .1, y .ensures .1, z .ensures .1),
+    let z = c .before .before in
+    let y = z .before .before .before .before in
+    let x = y .before .before .before .before in
+    let enum-told5 = x .before .before in
+    let p = enum-told5 .before .before .before .before in
+    let a = p .args in (
+      laws.bare-unknown (part (a .s .now) (a .a) (a .e)) (a .m) (a .out .now) (a .at) (x .push .result) _ (y .copy2 .result) _ (z .push2 .result) _
+          (enum-told5 .enum-told5 .given .1) (x .push .ensures .0) (y .copy2 .ensures .0) (z .push2 .ensures .0),
+      omega (arith, x .push .ensures .1, y .copy2 .ensures .1, z .push2 .ensures .1),
     )
 
 pub execute-bare-spec : {M : Type 1} → statement M

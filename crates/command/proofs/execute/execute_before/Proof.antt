@@ -16,26 +16,27 @@ put-code-requires c κs = (refl, omega (arith, c .before .before .before .before
 
 returns : tie.Need-returns
 returns c =
-    let begin = c .before .before .before .before .before .before .before .before in
-    let a = begin .args in
-    let known = c .before .before .before .before .enum-told .given .1 in
-    let put = c .before .before .put-code in (
-      leads (a .at) (part (a .s .now) (a .a) (a .e)) (a .out .now) (a .m) meaning.Copyright (put .result) _ known (put .ensures),
-      omega (arith, put .ensures .end, begin .pre .0, octets-two 0xA9 (omega arith)),
+    let put = c .before .before in
+    let known = put .before .before in
+    let begin = known .before .before .before .before in
+    let a = begin .args in (
+      leads (a .at) (part (a .s .now) (a .a) (a .e)) (a .out .now) (a .m) meaning.Copyright (put .put-code .result) _ (known .enum-told .given .1)
+          (put .put-code .ensures),
+      omega (arith, put .put-code .ensures .end, begin .pre .0, octets-two 0xA9 (omega arith)),
     )
 
 returns-2 : tie.Need-returns-2
 returns-2 c =
-    let match = c .before .before .before .before .before .before .before .before .before .before .before .before in
+    let last = c .before .before in
+    let copy = last .before .before .before .before in
+    let push = copy .before .before .before .before in
+    let match = push .before .before in
     let begin = match .before .before .before .before in
     let a = begin .args in
-    let known = match .enum-told2 .given .1 in
-    let push = c .before .before .before .before .before .before .before .before .before .before .push in
-    let copy = c .before .before .before .before .before .before .copy in
-    let last = c .before .before .push2 in (
-      leads-unknown (a .at) (part (a .s .now) (a .a) (a .e)) (a .out .now) (a .m) (push .result) _ (copy .result) _ (last .result) _ known
-          (push .ensures .0) (copy .ensures .0) (last .ensures .0),
-      omega (arith, push .ensures .1, copy .ensures .1, last .ensures .1, begin .pre .0),
+    let known = match .enum-told2 .given .1 in (
+      leads-unknown (a .at) (part (a .s .now) (a .a) (a .e)) (a .out .now) (a .m) (push .push .result) _ (copy .copy .result) _ (last .push2 .result)
+          _ known (push .push .ensures .0) (copy .copy .ensures .0) (last .push2 .ensures .0),
+      omega (arith, push .push .ensures .1, copy .copy .ensures .1, last .push2 .ensures .1, begin .pre .0),
     )
 
 returns-3 : tie.Need-returns-3

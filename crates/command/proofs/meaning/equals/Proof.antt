@@ -3,7 +3,7 @@ use Prim.Native.Nat.{ℕ, _+_, _-_}
 use borrow.Author.Needs.{needs}
 use mathlib.Core.Path.{sym, ap, _∙_}
 use Rattle.text.specs.Scan.{part}
-use Rattle.text.specs.Same.{sameBytes}
+use Rattle.text.specs.SameBytes.{sameBytes}
 use Rattle.command.proofs.ways.MeaningRows as laws
 use Rattle.command.proofs.meaning.equals.Statement.{statement}
 use Rattle.command.proofs.meaning.equals.Tie as tie

@@ -4,7 +4,7 @@ use native.Mathlib.Omega.{arith}
 use borrow.Author.Needs.{needs}
 use mathlib.Core.Path.{_≡_, sym, _∙_}
 use Rattle.text.specs.Scan.{part}
-use Rattle.text.specs.Same.{sameBytes}
+use Rattle.text.specs.SameBytes.{sameBytes}
 use Rattle.command.proofs.ways.MeaningRows as laws
 use Rattle.command.proofs.meaning.matches.Statement.{statement}
 use Rattle.command.proofs.meaning.matches.Tie as tie
@@ -20,19 +20,23 @@ loop-holds c = let a = c .args in (omega arith, laws.left-start (a .names .now) 
 
 returns : tie.Need-returns Inv-loop μ-loop
 returns c =
-    let a = c .before .before .before .before .before .args in
-    let p = c .before .before .before .before .before .pre in
-    let b = c .before .before .before .before .loop in
-    let l = c .before .before .before .loop-test .taken in
-    laws.left-off (a .names .now) (a .i) (a .s .now) (a .a) (a .n) (p .0) (p .1) (b .k) l (c .if1 .taken) ∙ sym (b .inv .1)
+    let l = c .before .before .before in
+    let b = l .before in
+    let p = b .before in
+    let a = p .args in
+    laws.left-off (a .names .now) (a .i) (a .s .now) (a .a) (a .n) (p .pre .0) (p .pre .1) (b .loop .k) (l .loop-test .taken) (c .if1 .taken) ∙ sym
+    (b .loop .inv .1)
 
 loop-again : tie.Need-loop-again Inv-loop μ-loop
 loop-again c =
-    let a = c .before .before .before .before .before .args in
-    let p = c .before .before .before .before .before .pre in
-    let b = c .before .before .before .before .loop in
-    let l = c .before .before .before .loop-test .taken in
-    (omega (arith, l), b .inv .1 ∙ laws.left-on (a .names .now) (a .i) (a .s .now) (a .a) (a .n) (p .0) (p .1) (b .k) l (c .if1 .left))
+    let l = c .before .before .before in
+    let b = l .before in
+    let p = b .before in
+    let a = p .args in (
+      omega (arith, l .loop-test .taken),
+      b .loop .inv .1 ∙ laws.left-on (a .names .now) (a .i) (a .s .now) (a .a) (a .n) (p .pre .0) (p .pre .1)
+          (b .loop .k) (l .loop-test .taken) (c .if1 .left),
+    )
 
 returns-2 : tie.Need-returns-2 Inv-loop μ-loop
 returns-2 c =

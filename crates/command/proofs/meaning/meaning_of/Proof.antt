@@ -18,9 +18,10 @@ abbrev μ-loop : tie.MeasureT-loop
 
 returns : tie.Need-returns Inv-loop μ-loop
 returns c =
-    let a = c .before .before .before .before .before .args in
-    let p = c .before .before .before .before .before .pre in
-    c .meaning-one .ensures ∙ ap meaningOf (laws.name-one (a .s .now) (a .a) (a .e) _ (c .before .before .if1 .taken) (p .2) refl)
+    let if1 = c .before .before in
+    let p = if1 .before .before .before in
+    let a = p .args in
+    c .meaning-one .ensures ∙ ap meaningOf (laws.name-one (a .s .now) (a .a) (a .e) _ (if1 .if1 .taken) (p .pre .2) refl)
 
 loop-holds : tie.Need-loop-holds Inv-loop μ-loop
 loop-holds c =
@@ -30,146 +31,159 @@ loop-holds c =
 
 equals-requires : tie.Need-equals-requires Inv-loop μ-loop
 equals-requires c κs =
-    let a = c .before .before .before .before .before .before .before .args in
-    let p = c .before .before .before .before .before .before .before .pre in
-    let b = c .before .before .before .loop in
-    let l = c .before .before .loop-test .taken in
+    let l = c .before .before in
+    let b = l .before in
+    let p = b .before .before .before .before in
+    let a = p .args in
     let m = c .wide .result in
-    let g = laws.is-here (a .names .now) (part (a .s .now) (a .a) (a .e)) (b .i) (b .inv) l in
-    let r = laws.room (a .names .now) (part (a .s .now) (a .a) (a .e)) (b .i) m (b .inv) l (c .wide .ensures) in
-    (r, omega (arith, p .1, p .2))
+    let g = laws.is-here (a .names .now) (part (a .s .now) (a .a) (a .e)) (b .loop .i) (b .loop .inv) (l .loop-test .taken) in
+    let r = laws.room (a .names .now) (part (a .s .now) (a .a) (a .e)) (b .loop .i) m (b .loop .inv) (l .loop-test .taken) (c .wide .ensures) in
+    (r, omega (arith, p .pre .1, p .pre .2))
 
 add-meaning-at : tie.Need-add-meaning-at Inv-loop μ-loop
 add-meaning-at c =
-    let a = c .before .before .before .before .before .before .before .before .before .args in
-    let p = c .before .before .before .before .before .before .before .before .before .pre in
-    let b = c .before .before .before .before .before .loop in
-    let l = c .before .before .before .before .loop-test .taken in
-    let m = c .before .before .wide .result in
-    let g = laws.is-here (a .names .now) (part (a .s .now) (a .a) (a .e)) (b .i) (b .inv) l in
-    let r = laws.room (a .names .now) (part (a .s .now) (a .a) (a .e)) (b .i) m (b .inv) l (c .before .before .wide .ensures) in
-    omega (arith, r, c .before .before .before .before .before .before .before .before .before .fits)
+    let m = c .before .before in
+    let l = m .before .before in
+    let b = l .before in
+    let p = b .before .before .before .before in
+    let a = p .args in
+    let g = laws.is-here (a .names .now) (part (a .s .now) (a .a) (a .e)) (b .loop .i) (b .loop .inv) (l .loop-test .taken) in
+    let r = laws.room (a .names .now) (part (a .s .now) (a .a) (a .e)) (b .loop .i) (m .wide .result) (b .loop .inv) (l .loop-test .taken)
+    (m .wide .ensures) in
+    omega (arith, r, p .fits)
 
 shared-slice-read-meaning-at : tie.Need-shared-slice-read-meaning-at Inv-loop μ-loop
 shared-slice-read-meaning-at c =
-    let a = c .before .before .before .before .before .before .before .before .before .before .args in
-    let p = c .before .before .before .before .before .before .before .before .before .before .pre in
-    let b = c .before .before .before .before .before .before .loop in
-    let l = c .before .before .before .before .before .loop-test .taken in
-    let m = c .before .before .before .wide .result in
-    let g = laws.is-here (a .names .now) (part (a .s .now) (a .a) (a .e)) (b .i) (b .inv) l in
-    let r = laws.room (a .names .now) (part (a .s .now) (a .a) (a .e)) (b .i) m (b .inv) l (c .before .before .before .wide .ensures) in
-    omega (arith, r, c .before .before .before .before .before .before .before .before .before .before .fits)
+    let m = c .before .before .before in
+    let l = m .before .before in
+    let b = l .before in
+    let p = b .before .before .before .before in
+    let a = p .args in
+    let g = laws.is-here (a .names .now) (part (a .s .now) (a .a) (a .e)) (b .loop .i) (b .loop .inv) (l .loop-test .taken) in
+    let r = laws.room (a .names .now) (part (a .s .now) (a .a) (a .e)) (b .loop .i) (m .wide .result) (b .loop .inv) (l .loop-test .taken)
+    (m .wide .ensures) in
+    omega (arith, r, p .fits)
 
 add-meaning-at-2 : tie.Need-add-meaning-at-2 Inv-loop μ-loop
 add-meaning-at-2 c =
-    let a = c .before .before .before .before .before .before .before .before .before .before .args in
-    let p = c .before .before .before .before .before .before .before .before .before .before .pre in
-    let b = c .before .before .before .before .before .before .loop in
-    let l = c .before .before .before .before .before .loop-test .taken in
-    let m = c .before .before .before .wide .result in
-    let g = laws.is-here (a .names .now) (part (a .s .now) (a .a) (a .e)) (b .i) (b .inv) l in
-    let r = laws.room (a .names .now) (part (a .s .now) (a .a) (a .e)) (b .i) m (b .inv) l (c .before .before .before .wide .ensures) in
-    omega (arith, r, c .before .before .before .before .before .before .before .before .before .before .fits)
+    let m = c .before .before .before in
+    let l = m .before .before in
+    let b = l .before in
+    let p = b .before .before .before .before in
+    let a = p .args in
+    let g = laws.is-here (a .names .now) (part (a .s .now) (a .a) (a .e)) (b .loop .i) (b .loop .inv) (l .loop-test .taken) in
+    let r = laws.room (a .names .now) (part (a .s .now) (a .a) (a .e)) (b .loop .i) (m .wide .result) (b .loop .inv) (l .loop-test .taken)
+    (m .wide .ensures) in
+    omega (arith, r, p .fits)
 
 shared-slice-read-meaning-at-2 : tie.Need-shared-slice-read-meaning-at-2 Inv-loop μ-loop
 shared-slice-read-meaning-at-2 c =
-    let a = c .before .before .before .before .before .before .before .before .before .before .before .args in
-    let p = c .before .before .before .before .before .before .before .before .before .before .before .pre in
-    let b = c .before .before .before .before .before .before .before .loop in
-    let l = c .before .before .before .before .before .before .loop-test .taken in
-    let m = c .before .before .before .before .wide .result in
-    let g = laws.is-here (a .names .now) (part (a .s .now) (a .a) (a .e)) (b .i) (b .inv) l in
-    let r = laws.room (a .names .now) (part (a .s .now) (a .a) (a .e)) (b .i) m (b .inv) l (c .before .before .before .before .wide .ensures) in
-    omega (arith, r, c .before .before .before .before .before .before .before .before .before .before .before .fits)
+    let m = c .before .before .before .before in
+    let l = m .before .before in
+    let b = l .before in
+    let p = b .before .before .before .before in
+    let a = p .args in
+    let g = laws.is-here (a .names .now) (part (a .s .now) (a .a) (a .e)) (b .loop .i) (b .loop .inv) (l .loop-test .taken) in
+    let r = laws.room (a .names .now) (part (a .s .now) (a .a) (a .e)) (b .loop .i) (m .wide .result) (b .loop .inv) (l .loop-test .taken)
+    (m .wide .ensures) in
+    omega (arith, r, p .fits)
 
 add-meaning-at-3 : tie.Need-add-meaning-at-3 Inv-loop μ-loop
 add-meaning-at-3 c =
-    let a = c .before .before .before .before .before .before .before .before .before .before .before .args in
-    let p = c .before .before .before .before .before .before .before .before .before .before .before .pre in
-    let b = c .before .before .before .before .before .before .before .loop in
-    let l = c .before .before .before .before .before .before .loop-test .taken in
-    let m = c .before .before .before .before .wide .result in
-    let g = laws.is-here (a .names .now) (part (a .s .now) (a .a) (a .e)) (b .i) (b .inv) l in
-    let r = laws.room (a .names .now) (part (a .s .now) (a .a) (a .e)) (b .i) m (b .inv) l (c .before .before .before .before .wide .ensures) in
-    omega (arith, r, c .before .before .before .before .before .before .before .before .before .before .before .fits)
+    let m = c .before .before .before .before in
+    let l = m .before .before in
+    let b = l .before in
+    let p = b .before .before .before .before in
+    let a = p .args in
+    let g = laws.is-here (a .names .now) (part (a .s .now) (a .a) (a .e)) (b .loop .i) (b .loop .inv) (l .loop-test .taken) in
+    let r = laws.room (a .names .now) (part (a .s .now) (a .a) (a .e)) (b .loop .i) (m .wide .result) (b .loop .inv) (l .loop-test .taken)
+    (m .wide .ensures) in
+    omega (arith, r, p .fits)
 
 shared-slice-read-meaning-at-3 : tie.Need-shared-slice-read-meaning-at-3 Inv-loop μ-loop
 shared-slice-read-meaning-at-3 c =
-    let a = c .before .before .before .before .before .before .before .before .before .before .before .before .args in
-    let p = c .before .before .before .before .before .before .before .before .before .before .before .before .pre in
-    let b = c .before .before .before .before .before .before .before .before .loop in
-    let l = c .before .before .before .before .before .before .before .loop-test .taken in
-    let m = c .before .before .before .before .before .wide .result in
-    let g = laws.is-here (a .names .now) (part (a .s .now) (a .a) (a .e)) (b .i) (b .inv) l in
-    let r = laws.room (a .names .now) (part (a .s .now) (a .a) (a .e)) (b .i) m (b .inv) l (c .before .before .before .before .before .wide .ensures)
+    let m = c .before .before .before .before .before in
+    let l = m .before .before in
+    let b = l .before in
+    let p = b .before .before .before .before in
+    let a = p .args in
+    let g = laws.is-here (a .names .now) (part (a .s .now) (a .a) (a .e)) (b .loop .i) (b .loop .inv) (l .loop-test .taken) in
+    let r = laws.room (a .names .now) (part (a .s .now) (a .a) (a .e)) (b .loop .i) (m .wide .result) (b .loop .inv) (l .loop-test .taken)
+    (m .wide .ensures)
     in
-    omega (arith, r, c .before .before .before .before .before .before .before .before .before .before .before .before .fits)
+    omega (arith, r, p .fits)
 
 returns-2 : tie.Need-returns-2 Inv-loop μ-loop
 returns-2 c =
-    let a = c .before .before .before .before .before .before .before .before .before .before .before .before .before .args in
-    let p = c .before .before .before .before .before .before .before .before .before .before .before .before .before .pre in
-    let b = c .before .before .before .before .before .before .before .before .before .loop in
-    let l = c .before .before .before .before .before .before .before .before .loop-test .taken in
-    let m = c .before .before .before .before .before .before .wide .result in
-    let g = laws.is-here (a .names .now) (part (a .s .now) (a .a) (a .e)) (b .i) (b .inv) l in
-    let r = laws.room (a .names .now) (part (a .s .now) (a .a) (a .e)) (b .i) m (b .inv) l
-    (c .before .before .before .before .before .before .wide .ensures) in
-    c .meaning-at .ensures ∙ laws.found (a .names .now) (part (a .s .now) (a .a) (a .e)) (b .i) l g m _ _
-    (c .before .before .before .before .before .before .wide .ensures) (c .before .before .before .before .before .equals .ensures)
-    (laws.name-part (a .s .now) (a .a) (a .e) _ refl (p .1)) (c .before .before .before .before .if2 .taken)
+    let if2 = c .before .before .before .before in
+    let equals = if2 .before in
+    let m = equals .before in
+    let loop-test = m .before .before in
+    let b = loop-test .before in
+    let p = b .before .before .before .before in
+    let a = p .args in
+    let l = loop-test .loop-test .taken in
+    let g = laws.is-here (a .names .now) (part (a .s .now) (a .a) (a .e)) (b .loop .i) (b .loop .inv) l in
+    let r = laws.room (a .names .now) (part (a .s .now) (a .a) (a .e)) (b .loop .i) (m .wide .result) (b .loop .inv) l (m .wide .ensures) in
+    c .meaning-at .ensures ∙ laws.found (a .names .now) (part (a .s .now) (a .a) (a .e)) (b .loop .i) l g (m .wide .result) _ _
+    (m .wide .ensures) (equals .equals .ensures) (laws.name-part (a .s .now) (a .a) (a .e) _ refl (p .pre .1)) (if2 .if2 .taken)
 
 add-i : tie.Need-add-i Inv-loop μ-loop
 add-i c =
-    let a = c .before .before .before .before .before .before .before .before .before .args in
-    let p = c .before .before .before .before .before .before .before .before .before .pre in
-    let b = c .before .before .before .before .before .loop in
-    let l = c .before .before .before .before .loop-test .taken in
-    let m = c .before .before .wide .result in
-    let g = laws.is-here (a .names .now) (part (a .s .now) (a .a) (a .e)) (b .i) (b .inv) l in
-    let r = laws.room (a .names .now) (part (a .s .now) (a .a) (a .e)) (b .i) m (b .inv) l (c .before .before .wide .ensures) in
-    omega (arith, r, l, c .before .before .before .before .before .before .before .before .before .fits)
+    let m = c .before .before in
+    let loop-test = m .before .before in
+    let b = loop-test .before in
+    let p = b .before .before .before .before in
+    let a = p .args in
+    let l = loop-test .loop-test .taken in
+    let g = laws.is-here (a .names .now) (part (a .s .now) (a .a) (a .e)) (b .loop .i) (b .loop .inv) l in
+    let r = laws.room (a .names .now) (part (a .s .now) (a .a) (a .e)) (b .loop .i) (m .wide .result) (b .loop .inv) l (m .wide .ensures) in
+    omega (arith, r, l, p .fits)
 
 add-i-2 : tie.Need-add-i-2 Inv-loop μ-loop
 add-i-2 c =
-    let a = c .before .before .before .before .before .before .before .before .before .args in
-    let p = c .before .before .before .before .before .before .before .before .before .pre in
-    let b = c .before .before .before .before .before .loop in
-    let l = c .before .before .before .before .loop-test .taken in
-    let m = c .before .before .wide .result in
-    let g = laws.is-here (a .names .now) (part (a .s .now) (a .a) (a .e)) (b .i) (b .inv) l in
-    let r = laws.room (a .names .now) (part (a .s .now) (a .a) (a .e)) (b .i) m (b .inv) l (c .before .before .wide .ensures) in
-    omega (arith, r, l, c .before .before .before .before .before .before .before .before .before .fits)
+    let m = c .before .before in
+    let loop-test = m .before .before in
+    let b = loop-test .before in
+    let p = b .before .before .before .before in
+    let a = p .args in
+    let l = loop-test .loop-test .taken in
+    let g = laws.is-here (a .names .now) (part (a .s .now) (a .a) (a .e)) (b .loop .i) (b .loop .inv) l in
+    let r = laws.room (a .names .now) (part (a .s .now) (a .a) (a .e)) (b .loop .i) (m .wide .result) (b .loop .inv) l (m .wide .ensures) in
+    omega (arith, r, l, p .fits)
 
 loop-less : tie.Need-loop-less Inv-loop μ-loop
 loop-less c =
-    let a = c .before .before .before .before .before .before .before .before .before .args in
-    let p = c .before .before .before .before .before .before .before .before .before .pre in
-    let b = c .before .before .before .before .before .loop in
-    let l = c .before .before .before .before .loop-test .taken in
-    let m = c .before .before .wide .result in
-    let g = laws.is-here (a .names .now) (part (a .s .now) (a .a) (a .e)) (b .i) (b .inv) l in
-    let r = laws.room (a .names .now) (part (a .s .now) (a .a) (a .e)) (b .i) m (b .inv) l (c .before .before .wide .ensures) in
-    omega (arith, r, l, c .before .before .before .before .before .before .before .before .before .fits)
+    let m = c .before .before in
+    let loop-test = m .before .before in
+    let b = loop-test .before in
+    let p = b .before .before .before .before in
+    let a = p .args in
+    let l = loop-test .loop-test .taken in
+    let g = laws.is-here (a .names .now) (part (a .s .now) (a .a) (a .e)) (b .loop .i) (b .loop .inv) l in
+    let r = laws.room (a .names .now) (part (a .s .now) (a .a) (a .e)) (b .loop .i) (m .wide .result) (b .loop .inv) l (m .wide .ensures) in
+    omega (arith, r, l, p .fits)
 
 loop-again : tie.Need-loop-again Inv-loop μ-loop
 loop-again c =
-    let a = c .before .before .before .before .before .before .before .before .before .args in
-    let p = c .before .before .before .before .before .before .before .before .before .pre in
-    let b = c .before .before .before .before .before .loop in
-    let l = c .before .before .before .before .loop-test .taken in
-    let m = c .before .before .wide .result in
-    let g = laws.is-here (a .names .now) (part (a .s .now) (a .a) (a .e)) (b .i) (b .inv) l in
-    let r = laws.room (a .names .now) (part (a .s .now) (a .a) (a .e)) (b .i) m (b .inv) l (c .before .before .wide .ensures) in
-    laws.missed (a .names .now) (part (a .s .now) (a .a) (a .e)) (b .i) l g m _ _ (c .before .before .wide .ensures) (c .before .equals .ensures)
-    (laws.name-part (a .s .now) (a .a) (a .e) _ refl (p .1)) (c .if2 .left)
+    let equals = c .before in
+    let m = equals .before in
+    let loop-test = m .before .before in
+    let b = loop-test .before in
+    let p = b .before .before .before .before in
+    let a = p .args in
+    let l = loop-test .loop-test .taken in
+    let g = laws.is-here (a .names .now) (part (a .s .now) (a .a) (a .e)) (b .loop .i) (b .loop .inv) l in
+    let r = laws.room (a .names .now) (part (a .s .now) (a .a) (a .e)) (b .loop .i) (m .wide .result) (b .loop .inv) l (m .wide .ensures) in
+    laws.missed (a .names .now) (part (a .s .now) (a .a) (a .e)) (b .loop .i) l g (m .wide .result) _ _ (m .wide .ensures) (equals .equals .ensures)
+    (laws.name-part (a .s .now) (a .a) (a .e) _ refl (p .pre .1)) (c .if2 .left)
 
 returns-3 : tie.Need-returns-3 Inv-loop μ-loop
 returns-3 c =
-    let a = c .before .before .before .before .before .args in
-    let p = c .before .before .before .before .before .pre in
-    laws.ended (a .names .now) (part (a .s .now) (a .a) (a .e)) (c .before .loop .i) (c .before .loop .inv) (c .loop-test .left)
+    let looping = c .before in
+    let p = looping .before .before .before .before in
+    let a = p .args in
+    laws.ended (a .names .now) (part (a .s .now) (a .a) (a .e)) (looping .loop .i) (looping .loop .inv) (c .loop-test .left)
 
 pub meaning-of-spec : {M : Type 1} → statement M
 meaning-of-spec =

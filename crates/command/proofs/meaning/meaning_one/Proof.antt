@@ -3,7 +3,7 @@ use mathlib.Core.Path.{refl}
 use borrow.Author.Tests.{ne-eqb}
 use Rattle.text.specs.Utf8.{octets}
 use Rattle.text.specs.Strings.{utf8}
-use Rattle.text.specs.Same.{sameBytes}
+use Rattle.text.specs.SameBytes.{sameBytes}
 use Rattle.command.specs.Commands.{commands, meaningIn}
 use Rattle.command.proofs.ways.MeaningRows as laws
 use Rattle.command.proofs.meaning.meaning_one.Statement.{statement}

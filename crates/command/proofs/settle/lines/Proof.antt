@@ -32,125 +32,132 @@ line-end-requires c κs =
 
 ends-white-requires : tie.Need-ends-white-requires Inv-loop μ-loop
 ends-white-requires c κs =
-    let a = c .before .before .before .before .before .before .before .args in
-    let p = c .before .before .before .before .before .before .before .pre in
-    let b = c .before .before .before .before .before .loop in
-    let g = b .inv in
-    let l = c .before .before .before .before .loop-test .taken in
-    let n = c .before .before .line-end in
-    (n .ensures .2, omega (arith, n .ensures .3, g .long, p .1))
+    let n = c .before .before in
+    let l = n .before .before in
+    let b = l .before in
+    let p = b .before .before in
+    let a = p .args in
+    let g = b .loop .inv in
+    (n .line-end .ensures .2, omega (arith, n .line-end .ensures .3, g .long, p .pre .1))
 
 shift-requires : tie.Need-shift-requires Inv-loop μ-loop
 shift-requires c κs =
-    let a = c .before .before .before .before .before .before .before .before .before .args in
-    let p = c .before .before .before .before .before .before .before .before .before .pre in
-    let b = c .before .before .before .before .before .before .before .loop in
-    let g = b .inv in
-    let l = c .before .before .before .before .before .before .loop-test .taken in
-    let n = c .before .before .before .before .line-end in
-    (g .behind, n .ensures .2, omega (arith, n .ensures .3, g .long, p .1))
+    let n = c .before .before .before .before in
+    let l = n .before .before in
+    let b = l .before in
+    let p = b .before .before in
+    let a = p .args in
+    let g = b .loop .inv in
+    (g .behind, n .line-end .ensures .2, omega (arith, n .line-end .ensures .3, g .long, p .pre .1))
 
 loop-less : tie.Need-loop-less Inv-loop μ-loop
 loop-less c =
-    let a = c .before .before .before .before .before .before .before .before .before .before .before .before .args in
-    let p = c .before .before .before .before .before .before .before .before .before .before .before .before .pre in
-    let b = c .before .before .before .before .before .before .before .before .before .before .loop in
-    let g = b .inv in
-    let l = c .before .before .before .before .before .before .before .before .before .loop-test .taken in
-    let n = c .before .before .before .before .before .before .before .line-end in
-    omega (arith, c .before .before .before .before .before .before .if1 .taken, n .ensures .3)
+    let if1 = c .before .before .before .before .before .before in
+    let n = if1 .before in
+    let l = n .before .before in
+    let b = l .before in
+    let p = b .before .before in
+    let a = p .args in
+    let g = b .loop .inv in
+    omega (arith, if1 .if1 .taken, n .line-end .ensures .3)
 
 loop-again : tie.Need-loop-again Inv-loop μ-loop
 loop-again c =
-    let a = c .before .before .before .before .before .before .before .before .before .before .before .before .args in
-    let p = c .before .before .before .before .before .before .before .before .before .before .before .before .pre in
-    let b = c .before .before .before .before .before .before .before .before .before .before .loop in
-    let g = b .inv in
-    let l = c .before .before .before .before .before .before .before .before .before .loop-test .taken in
-    let n = c .before .before .before .before .before .before .before .line-end in
-    let y = c .before .before .shift in
-    let w = c .before .before .before .before .ends-white in
-    laws.runs (a .t .now) (a .from) (a .to) (a .white) (b .t) (b .w) (b .i) (b .j) g (p .1) (n .result) (y .result) _ (w .result)
-    (c .before .before .before .before .before .before .if1 .taken) (n .ensures .3) (n .ensures .0) (n .ensures .1) (w .ensures) (y .ensures .0)
-    (y .ensures .1) (y .kept .0)
+    let y = c .before .before in
+    let w = y .before .before in
+    let if1 = w .before .before in
+    let n = if1 .before in
+    let l = n .before .before in
+    let b = l .before in
+    let p = b .before .before in
+    let a = p .args in
+    let g = b .loop .inv in
+    laws.runs (a .t .now) (a .from) (a .to) (a .white) (b .loop .t) (b .loop .w) (b .loop .i) (b .loop .j) g (p .pre .1) (n .line-end .result)
+    (y .shift .result) _ (w .ends-white .result)
+    (if1 .if1 .taken) (n .line-end .ensures .3) (n .line-end .ensures .0) (n .line-end .ensures .1) (w .ends-white .ensures) (y .shift .ensures .0)
+    (y .shift .ensures .1) (y .shift .kept .0)
 
 add-i : tie.Need-add-i Inv-loop μ-loop
 add-i c =
-    let a = c .before .before .before .before .before .before .before .args in
-    let p = c .before .before .before .before .before .before .before .pre in
-    let b = c .before .before .before .before .before .loop in
-    let g = b .inv in
-    let l = c .before .before .before .before .loop-test .taken in
-    omega (arith, l, p .1, g .behind, g .long, c .before .before .before .before .before .before .before .fits)
+    let l = c .before .before .before .before in
+    let b = l .before in
+    let p = b .before .before in
+    let a = p .args in
+    let g = b .loop .inv in
+    omega (arith, l .loop-test .taken, p .pre .1, g .behind, g .long, p .fits)
 
 loop-less-2 : tie.Need-loop-less-2 Inv-loop μ-loop
 loop-less-2 c =
-    let a = c .before .before .before .before .before .before .before .args in
-    let p = c .before .before .before .before .before .before .before .pre in
-    let b = c .before .before .before .before .before .loop in
-    let g = b .inv in
-    let l = c .before .before .before .before .loop-test .taken in
-    omega (arith, l, p .1, g .behind, g .long, c .before .before .before .before .before .before .before .fits)
+    let l = c .before .before .before .before in
+    let b = l .before in
+    let p = b .before .before in
+    let a = p .args in
+    let g = b .loop .inv in
+    omega (arith, l .loop-test .taken, p .pre .1, g .behind, g .long, p .fits)
 
 loop-again-2 : tie.Need-loop-again-2 Inv-loop μ-loop
 loop-again-2 c =
-    let a = c .before .before .before .before .before .before .before .args in
-    let p = c .before .before .before .before .before .before .before .pre in
-    let b = c .before .before .before .before .before .loop in
-    let g = b .inv in
-    let l = c .before .before .before .before .loop-test .taken in
-    let n = c .before .before .line-end in
-    let i : n .result ≡ b .i = omega (arith, n .ensures .2, c .before .if1 .left) in
-    let s = subst (λ (k : ℕ). stops (part (b .t) k (a .to)) ≡ true) i (n .ensures .1) in
-    laws.passes (a .t .now) (a .from) (a .to) (a .white) (b .t) (b .w) (b .i) (b .j) g (p .1) l s (c .if2 .taken)
+    let if1 = c .before in
+    let n = if1 .before in
+    let l = n .before .before in
+    let b = l .before in
+    let p = b .before .before in
+    let a = p .args in
+    let g = b .loop .inv in
+    let i : n .line-end .result ≡ b .loop .i = omega (arith, n .line-end .ensures .2, if1 .if1 .left) in
+    let s = subst (λ (k : ℕ). stops (part (b .loop .t) k (a .to)) ≡ true) i (n .line-end .ensures .1) in
+    laws.passes (a .t .now) (a .from) (a .to) (a .white) (b .loop .t) (b .loop .w) (b .loop .i) (b .loop .j) g (p .pre .1) (l .loop-test .taken) s
+    (c .if2 .taken)
 
 slice-write-t : tie.Need-slice-write-t Inv-loop μ-loop
 slice-write-t c =
-    let a = c .before .before .before .before .before .before .before .args in
-    let p = c .before .before .before .before .before .before .before .pre in
-    let b = c .before .before .before .before .before .loop in
-    let g = b .inv in
-    let l = c .before .before .before .before .loop-test .taken in
-    omega (arith, l, p .1, g .behind, g .long, c .before .before .before .before .before .before .before .fits)
+    let l = c .before .before .before .before in
+    let b = l .before in
+    let p = b .before .before in
+    let a = p .args in
+    let g = b .loop .inv in
+    omega (arith, l .loop-test .taken, p .pre .1, g .behind, g .long, p .fits)
 
 add-j : tie.Need-add-j Inv-loop μ-loop
 add-j c =
-    let a = c .before .before .before .before .before .before .before .args in
-    let p = c .before .before .before .before .before .before .before .pre in
-    let b = c .before .before .before .before .before .loop in
-    let g = b .inv in
-    let l = c .before .before .before .before .loop-test .taken in
-    omega (arith, l, p .1, g .behind, g .long, c .before .before .before .before .before .before .before .fits)
+    let l = c .before .before .before .before in
+    let b = l .before in
+    let p = b .before .before in
+    let a = p .args in
+    let g = b .loop .inv in
+    omega (arith, l .loop-test .taken, p .pre .1, g .behind, g .long, p .fits)
 
 add-i-2 : tie.Need-add-i-2 Inv-loop μ-loop
 add-i-2 c =
-    let a = c .before .before .before .before .before .before .before .args in
-    let p = c .before .before .before .before .before .before .before .pre in
-    let b = c .before .before .before .before .before .loop in
-    let g = b .inv in
-    let l = c .before .before .before .before .loop-test .taken in
-    omega (arith, l, p .1, g .behind, g .long, c .before .before .before .before .before .before .before .fits)
+    let l = c .before .before .before .before in
+    let b = l .before in
+    let p = b .before .before in
+    let a = p .args in
+    let g = b .loop .inv in
+    omega (arith, l .loop-test .taken, p .pre .1, g .behind, g .long, p .fits)
 
 loop-less-3 : tie.Need-loop-less-3 Inv-loop μ-loop
 loop-less-3 c =
-    let a = c .before .before .before .before .before .before .before .args in
-    let p = c .before .before .before .before .before .before .before .pre in
-    let b = c .before .before .before .before .before .loop in
-    let g = b .inv in
-    let l = c .before .before .before .before .loop-test .taken in
-    omega (arith, l, p .1, g .behind, g .long, c .before .before .before .before .before .before .before .fits)
+    let l = c .before .before .before .before in
+    let b = l .before in
+    let p = b .before .before in
+    let a = p .args in
+    let g = b .loop .inv in
+    omega (arith, l .loop-test .taken, p .pre .1, g .behind, g .long, p .fits)
 
 loop-again-3 : tie.Need-loop-again-3 Inv-loop μ-loop
 loop-again-3 c =
-    let a = c .before .before .before .before .before .before .before .args in
-    let p = c .before .before .before .before .before .before .before .pre in
-    let b = c .before .before .before .before .before .loop in
-    let g = b .inv in
-    let l = c .before .before .before .before .loop-test .taken in
-    let n = c .before .before .line-end in
-    let i : n .result ≡ b .i = omega (arith, n .ensures .2, c .before .if1 .left) in
-    let s = subst (λ (k : ℕ). stops (part (b .t) k (a .to)) ≡ true) i (n .ensures .1) in
-    laws.blanks (a .t .now) (a .from) (a .to) (a .white) (b .t) (b .w) (b .i) (b .j) g (p .1) l s (c .if2 .left)
+    let if1 = c .before in
+    let n = if1 .before in
+    let l = n .before .before in
+    let b = l .before in
+    let p = b .before .before in
+    let a = p .args in
+    let g = b .loop .inv in
+    let i : n .line-end .result ≡ b .loop .i = omega (arith, n .line-end .ensures .2, if1 .if1 .left) in
+    let s = subst (λ (k : ℕ). stops (part (b .loop .t) k (a .to)) ≡ true) i (n .line-end .ensures .1) in
+    laws.blanks (a .t .now) (a .from) (a .to) (a .white) (b .loop .t) (b .loop .w) (b .loop .i) (b .loop .j) g (p .pre .1) (l .loop-test .taken) s
+    (c .if2 .left)
 
 same-length : tie.Need-same-length Inv-loop μ-loop
 same-length c = c .before .loop .inv .long

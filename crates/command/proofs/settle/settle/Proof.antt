@@ -11,12 +11,13 @@ use Rattle.command.proofs.settle.settle.Tie as tie
 
 returns : tie.Need-returns
 returns c =
-    let a = c .before .before .before .before .before .before .args in
-    let p = c .before .before .before .before .before .before .pre in
-    let y = c .before .before .lines in
-    let q = laws.settle-normal (a .braces) (a .white) (part (a .t .now) (a .from) (a .to)) (c .before .before .before .before .if1 .taken) in (
-      lays-as (a .from) _ _ (a .t .now) _ _ (ap (λ (x : Written). x .text) q) (y .ensures .0),
-      (y .ensures .1 .0 ∙ ap (λ (x : Written). x .white) q, y .ensures .1 .1),
+    let y = c .before .before in
+    let if1 = y .before .before in
+    let p = if1 .before .before in
+    let a = p .args in
+    let q = laws.settle-normal (a .braces) (a .white) (part (a .t .now) (a .from) (a .to)) (if1 .if1 .taken) in (
+      lays-as (a .from) _ _ (a .t .now) _ _ (ap (λ (x : Written). x .text) q) (y .lines .ensures .0),
+      (y .lines .ensures .1 .0 ∙ ap (λ (x : Written). x .white) q, y .lines .ensures .1 .1),
     )
 
 returns-2 : tie.Need-returns-2

@@ -8,34 +8,39 @@ use Rattle.command.proofs.stack.put_code.Tie as tie
 
 add-result : tie.Need-add-result
 add-result c =
-    let a = c .before .before .before .before .before .before .before .before .args in
-    let p = c .before .before .before .before .before .before .before .before .pre in
-    let e = laws.wrote-so (a .c) _ _ _ (c .before .before .before .before .before .encode .ensures) (p .0)
-    (laws.room (a .c) (a .out .now) (a .at) (p .1)) (c .before .n .given .0 .0) (c .before .n .given .1) in
-    omega (arith, e, p .1)
+    let n = c .before in
+    let encode = n .before .before .before .before in
+    let p = encode .before .before .before in
+    let a = p .args in
+    let e = laws.wrote-so (a .c) _ _ _ (encode .encode .ensures) (p .pre .0)
+    (laws.room (a .c) (a .out .now) (a .at) (p .pre .1)) (n .n .given .0 .0) (n .n .given .1) in
+    omega (arith, e, p .pre .1)
 
 returns : tie.Need-returns
 returns c =
-    let a = c .before .before .before .before .before .before .before .before .args in
-    let p = c .before .before .before .before .before .before .before .before .pre in
-    let call = c .before .before .before .before .before .encode in
-    let n = c .before .n .given .0 .0 in
-    let e = laws.wrote-so (a .c) _ _ _ (call .ensures) (p .0) (laws.room (a .c) (a .out .now) (a .at) (p .1)) n (c .before .n .given .1) in
-    laws.coded (a .c) _ _ _ (call .ensures) (p .0) (laws.room (a .c) (a .out .now) (a .at) (p .1)) (a .out .now) _ (a .at) n (omega (arith, p .1))
-    (c .before .n .given .1)
+    let n = c .before in
+    let call = n .before .before .before .before in
+    let p = call .before .before .before in
+    let a = p .args in
+    let e = laws.wrote-so (a .c) _ _ _ (call .encode .ensures) (p .pre .0) (laws.room (a .c) (a .out .now) (a .at) (p .pre .1)) (n .n .given .0 .0)
+    (n .n .given .1) in
+    laws.coded (a .c) _ _ _ (call .encode .ensures) (p .pre .0) (laws.room (a .c) (a .out .now) (a .at) (p .pre .1)) (a .out .now) _ (a .at)
+    (n .n .given .0 .0) (omega (arith, p .pre .1)) (n .n .given .1)
 
 returns-2 : tie.Need-returns-2
 returns-2 c =
-    let a = c .before .before .before .before .before .before .before .args in
-    let p = c .before .before .before .before .before .before .before .pre in
-    absurd (laws.wrote-some (a .c) _ _ _ (c .before .before .before .before .encode .ensures) (p .0) (laws.room (a .c) (a .out .now) (a .at) (p .1))
+    let encode = c .before .before .before .before in
+    let p = encode .before .before .before in
+    let a = p .args in
+    absurd (laws.wrote-some (a .c) _ _ _ (encode .encode .ensures) (p .pre .0) (laws.room (a .c) (a .out .now) (a .at) (p .pre .1))
     (ap laws.wroteOf (c .enum-told .given .1)))
 
 returns-3 : tie.Need-returns-3
 returns-3 c =
-    let a = c .before .before .before .before .before .before .before .args in
-    let p = c .before .before .before .before .before .before .before .pre in
-    absurd (laws.wrote-some (a .c) _ _ _ (c .before .before .before .before .encode .ensures) (p .0) (laws.room (a .c) (a .out .now) (a .at) (p .1))
+    let encode = c .before .before .before .before in
+    let p = encode .before .before .before in
+    let a = p .args in
+    absurd (laws.wrote-some (a .c) _ _ _ (encode .encode .ensures) (p .pre .0) (laws.room (a .c) (a .out .now) (a .at) (p .pre .1))
     (ap laws.wroteOf (c .enum-told2 .given .1)))
 
 pub put-code-spec : {M : Type 1} → statement M

@@ -6,6 +6,7 @@ use mathlib.Core.List.{[]}
 use lib.ListN.{drop}
 use borrow.Author.Needs.{needs}
 use Rattle.row.specs.Numbers.{rowsOf}
+use Rattle.row.specs.Limits.{mostOpen}
 use Rattle.resolve.specs.Checks.{lentOf}
 use Rattle.values.specs.Uses.{valueFrom}
 use Rattle.fields.proofs.ways.FieldWays.{says-count}
@@ -25,7 +26,7 @@ value-requires c κs =
     let start = begun .before .before .before .before .before .before .before .before .before .before .before in
     let a = start .args in
     let p = start .pre in (
-      ways.sound-first (a .file .now) (a .rows .now) (a .months .now) (a .words .now) (a .heads .now) (a .next .now) (a .scratch .now) (a .known .now)
+      ways.ready-value-first (a .file .now) (a .rows .now) (a .months .now) (a .words .now) (a .heads .now) (a .next .now) (a .scratch .now) (a .known .now)
           (a .marks .now) (a .which) (a .scratch .now) _ p refl refl,
       begun .begin .ensures .1,
       omega arith,
@@ -41,7 +42,7 @@ returns c =
     let start = begun .before .before .before .before .before .before .before .before .before .before .before in
     let a = start .args in
     let lent = lentOf (a .file .now) (a .rows .now) (a .months .now) (a .words .now) in
-    let run = valueFrom lent (a .verbatim) 32 [] (rowsOf (drop (a .which * 4 + 4) (a .rows .now))) in
+    let run = valueFrom lent (a .verbatim) mostOpen [] (rowsOf (drop (a .which * 4 + 4) (a .rows .now))) in
     let said = says-count run (i .result .names) 0 (i .ensures .2) (i .result) _ _ (v .result) _ _ (v .ensures .0) in (
       ways.count-at lent (a .verbatim) (a .rows .now) (a .which) refl (v .result)
           (ways.count-as (run 0) (i .result) (i .ensures .0) _ _ (v .result) _ _ said),

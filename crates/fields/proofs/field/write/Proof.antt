@@ -7,6 +7,7 @@ use lib.ListN.{drop}
 use borrow.Author.Needs.{needs}
 use borrow.Author.Tests.{not-false}
 use Rattle.row.specs.Numbers.{rowsOf}
+use Rattle.row.specs.Limits.{mostOpen}
 use Rattle.resolve.specs.Checks.{lentOf}
 use Rattle.resolve.specs.Progress.{BoundedWent}
 use Rattle.values.specs.Uses.{valueFrom}
@@ -27,7 +28,7 @@ value-requires c κs =
     let start = begun .before .before .before .before .before .before .before .before .before .before .before .before in
     let a = start .args in
     let p = start .pre in (
-      ways.sound-first (a .file .now) (a .rows .now) (a .months .now) (a .words .now) (a .heads .now) (a .next .now) (a .scratch .now) (a .known .now)
+      ways.ready-value-first (a .file .now) (a .rows .now) (a .months .now) (a .words .now) (a .heads .now) (a .next .now) (a .scratch .now) (a .known .now)
           (a .marks .now) (a .which) (a .scratch .now) _ p refl refl,
       begun .begin .ensures .1,
       omega arith,
@@ -58,7 +59,7 @@ returns c =
     let i = begun .begin in
     let start = begun .before .before .before .before .before .before .before .before .before .before .before .before in
     let a = start .args in
-    let run = valueFrom (lentOf (a .file .now) (a .rows .now) (a .months .now) (a .words .now)) (a .verbatim) 32 [] (rowsOf (drop (a .which * 4 + 4) (a .rows .now))) in
+    let run = valueFrom (lentOf (a .file .now) (a .rows .now) (a .months .now) (a .words .now)) (a .verbatim) mostOpen [] (rowsOf (drop (a .which * 4 + 4) (a .rows .now))) in
     let said = says-count run (i .result .names) 0 (i .ensures .2) (i .result) _ _ (v .result) _ _ (v .ensures .0) in (
       ways.field-at (lentOf (a .file .now) (a .rows .now) (a .months .now) (a .words .now)) (a .verbatim) (a .rows .now) (a .which) refl (a .chunks .now) (a .text .now) _ _ _
           (ways.write-full (run 0) (i .result) (i .ensures .0) _ _ (v .result) _ _ said (a .chunks .now) (a .text .now)
@@ -96,7 +97,7 @@ copy-out-requires c κs =
     let i = begun .begin in
     let start = begun .before .before .before .before .before .before .before .before .before .before .before .before in
     let a = start .args in
-    let run = valueFrom (lentOf (a .file .now) (a .rows .now) (a .months .now) (a .words .now)) (a .verbatim) 32 [] (rowsOf (drop (a .which * 4 + 4) (a .rows .now))) in
+    let run = valueFrom (lentOf (a .file .now) (a .rows .now) (a .months .now) (a .words .now)) (a .verbatim) mostOpen [] (rowsOf (drop (a .which * 4 + 4) (a .rows .now))) in
     let said = says-count run (i .result .names) 0 (i .ensures .2) (i .result) _ _ (v .result) _ _ (v .ensures .0) in
     let rows = v .last .1 .1 .1 .1 .1 .1 .1 .1 .1 .1 .1 .1 .1 .1 .0 in
     let text = v .last .1 .1 .1 .1 .1 .1 .1 .1 .1 .1 .1 .1 .1 .1 .1 .0 in
@@ -124,7 +125,7 @@ returns-2 c =
     let i = begun .begin in
     let start = begun .before .before .before .before .before .before .before .before .before .before .before .before in
     let a = start .args in
-    let run = valueFrom (lentOf (a .file .now) (a .rows .now) (a .months .now) (a .words .now)) (a .verbatim) 32 [] (rowsOf (drop (a .which * 4 + 4) (a .rows .now))) in
+    let run = valueFrom (lentOf (a .file .now) (a .rows .now) (a .months .now) (a .words .now)) (a .verbatim) mostOpen [] (rowsOf (drop (a .which * 4 + 4) (a .rows .now))) in
     let said = says-count run (i .result .names) 0 (i .ensures .2) (i .result) _ _ (v .result) _ _ (v .ensures .0) in (
       ways.field-at (lentOf (a .file .now) (a .rows .now) (a .months .now) (a .words .now)) (a .verbatim) (a .rows .now) (a .which) refl (a .chunks .now) (a .text .now) _ _ _
           (ways.write-copied (run 0) (i .result) (i .ensures .0) _ _ (v .result) _ _ said (a .chunks .now) (a .text .now)
@@ -151,7 +152,7 @@ value-requires-2 c κs =
     let start = begun .before .before .before .before .before .before .before .before .before .before .before .before in
     let a = start .args in
     let p = start .pre in (
-      ways.sound-first (a .file .now) (a .rows .now) (a .months .now) (a .words .now) (a .heads .now) (a .next .now) (a .scratch .now) (a .known .now)
+      ways.ready-value-first (a .file .now) (a .rows .now) (a .months .now) (a .words .now) (a .heads .now) (a .next .now) (a .scratch .now) (a .known .now)
           (a .marks .now) (a .which) _ _ p (v .kept .1 .1 .1 .1 .1 .1 .1 .1 .1 .1 .1 .1 .1 .0) (v .kept .1 .1 .1 .1 .1 .1 .1 .1 .1 .1 .0),
       i .ensures .1,
       omega arith,
@@ -160,17 +161,20 @@ value-requires-2 c κs =
 
 returns-3 : tie.Need-returns-3
 returns-3 c =
-    let ran = c .before .before .before .before .before .before .before .before in
+    let f = c .before in
+    let ran = f .before .before .before .before .before .before .before in
     let v = ran .value in
     let begun = ran .before .before .before .before .before in
     let i = begun .begin in
     let start = begun .before .before .before .before .before .before .before .before .before .before .before .before in
     let a = start .args in
-    let run = valueFrom (lentOf (a .file .now) (a .rows .now) (a .months .now) (a .words .now)) (a .verbatim) 32 [] (rowsOf (drop (a .which * 4 + 4) (a .rows .now))) in
+    let run = valueFrom (lentOf (a .file .now) (a .rows .now) (a .months .now) (a .words .now)) (a .verbatim) mostOpen []
+    (rowsOf (drop (a .which * 4 + 4) (a .rows .now))) in
     let said = says-count run (i .result .names) 0 (i .ensures .2) (i .result) _ _ (v .result) _ _ (v .ensures .0) in (
-      ways.field-at (lentOf (a .file .now) (a .rows .now) (a .months .now) (a .words .now)) (a .verbatim) (a .rows .now) (a .which) refl (a .chunks .now) (a .text .now) _ _ _
-          (ways.write-refused (run 0) (i .result) (i .ensures .0) _ _ (v .result) _ _ said (a .chunks .now) (a .text .now) _ (c .before .f .given .1)),
-      subst BoundedWent (c .before .f .given .1) (v .ensures .1 .0),
+      ways.field-at (lentOf (a .file .now) (a .rows .now) (a .months .now) (a .words .now)) (a .verbatim) (a .rows .now) (a .which) refl
+          (a .chunks .now) (a .text .now) _ _ _
+          (ways.write-refused (run 0) (i .result) (i .ensures .0) _ _ (v .result) _ _ said (a .chunks .now) (a .text .now) _ (f .f .given .1)),
+      subst BoundedWent (f .f .given .1) (v .ensures .1 .0),
     )
 
 same-length-8 : tie.Need-same-length-8
@@ -220,7 +224,7 @@ returns-4 c =
     let i = begun .begin in
     let start = begun .before .before .before .before .before .before .before .before .before .before .before .before in
     let a = start .args in
-    let run = valueFrom (lentOf (a .file .now) (a .rows .now) (a .months .now) (a .words .now)) (a .verbatim) 32 [] (rowsOf (drop (a .which * 4 + 4) (a .rows .now))) in
+    let run = valueFrom (lentOf (a .file .now) (a .rows .now) (a .months .now) (a .words .now)) (a .verbatim) mostOpen [] (rowsOf (drop (a .which * 4 + 4) (a .rows .now))) in
     let said = says-count run (i .result .names) 0 (i .ensures .2) (i .result) _ _ (v .result) _ _ (v .ensures .0) in (
       ways.field-at (lentOf (a .file .now) (a .rows .now) (a .months .now) (a .words .now)) (a .verbatim) (a .rows .now) (a .which) refl (a .chunks .now) (a .text .now) _ _ _
           (ways.write-again (run 0) (i .result) (i .ensures .0) _ _ (v .result) _ _ said (a .chunks .now) (a .text .now)

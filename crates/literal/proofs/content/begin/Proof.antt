@@ -10,13 +10,13 @@ use Rattle.literal.proofs.content.begin.Tie as tie
 
 returns : tie.Need-returns
 returns c =
-    let begin = c .before .before .before .before .before .before in
+    let lead = c .before .before in
+    let begin = lead .before .before .before .before in
     let a = begin .args in
-    let p = begin .pre in
-    let lead = c .before .before .execute-before in (
-      begun (part (a .s .now) (a .st .at + 1) (a .end)) (a .m) (a .from) (a .st) (a .out .now) _ (lead .result) _ (lead .ensures .0)
-          (omega (arith, p .0, p .1, p .2, p .3)),
-      (lead .ensures .1, refl),
+    let p = begin .pre in (
+      begun (part (a .s .now) (a .st .at + 1) (a .end)) (a .m) (a .from) (a .st) (a .out .now) _ (lead .execute-before .result) _
+          (lead .execute-before .ensures .0) (omega (arith, p .0, p .1, p .2, p .3)),
+      (lead .execute-before .ensures .1, refl),
     )
 
 pub begin-spec : {M : Type 1} → statement M

@@ -14,15 +14,15 @@ use Rattle.literal.proofs.content.finish.Tie as tie
 
 execute-command-requires : tie.Need-execute-command-requires
 execute-command-requires c κs =
-    let begin = c .before .before .before .before .before .before .before .before in
+    let settle = c .before .before .before in
+    let begin = settle .before .before .before .before .before in
     let a = begin .args in
     let p = begin .pre in
-    let settle = c .before .before .before .settle in
     let closes = p .1 .0 in
-    let room = finish-room (length (a .s .now)) (a .st .at) (a .end) (a .to) (a .st .len) (a .lead) (a .t .from) (a .t .len) (settle .result .at)
+    let room = finish-room (length (a .s .now)) (a .st .at) (a .end) (a .to) (a .st .len) (a .lead) (a .t .from) (a .t .len)
+    (settle .settle .result .at)
     (length (a .out .now)) (closes .name) (closes .from) (closes .inside) (closes .first) (closes .short) (closes .chunk) (closes .last)
-    (closes .text)
-    (closes .room) (settle .ensures .1 .1) (omega (arith, settle .ensures .0 .end)) in
+    (closes .text) (closes .room) (settle .settle .ensures .1 .1) (omega (arith, settle .settle .ensures .0 .end)) in
     let small : a .t .len ≤ length (a .out .now) = omega (
       arith,
       closes .text,
@@ -32,8 +32,9 @@ execute-command-requires c κs =
       closes .from,
       closes .name,
     ) in
-    let same = settle .kept .0 in
-    let below = lays-below (a .t .from) _ (a .out .now) (settle .result .at) _ (settle .ensures .0) (omega (arith, closes .last, small)) in (
+    let same = settle .settle .kept .0 in
+    let below = lays-below (a .t .from) _ (a .out .now) (settle .settle .result .at) _ (settle .settle .ensures .0)
+    (omega (arith, closes .last, small)) in (
       (
         p .0 .0,
         subst Sane (sym (p .0 .1)) (meaning-sane (part (a .s .now) (a .st .at + 1) (a .end))),
@@ -44,7 +45,7 @@ execute-command-requires c κs =
       ),
       (
         closes .first,
-        omega (arith, closes .chunk, settle .ensures .0 .end),
+        omega (arith, closes .chunk, settle .settle .ensures .0 .end),
         omega (arith, room .1, same),
         omega (arith, room .2, same),
         omega (arith, room .3, same),
@@ -55,17 +56,17 @@ execute-command-requires c κs =
 
 returns : tie.Need-returns
 returns c =
-    let begin = c .before .before .before .before .before .before .before .before .before .before .before .before in
+    let run = c .before .before .before in
+    let settle = run .before .before .before .before in
+    let begin = settle .before .before .before .before .before in
     let a = begin .args in
     let p = begin .pre in
-    let settle = c .before .before .before .before .before .before .before .settle in
-    let run = c .before .before .before .execute-command in
     let next = c .further in
     let closes = p .1 .0 in
-    let room = finish-room (length (a .s .now)) (a .st .at) (a .end) (a .to) (a .st .len) (a .lead) (a .t .from) (a .t .len) (settle .result .at)
+    let room = finish-room (length (a .s .now)) (a .st .at) (a .end) (a .to) (a .st .len) (a .lead) (a .t .from) (a .t .len)
+    (settle .settle .result .at)
     (length (a .out .now)) (closes .name) (closes .from) (closes .inside) (closes .first) (closes .short) (closes .chunk) (closes .last)
-    (closes .text)
-    (closes .room) (settle .ensures .1 .1) (omega (arith, settle .ensures .0 .end)) in
+    (closes .text) (closes .room) (settle .settle .ensures .1 .1) (omega (arith, settle .settle .ensures .0 .end)) in
     let small : a .t .len ≤ length (a .out .now) = omega (
       arith,
       closes .text,
@@ -75,18 +76,18 @@ returns c =
       closes .from,
       closes .name,
     ) in
-    let same = settle .kept .0 in (
-      finished (part (a .s .now) (a .st .at + 1) (a .end)) (a .m) (a .end + 1) (a .to) (a .st) (a .t) (a .out .now) (a .lead) (settle .result .at) _
-          (run .result) _ (next .result) (p .0 .1)
-          (closes .last) small (closes .first) (closes .chunk) (omega (arith, closes .chunk, closes .last, small)) (p .1 .1) (settle .ensures .0)
-          (omega (arith, room .1, same)) (run .ensures .0) (next .ensures),
+    let same = settle .settle .kept .0 in (
+      finished (part (a .s .now) (a .st .at + 1) (a .end)) (a .m) (a .end + 1) (a .to) (a .st) (a .t) (a .out .now) (a .lead)
+          (settle .settle .result .at) _ (run .execute-command .result) _ (next .result) (p .0 .1)
+          (closes .last) small (closes .first) (closes .chunk) (omega (arith, closes .chunk, closes .last, small)) (p .1 .1)
+          (settle .settle .ensures .0) (omega (arith, room .1, same)) (run .execute-command .ensures .0) (next .ensures),
       (
         next .ensures .at,
         subst (λ (n : ℕ). n + 2 * a .st .at ≤ a .st .len + 2 * (a .to + 1)) (sym (next .ensures .len))
-            (finish-grows (a .st .at) (a .end) (a .to) (a .st .len) (a .lead) (a .t .len) (settle .result .at) (run .result) (closes .name)
-            (closes .from)
-            (closes .first) (closes .short) (omega (arith, closes .chunk, settle .ensures .0 .end)) (settle .ensures .1 .1) (closes .text)
-            (run .ensures .1)),
+            (finish-grows (a .st .at) (a .end) (a .to) (a .st .len) (a .lead) (a .t .len) (settle .settle .result .at) (run .execute-command .result)
+            (closes .name) (closes .from)
+            (closes .first) (closes .short) (omega (arith, closes .chunk, settle .settle .ensures .0 .end)) (settle .settle .ensures .1 .1)
+            (closes .text) (run .execute-command .ensures .1)),
       ),
     )
 

@@ -7,12 +7,13 @@ use Rattle.literal.proofs.content.math.Tie as tie
 
 returns : tie.Need-returns
 returns c =
-    let begin = c .before .before .before .before .before in
+    let eat = c .before in
+    let begin = eat .before .before .before .before in
     let a = begin .args in
-    let p = begin .pre in
-    let eat = c .before .eat-until in (
-      math-refused (a .place) (a .s .now) (a .st) (a .out .now) (a .numbers .now) (p .1) (p .2) (eat .result) (eat .ensures .0) (c .if1 .taken),
-      (omega (arith, eat .ensures .1 .to, p .1), omega (arith, eat .ensures .1 .to, p .1)),
+    let p = begin .pre in (
+      math-refused (a .place) (a .s .now) (a .st) (a .out .now) (a .numbers .now) (p .1) (p .2) (eat .eat-until .result) (eat .eat-until .ensures .0)
+          (c .if1 .taken),
+      (omega (arith, eat .eat-until .ensures .1 .to, p .1), omega (arith, eat .eat-until .ensures .1 .to, p .1)),
     )
 
 returns-2 : tie.Need-returns-2

@@ -42,10 +42,12 @@ returns-2 c =
 
 returns-3 : tie.Need-returns-3
 returns-3 c =
-    let begin = c .before .before .before .before .before .before .before in
+    let if2 = c .before in
+    let if1 = if2 .before in
+    let begin = if1 .before .before .before .before .before in
     let a = begin .args in
     let p = begin .pre in
-    let closes = turning .sign-closing (a .verb) (getD (a .s .now) (a .st .at) 0) (p .1) (c .before .before .if1 .left) (c .before .if2 .left) in (
+    let closes = turning .sign-closing (a .verb) (getD (a .s .now) (a .st .at) 0) (p .1) (if1 .if1 .left) (if2 .if2 .left) in (
       close-refused (a .place) (a .verb) (a .s .now) (a .st) (a .out .now) (a .numbers .now) (p .2) closes (c .if3 .taken),
       (omega (arith, p .2), omega (arith, p .2)),
     )

@@ -8,20 +8,21 @@ use Rattle.literal.proofs.making.turnaround.Tie as tie
 
 returns : tie.Need-returns
 returns c =
-    let begin = c .before .before .before .before .before .before .before .before in
+    let settle = c .before .before in
+    let is = settle .before .before in
+    let begin = is .before .before .before .before in
     let a = begin .args in
     let p = begin .pre in
-    let is = c .before .before .before .before .if1 .taken in
-    let settle = c .before .before .settle in
     record {
       goes = λ t₀ ps b₀ σ h.
-          argument-holds (a .place) t₀ ps b₀ σ (a .st) (a .out .now) (a .numbers .now) h (p .0 .from) (p .0 .to) (a .end) (a .braces) (a .start) is
-          (settle .result .at) (settle .result .white) _ (settle .ensures .0) (settle .ensures .1 .0);
+          argument-holds (a .place) t₀ ps b₀ σ (a .st) (a .out .now) (a .numbers .now) h (p .0 .from) (p .0 .to) (a .end) (a .braces) (a .start)
+          (is .if1 .taken)
+          (settle .settle .result .at) (settle .settle .result .white) _ (settle .settle .ensures .0) (settle .settle .ensures .1 .0);
       at = refl;
       braces = refl;
       start = refl;
       from = refl;
-      len = settle .ensures .1 .1;
+      len = settle .settle .ensures .1 .1;
       rows = omega arith;
     }
 
@@ -30,27 +31,28 @@ push-requires c κs = c .before .before .before .before .before .before .before 
 
 returns-2 : tie.Need-returns-2
 returns-2 c =
-    let begin = c .before .before .before .before .before .before .before .before .before .before .before .before .before .before .before .before .before .before .before .before in
+    let push = c .before .before in
+    let last = push .before .before in
+    let first = last .before .before in
+    let to = first .before .before .before in
+    let from = to .before .before .before in
+    let kind = from .before .before .before in
+    let if1 = kind .before in
+    let begin = if1 .before .before .before .before in
     let a = begin .args in
     let p = begin .pre in
-    let kind = c .before .before .before .before .before .before .before .before .before .before .before .before .before .before .before .default-chunk in
-    let from = c .before .before .before .before .before .before .before .before .before .before .before .before .narrow in
-    let to = c .before .before .before .before .before .before .before .before .before .narrow2 in
-    let first = c .before .before .before .before .before .before .narrow3 in
-    let last = c .before .before .before .before .narrow4 in
-    let push = c .before .before .push in
     record {
       goes = λ t₀ ps b₀ σ h.
           literal-holds (a .place) t₀ ps b₀ σ (a .st) (a .out .now) (a .numbers .now) h (p .0 .from) (p .0 .to) (a .end) (a .braces) (a .start)
-          (c .before .before .before .before .before .before .before .before .before .before .before .before .before .before .before .before .if1 .left)
-          (kind .result) (from .result) (to .result) (first .result) (last .result) (push .result) _ (kind .ensures)
-          (from .ensures) (to .ensures) (first .ensures) (last .ensures) (push .ensures .0);
+          (if1 .if1 .left) (kind .default-chunk .result) (from .narrow .result) (to .narrow2 .result) (first .narrow3 .result) (last .narrow4 .result)
+          (push .push .result) _ (kind .default-chunk .ensures)
+          (from .narrow .ensures) (to .narrow2 .ensures) (first .narrow3 .ensures) (last .narrow4 .ensures) (push .push .ensures .0);
       at = refl;
       braces = refl;
       start = refl;
       from = refl;
       len = omega arith;
-      rows = push .ensures .1 .1;
+      rows = push .push .ensures .1 .1;
     }
 
 pub turnaround-spec : {M : Type 1} → statement M

@@ -1,5 +1,5 @@
 -- `literal::parse::content` and `literal::parse::argument`, which call each other, meet their contracts: `argument` calls `content` with a
--- smaller depth, and `content` calls `argument` with its own; so twice the depth falls, with one more for `content`. Assumes nothing.
+-- smaller depth, and `content` calls `argument` with its own. What falls is twice the depth, and one more for `content`. Assumes nothing.
 use Prim.Native.Nat.{ℕ, _+_, _-_, _*_, _<_}
 use native.Mathlib.Omega.{arith}
 use mathlib.Core.Path.{_≡_, refl, sym, subst, _∙_}
@@ -11,7 +11,7 @@ use borrow.Fn.PlainCycle.{Measures, is, falls, and}
 use Rattle.text.specs.Scan.{part}
 use Rattle.literal.specs.declared.content.Made.{Made}
 use Rattle.turn.specs.Content.{inside}
-use Rattle.literal.specs.Inner.{Says, Ahead, AheadMade, Ready, from}
+use Rattle.literal.specs.Inner.{SaysContent, AheadState, AheadMade, ReadyContent, from}
 use Rattle.turn.specs.Turns.{GrowsText}
 use Rattle.literal.proofs.ways.MakingWays.{no-text}
 use Rattle.turn.proofs.Turning.{turning}
@@ -185,12 +185,12 @@ content-calls t = (
   argument.Post,
 )
 
--- whatever the content from here on says, the whole content says
+-- an answer that is right for the content from here on is right for the whole content
 abbrev content-Inv-loop : content-lts.InvT-loop
 content-Inv-loop s verb depth place out₀ numbers₀ names marks st₀ out numbers st =
-    Ahead (length s) 0 st₀ st × (length out ≡ length out₀) × (length numbers ≡ length numbers₀) × Ready s place st out names marks
-    × ((r : Made) (o b : List ℕ) → Says place (from (inside depth) verb s st) st out numbers r o b
-    → Says place (from (inside depth) verb s st₀) st₀ out₀ numbers₀ r o b)
+    AheadState (length s) 0 st₀ st × (length out ≡ length out₀) × (length numbers ≡ length numbers₀) × ReadyContent s place st out names marks
+    × ((r : Made) (o b : List ℕ) → SaysContent place (from (inside depth) verb s st) st out numbers r o b
+    → SaysContent place (from (inside depth) verb s st₀) st₀ out₀ numbers₀ r o b)
 
 abbrev content-μ-loop : content-lts.MeasureT-loop
 content-μ-loop s verb depth place out₀ numbers₀ names marks st₀ out numbers st = length s - st .at
@@ -217,41 +217,44 @@ module _ (t : ℕ) where
 
   content-loop-less : content-lts.Need-loop-less (content-calls t) (content-at t) content.Post content-Inv-loop content-μ-loop
   content-loop-less c =
-      let turn = c .before .before .before .before .before .before .before .before .before .before .before .before in
+      let t = c .before in
+      let at-sign = t .before .before .before .before .before .before in
+      let turn = at-sign .before .before .before .before .before in
       let a = turn .before .before .before .before .before .before .args in
-      let k = subst (AheadMade (length (a .s .now)) 1 (turn .loop .st)) (c .before .t .given .1) (c .before .before .before .before .before .before .before .sign .ensures .1) in
+      let k = subst (AheadMade (length (a .s .now)) 1 (turn .loop .st)) (t .t .given .1) (at-sign .sign .ensures .1) in
       omega (arith, k .grows .at, k .grows .inside)
 
   content-loop-again : content-lts.Need-loop-again (content-calls t) (content-at t) content.Post content-Inv-loop content-μ-loop
   content-loop-again c =
-      let called = c .before .before .before .before .before .before .before in
+      let is = c .before in
+      let called = is .before .before .before .before .before .before in
       let turn = called .before .before .before .before .before in
       let a = turn .before .before .before .before .before .before .args in
       let l = turn .loop in
       let r = called .sign in
-      let m = c .before .t .given .0 .0 in
-      let is = c .before .t .given .1 in
-      let k = subst (AheadMade (length (a .s .now)) 1 (l .st)) is (r .ensures .1) in (
+      let m = is .t .given .0 .0 in
+      let k = subst (AheadMade (length (a .s .now)) 1 (l .st)) (is .t .given .1) (r .ensures .1) in (
         ways.ahead-on (length (a .s .now)) 1 (a .first) (l .st) m (l .inv .0) k,
         r .kept .1 .1 .1 .1 .0 ∙ l .inv .1,
         r .kept .1 .1 .1 .1 .1 .0 ∙ l .inv .2,
         ways.ready-on (a .s .now) (a .place) 1 (l .st) m (l .out) _ (a .names .now) (a .marks .now) (l .inv .3) k (r .kept .1 .1 .1 .1 .0),
         λ r₂ o₂ b₂ h. l .inv .4 r₂ o₂ b₂
             (ways.turn-again (a .place) (inside (a .depth)) (a .verb) (a .s .now) (l .st) (l .out) (l .numbers) m _ _
-            (ways.sign-again (a .place) (inside (a .depth)) (a .verb) (a .s .now) (l .st) (l .out) (l .numbers) _ _ (r .ensures .0) is) r₂ o₂ b₂ h),
+            (ways.sign-again (a .place) (inside (a .depth)) (a .verb) (a .s .now) (l .st) (l .out) (l .numbers) _ _ (r .ensures .0) (is .t .given .1))
+            r₂ o₂ b₂ h),
       )
 
   content-returns : content-lts.Need-returns (content-calls t) (content-at t) content.Post content-Inv-loop content-μ-loop
   content-returns c =
-      let called = c .before .before .before .before .before .before .before in
+      let is = c .before in
+      let called = is .before .before .before .before .before .before in
       let turn = called .before .before .before .before .before in
       let a = turn .before .before .before .before .before .before .args in
       let l = turn .loop in
-      let r = called .sign in
-      let is = c .before .f .given .1 in (
-        l .inv .4 _ _ _
-            (ways.sign-refused (a .place) (inside (a .depth)) (a .verb) (a .s .now) (l .st) (l .out) (l .numbers) _ _ (r .ensures .0) is),
-        subst (AheadMade (length (a .s .now)) 1 (l .st)) is (r .ensures .1),
+      let r = called .sign in (
+        l .inv .4 _ _ _ (ways.sign-refused (a .place) (inside (a .depth)) (a .verb) (a .s .now) (l .st) (l .out) (l .numbers) _ _ (r .ensures .0)
+            (is .f .given .1)),
+        subst (AheadMade (length (a .s .now)) 1 (l .st)) (is .f .given .1) (r .ensures .1),
       )
 
   content-text-at-requires : content-lts.Need-text-at-requires (content-calls t) (content-at t) content.Post content-Inv-loop content-μ-loop
@@ -276,23 +279,25 @@ module _ (t : ℕ) where
 
   content-loop-less-2 : content-lts.Need-loop-less-2 (content-calls t) (content-at t) content.Post content-Inv-loop content-μ-loop
   content-loop-less-2 c =
-      let called = c .before .before .before .before .before .before in
+      let next = c .before .before in
+      let called = next .before .before .before .before in
       let turn = called .before .before .before .before in
       let a = turn .before .before .before .before .before .before .args in
-      let k = subst (GrowsText (length (a .s .now)) (turn .loop .st .at) (turn .loop .st .len)) (c .before .before .next .given .1)
+      let k = subst (GrowsText (length (a .s .now)) (turn .loop .st .at) (turn .loop .st .len)) (next .next .given .1)
       (called .text-at .ensures .1) in
       let f = c .further .ensures .at in
       omega (arith, k .at, k .inside, f)
 
   content-loop-again-2 : content-lts.Need-loop-again-2 (content-calls t) (content-at t) content.Post content-Inv-loop content-μ-loop
   content-loop-again-2 c =
-      let called = c .before .before .before .before .before .before in
+      let next = c .before .before in
+      let called = next .before .before .before .before in
       let turn = called .before .before .before .before in
       let a = turn .before .before .before .before .before .before .args in
       let l = turn .loop in
       let r = called .text-at in
       let m = c .further .result in
-      let is = c .before .before .next .given .1 in
+      let is = next .next .given .1 in
       let grows = subst (GrowsText (length (a .s .now)) (l .st .at) (l .st .len)) is (r .ensures .1) in
       let k = ahead-further (length (a .s .now)) (a .verb) (a .s .now) (l .st) (l .out) _ _ _ (r .result) m is (r .ensures .0) grows (l .inv .3 .from)
       (l .inv .3 .start) (c .further .ensures) in (
@@ -308,47 +313,51 @@ module _ (t : ℕ) where
 
   content-returns-3 : content-lts.Need-returns-3 (content-calls t) (content-at t) content.Post content-Inv-loop content-μ-loop
   content-returns-3 c =
-      let called = c .before .before .before .before .before in
+      let is = c .before in
+      let called = is .before .before .before .before in
       let turn = called .before .before .before .before in
       let a = turn .before .before .before .before .before .before .args in
       let l = turn .loop in
-      let r = called .text-at in
-      let is = c .before .f2 .given .1 in (
+      let r = called .text-at in (
         l .inv .4 _ _ _
-            (ways.turn-refused (a .place) (inside (a .depth)) (a .verb) (a .s .now) (l .st) (l .out) (l .numbers) (r .result) _ (r .ensures .0) _ is),
-        subst (GrowsText (length (a .s .now)) (l .st .at) (l .st .len)) is (r .ensures .1),
+            (ways.turn-refused (a .place) (inside (a .depth)) (a .verb) (a .s .now) (l .st) (l .out) (l .numbers) (r .result) _ (r .ensures .0) _
+            (is .f2 .given .1)),
+        subst (GrowsText (length (a .s .now)) (l .st .at) (l .st .len)) (is .f2 .given .1) (r .ensures .1),
       )
 
   content-argument-requires : content-lts.Need-argument-requires (content-calls t) (content-at t) content.Post content-Inv-loop content-μ-loop
   content-argument-requires c κs =
-      let called = c .before .before .before .before .before .before in
+      let is = c .before .before in
+      let called = is .before .before .before .before in
       let turn = called .before .before .before .before in
       let start = turn .before .before .before .before .before .before in
       let a = start .args in
       let l = turn .loop in
-      let r = called .text-at in
-      let is = c .before .before .m .given .1 in (
+      let r = called .text-at in (
         omega (arith, start .pre .0),
         (
           ways.ready-argument (a .s .now) (a .place) (l .st) (l .out) _ (a .names .now) (a .marks .now) (l .inv .3) (r .kept .1 .1 .1 .0),
           (
             ways.meaning-told (a .place) (inside (a .depth)) (a .verb) (a .s .now) (l .st) (l .out) (l .numbers) (r .result) _ (r .ensures .0) _ _ _ _
-                is,
-            subst (GrowsText (length (a .s .now)) (l .st .at) (l .st .len)) is (r .ensures .1),
+                (is .m .given .1),
+            subst (GrowsText (length (a .s .now)) (l .st .at) (l .st .len)) (is .m .given .1) (r .ensures .1),
           ),
         ),
       )
 
   content-loop-less-3 : content-lts.Need-loop-less-3 (content-calls t) (content-at t) content.Post content-Inv-loop content-μ-loop
   content-loop-less-3 c =
-      let turn = c .before .before .before .before .before .before .before .before .before .before .before .before .before .before .before .before in
+      let t2 = c .before in
+      let at-argument = t2 .before .before .before .before in
+      let turn = at-argument .before .before .before .before .before .before .before .before .before .before .before in
       let a = turn .before .before .before .before .before .before .args in
-      let k = subst (AheadMade (length (a .s .now)) 1 (turn .loop .st)) (c .before .t2 .given .1) (c .before .before .before .before .before .argument .ensures .1) in
+      let k = subst (AheadMade (length (a .s .now)) 1 (turn .loop .st)) (t2 .t2 .given .1) (at-argument .argument .ensures .1) in
       omega (arith, k .grows .at, k .grows .inside)
 
   content-loop-again-3 : content-lts.Need-loop-again-3 (content-calls t) (content-at t) content.Post content-Inv-loop content-μ-loop
   content-loop-again-3 c =
-      let read = c .before .before .before .before .before in
+      let is = c .before in
+      let read = is .before .before .before .before in
       let seen = read .before .before .before in
       let called = seen .before .before .before .before in
       let turn = called .before .before .before .before in
@@ -356,10 +365,9 @@ module _ (t : ℕ) where
       let l = turn .loop in
       let r = called .text-at in
       let arg = read .argument in
-      let m = c .before .t2 .given .0 .0 in
-      let is = c .before .t2 .given .1 in
+      let m = is .t2 .given .0 .0 in
       let g = seen .m .given in
-      let k = subst (AheadMade (length (a .s .now)) 1 (l .st)) is (arg .ensures .1) in
+      let k = subst (AheadMade (length (a .s .now)) 1 (l .st)) (is .t2 .given .1) (arg .ensures .1) in
       let n : length (arg .last .1 .1 .1 .1 .1 .1 .1 .0) ≡ length (l .out) = arg .kept .1 .1 .1 .1 .1 .1 .1 .0 ∙ r .kept .1 .1 .1 .0 in (
         ways.ahead-on (length (a .s .now)) 1 (a .first) (l .st) m (l .inv .0) k,
         n ∙ l .inv .1,
@@ -367,12 +375,13 @@ module _ (t : ℕ) where
         ways.ready-on (a .s .now) (a .place) 1 (l .st) m (l .out) _ (a .names .now) (a .marks .now) (l .inv .3) k n,
         λ r₂ o₂ b₂ h. l .inv .4 r₂ o₂ b₂
             (ways.turn-argument (a .place) (inside (a .depth)) (a .verb) (a .s .now) (l .st) (l .out) (l .numbers) (r .result) _ (r .ensures .0)
-            (g .0 .0) (g .0 .1 .0) (g .0 .1 .1 .0) (g .0 .1 .1 .1 .0) (g .1) (arg .result) _ (arg .ensures .0) m r₂ o₂ b₂ h is),
+            (g .0 .0) (g .0 .1 .0) (g .0 .1 .1 .0) (g .0 .1 .1 .1 .0) (g .1) (arg .result) _ (arg .ensures .0) m r₂ o₂ b₂ h (is .t2 .given .1)),
       )
 
   content-returns-4 : content-lts.Need-returns-4 (content-calls t) (content-at t) content.Post content-Inv-loop content-μ-loop
   content-returns-4 c =
-      let read = c .before .before .before .before .before in
+      let is = c .before in
+      let read = is .before .before .before .before in
       let seen = read .before .before .before in
       let called = seen .before .before .before .before in
       let turn = called .before .before .before .before in
@@ -380,12 +389,11 @@ module _ (t : ℕ) where
       let l = turn .loop in
       let r = called .text-at in
       let arg = read .argument in
-      let is = c .before .f3 .given .1 in
       let g = seen .m .given in (
         l .inv .4 _ _ _
             (ways.turn-stopped (a .place) (inside (a .depth)) (a .verb) (a .s .now) (l .st) (l .out) (l .numbers) (r .result) _ (r .ensures .0)
-            (g .0 .0) (g .0 .1 .0) (g .0 .1 .1 .0) (g .0 .1 .1 .1 .0) (g .1) (arg .result) _ (arg .ensures .0) _ is),
-        subst (AheadMade (length (a .s .now)) 1 (l .st)) is (arg .ensures .1),
+            (g .0 .0) (g .0 .1 .0) (g .0 .1 .1 .0) (g .0 .1 .1 .1 .0) (g .1) (arg .result) _ (arg .ensures .0) _ (is .f3 .given .1)),
+        subst (AheadMade (length (a .s .now)) 1 (l .st)) (is .f3 .given .1) (arg .ensures .1),
       )
 
 pub +argument+content-spec : {M : Type 1} → statement M

@@ -3,6 +3,7 @@ use native.Mathlib.Omega.{arith}
 use mathlib.Core.Path.{sym, subst}
 use lib.ListN.{length}
 use borrow.Author.Needs.{needs}
+use Rattle.row.specs.Limits.{mostBytes}
 use Rattle.literal.specs.Inner.{AheadMade}
 use Rattle.turn.specs.Turns.{Placed}
 use Rattle.literal.proofs.ways.LiteralWays.{parse-long, parse-refused, parse-chunks, parse-ready, parse-fits, parse-grows, first}
@@ -56,7 +57,7 @@ returns-2 c =
     let placed = subst (AheadMade (length (a .s .now)) 0 (first (a .have))) (refused .f .given .1) (content .content .ensures .1) in (
       parse-refused (a .base) (a .before) (a .have) (a .out .now) (a .numbers .now) (a .verb) (a .s .now) (content .content .result) _ _ _ _
           (asked .if1 .left) (content .content .ensures .0) (refused .f .given .0 .0) (c .up .result) (refused .f .given .1) (c .up .ensures),
-      subst (Placed 16777215) (sym (c .up .ensures)) (omega (arith, placed .0, begin .pre .file), omega (arith, placed .1, begin .pre .file)),
+      subst (Placed mostBytes) (sym (c .up .ensures)) (omega (arith, placed .0, begin .pre .file), omega (arith, placed .1, begin .pre .file)),
     )
 
 returns-3 : tie.Need-returns-3

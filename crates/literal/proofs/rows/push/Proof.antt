@@ -7,29 +7,37 @@ use Rattle.literal.proofs.rows.push.Tie as tie
 
 sub-write-chunk : tie.Need-sub-write-chunk
 sub-write-chunk c =
-    let a = c .before .before .before .before .before .before .before .args in
-    let number = c .before .before .before .before .before .kind-number in
+    let if1 = c .before .before in
+    let number = if1 .before .before .before in
+    let begin = number .before .before in
+    let a = begin .args in
     omega (
       arith,
-      pushed-some (a .kind) (a .from) (a .to) (a .start) (a .end) (a .have) (a .rows .now) (a .rows .now) (number .result) (number .ensures)
-          (c .before .before .if1 .taken),
+      pushed-some (a .kind) (a .from) (a .to) (a .start) (a .end) (a .have) (a .rows .now) (a .rows .now) (number .kind-number .result)
+          (number .kind-number .ensures) (if1 .if1 .taken),
     )
 
 returns : tie.Need-returns
 returns c =
-    let a = c .before .before .before .before .before .before .before .before .before .before .args in
-    let number = c .before .before .before .before .before .before .before .before .kind-number in (
-      pushed-join (a .kind) (a .from) (a .to) (a .start) (a .end) (a .have) (a .rows .now) _ (number .result) (number .ensures)
-          (c .before .before .before .before .before .if1 .taken) (c .before .before .write-chunk .ensures),
+    let write-chunk = c .before .before in
+    let if1 = write-chunk .before .before .before in
+    let number = if1 .before .before .before in
+    let begin = number .before .before in
+    let a = begin .args in (
+      pushed-join (a .kind) (a .from) (a .to) (a .start) (a .end) (a .have) (a .rows .now) _ (number .kind-number .result)
+          (number .kind-number .ensures) (if1 .if1 .taken) (write-chunk .write-chunk .ensures),
       (omega arith, omega arith),
     )
 
 returns-2 : tie.Need-returns-2
 returns-2 c =
-    let a = c .before .before .before .before .before .before .before .before .before .before .args in
-    let number = c .before .before .before .before .before .before .before .before .kind-number in (
-      pushed-new (a .kind) (a .from) (a .to) (a .start) (a .end) (a .have) (a .rows .now) _ (number .result) (number .ensures)
-          (c .before .before .before .before .before .if1 .left) (c .before .before .before .write-chunk2 .ensures),
+    let write-chunk2 = c .before .before .before in
+    let if1 = write-chunk2 .before .before in
+    let number = if1 .before .before .before in
+    let begin = number .before .before in
+    let a = begin .args in (
+      pushed-new (a .kind) (a .from) (a .to) (a .start) (a .end) (a .have) (a .rows .now) _ (number .kind-number .result)
+          (number .kind-number .ensures) (if1 .if1 .left) (write-chunk2 .write-chunk2 .ensures),
       (omega arith, omega arith),
     )
 

@@ -64,7 +64,7 @@ chain-requires-2 c κs =
     still-fits (a .file .now) (a .rows .now) (a .heads .now) (a .next .now) (f .last .1 .1 .0) (f .last .1 .1 .1 .0)
     (f .kept .1 .1 .0 ∙ k .kept .1 .1 .0) (f .kept .1 .1 .1 .0 ∙ k .kept .1 .1 .1 .0) yes
 
--- no chain has more rows than the file, so that this time they were made
+-- no chain has more rows than the file, so the second attempt has made the chains
 made : {n : _} (done : Bool) → (done ≡ false → n + 1 ≤ n) → done ≡ true
 made true h = refl
 made false h = absurd (let k = h refl in omega arith)

@@ -29,7 +29,7 @@ link-requires c κs =
     let a = turn .before .before .before .before .before .before .before .before .before .args in
     index-at (a .file .now) (a .rows .now) (turn .loop .i) _ (turn .loop .heads) (turn .loop .next) (omega arith) (turn .loop .inv .2)
 
--- no number is added to heads, nor to next
+-- `heads` and `next` keep their lengths
 heads-cut : tie.Need-same-length Inv-loop μ-loop
 heads-cut c =
     let linked = c .before .before .before .before .before in

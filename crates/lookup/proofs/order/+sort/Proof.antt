@@ -25,7 +25,7 @@ sort-at t = and 4 sort-kinds.ps (is 4 sort-kinds.ps μ-sort t) sort.Pre
 abbrev sort-below : ℕ → In 4 sort-kinds.ps
 sort-below t = and 4 sort-kinds.ps (falls 4 sort-kinds.ps _<_ μ-sort t) sort.Pre
 
--- what the calls in it ask and give
+-- what its calls require and give
 abbrev calls : ℕ → sort-lts.Claims
 calls t = (sort-below t, sort.Post, merge-halves-reads.Asked, merge-halves-reads.Learnt, copy-reads.Asked, copy-reads.Learnt)
 

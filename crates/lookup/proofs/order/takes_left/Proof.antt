@@ -14,8 +14,10 @@ returns c =
 
 returns-2 : tie.Need-returns-2
 returns-2 c =
-    let a = c .before .before .before .before .before .before .args in
-    sym (first-right (comes (a .file .now) (rowsOf (a .rows .now))) (a .a .now) (a .b .now) (a .i) (a .j) (c .if2 .taken) (c .before .if1 .left))
+    let if1 = c .before in
+    let begin = if1 .before .before .before .before .before in
+    let a = begin .args in
+    sym (first-right (comes (a .file .now) (rowsOf (a .rows .now))) (a .a .now) (a .b .now) (a .i) (a .j) (c .if2 .taken) (if1 .if1 .left))
 
 returns-3 : tie.Need-returns-3
 returns-3 c =

@@ -4,8 +4,8 @@ use native.Mathlib.Omega.{arith}
 use Prim.Native.Nat.{_≤_, _-_}
 use mathlib.Core.Path.{_≡_, refl, sym, _∙_}
 use lib.ListN.{length, drop}
-use Rattle.text.specs.Same.{sameBytes}
-use Rattle.text.proofs.general.Same.{same-length}
+use Rattle.text.specs.SameBytes.{sameBytes}
+use Rattle.text.proofs.general.SameBytes.{same-length}
 use Rattle.lookup.proofs.bytes.Compared.{same-turn, same-differs, same-end}
 use Rattle.lookup.proofs.plain.equal.Statement.{statement}
 use Rattle.lookup.proofs.plain.equal.Tie as tie

@@ -8,8 +8,11 @@ use Rattle.pack.proofs.packing.pack.Tie as tie
 
 returns : tie.Need-returns
 returns c =
-    let a = c .before .before .before .before .before .args in
-    pack-full (a .rows .now) (a .bytes .now) (sym (c .before .before .is-packable .ensures) ∙ c .before .if1 .taken) (omega arith)
+    let if1 = c .before in
+    let is-packable = if1 .before in
+    let begin = is-packable .before .before .before in
+    let a = begin .args in
+    pack-full (a .rows .now) (a .bytes .now) (sym (is-packable .is-packable .ensures) ∙ if1 .if1 .taken) (omega arith)
 
 put-all-requires : tie.Need-put-all-requires
 put-all-requires c κs = (sym (c .before .before .before .is-packable .ensures) ∙ c .before .before .if1 .taken, omega arith)

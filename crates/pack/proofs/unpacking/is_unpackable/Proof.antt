@@ -47,12 +47,14 @@ loop-again c =
 
 returns-2 : tie.Need-returns-2 Inv-loop μ-loop
 returns-2 c =
-    let l = c .before .before .before .before .before in
+    let three2 = c .before in
+    let three = three2 .before in
+    let l = three .before .before .before in
     let asked = l .before .before .before .before .before in
     let a = asked .args in
     let m = l .before .loop .inv in
     let r = unpackAt (a .bytes .now) (l .before .loop .p) in
-    let e = lt-leb (r .end) mostBytes (omega (arith, c .before .before .three .ensures .0, c .before .three2 .ensures .0)) in
+    let e = lt-leb (r .end) mostBytes (omega (arith, three .three .ensures .0, three2 .three2 .ensures .0)) in
     judge-off (m .3) (sevens-next (a .bytes .now) (l .before .loop .p) (omega arith)) e
 
 returns-3 : tie.Need-returns-3 Inv-loop μ-loop

@@ -8,8 +8,11 @@ use Rattle.pack.proofs.unpacking.unpack.Tie as tie
 
 returns : tie.Need-returns
 returns c =
-    let a = c .before .before .before .before .before .args in
-    unpack-full (a .bytes .now) (a .rows .now) (sym (c .before .before .is-unpackable .ensures) ∙ c .before .if1 .taken) (omega arith)
+    let if1 = c .before in
+    let is-unpackable = if1 .before in
+    let begin = is-unpackable .before .before .before in
+    let a = begin .args in
+    unpack-full (a .bytes .now) (a .rows .now) (sym (is-unpackable .is-unpackable .ensures) ∙ if1 .if1 .taken) (omega arith)
 
 returns-2 : tie.Need-returns-2
 returns-2 c =

@@ -18,12 +18,12 @@ returns c =
 
 returns-2 : tie.Need-returns-2
 returns-2 c =
-    let p = c .before .before .before .before .before in
-    let name = c .before .before .before .name in
-    let enum-told2 = c .before .enum-told2 in
+    let enum-told2 = c .before in
+    let name = enum-told2 .before .before in
+    let p = name .before .before in
     let a = p .before .before .before .before .before .args in
-    entry-type-off (a .s .now) (a .at) (p .before .before .at-sign .ensures .0) (p .r1 .given .1) (name .ensures .0) (enum-told2 .given .1)
-    (c .refused2 .ensures)
+    entry-type-off (a .s .now) (a .at) (p .before .before .at-sign .ensures .0) (p .r1 .given .1) (name .name .ensures .0)
+    (enum-told2 .enum-told2 .given .1) (c .refused2 .ensures)
 
 form-of-requires : tie.Need-form-of-requires
 form-of-requires c κs =

@@ -6,10 +6,12 @@ use Rattle.raw.proofs.entry.lead.Tie as tie
 
 returns : tie.Need-returns
 returns c =
-    let a = c .before .before .before .before .before .args in
-    let eat-whitespace = c .before .before .before .eat-whitespace in
-    let opening = c .before .before .opening in
-    lead-off (a .s .now) (a .at) (eat-whitespace .ensures .0) (eat-whitespace .ensures .1) (opening .ensures .0) (c .enum-told .given .1)
+    let opening = c .before .before in
+    let eat-whitespace = opening .before in
+    let begin = eat-whitespace .before .before in
+    let a = begin .args in
+    lead-off (a .s .now) (a .at) (eat-whitespace .eat-whitespace .ensures .0) (eat-whitespace .eat-whitespace .ensures .1)
+    (opening .opening .ensures .0) (c .enum-told .given .1)
 
 returns-2 : tie.Need-returns-2
 returns-2 c =

@@ -69,11 +69,12 @@ loop-again c =
 
 returns-3 : tie.Need-returns-3 Inv-loop μ-loop
 returns-3 c =
-    let a = c .before .before .before .before .before .args in
-    let asked = c .before .before .before .before .before .pre in
-    let if1 = c .before .before .if1 in
-    let turn = c .before .loop in
-    sym (turn .inv .1 ∙ spells-done (a .s .now) (a .word .now) (a .at) (a .end) (asked) (if1 .left) (turn .k) (turn .inv .0) (c .loop-test .left))
+    let turn = c .before in
+    let if1 = turn .before in
+    let asked = if1 .before .before .before in
+    let a = asked .args in
+    sym (turn .loop .inv .1 ∙ spells-done (a .s .now) (a .word .now) (a .at) (a .end) (asked .pre) (if1 .if1 .left) (turn .loop .k)
+    (turn .loop .inv .0) (c .loop-test .left))
 
 pub spells-spec : {M : Type 1} → statement M
 spells-spec =

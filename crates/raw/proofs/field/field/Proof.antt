@@ -58,7 +58,8 @@ abbr-field-requires c κs =
 
 returns-3 : tie.Need-returns-3
 returns-3 c =
-    let put-row = c .before .before .before .before .before .before .before .before in
+    let abbr-field = c .before .before .before .before in
+    let put-row = abbr-field .before .before .before .before in
     let eat-whitespace2 = put-row .before .before in
     let r3 = eat-whitespace2 .before .before in
     let equals = r3 .before .before in
@@ -66,11 +67,10 @@ returns-3 c =
     let r1 = eat-whitespace .before .before in
     let name = r1 .before .before in
     let asked = name .before .before .before in
-    let a = asked .args in
-    let abbr-field = c .before .before .before .before .abbr-field in (
+    let a = asked .args in (
       value-off (a .kind) (a .s .now) (a .at) (name .name .ensures .0) (r1 .r1 .given .1) (eat-whitespace .eat-whitespace .ensures .0)
           (equals .equals .ensures .0) (r3 .r3 .given .1)
-          (eat-whitespace2 .eat-whitespace2 .ensures .0) (put-row .put-row .ensures) (abbr-field .ensures .0) (c .enum-told3 .given .1),
+          (eat-whitespace2 .eat-whitespace2 .ensures .0) (put-row .put-row .ensures) (abbr-field .abbr-field .ensures .0) (c .enum-told3 .given .1),
       off-within (length (a .s .now)) 3 (a .at) (a .n) (c .enum-told3 .given .1),
     )
 

@@ -7,7 +7,7 @@ use borrow.Author.Needs.{needs}
 use Rattle.raw.specs.Reader.{many}
 use Rattle.raw.specs.Grammar.{fieldsTurn, fields}
 use Rattle.raw.proofs.contracts.SaysLaws.{turn-at, says-off}
-use Rattle.raw.proofs.contracts.LoopSays.{Leads, leads, loop-on, loop-done, loop-off}
+use Rattle.raw.proofs.contracts.LoopSays.{LoopLeads, leads, loop-on, loop-done, loop-off}
 use Rattle.raw.proofs.contracts.Bounds.{again-place, done-place}
 use Rattle.raw.proofs.contracts.BoundsAfter.{ready-later}
 use Rattle.raw.proofs.field.fields.Statement.{statement}
@@ -19,7 +19,7 @@ Inv-loop s base at rows₀ n kind p₀ m₀ rows p m =
     (p ≤ length s) ×
     (m + 8 * at ≤ n + 8 * p) ×
     (length rows ≡ length rows₀) ×
-    Leads (fieldsTurn kind) s base p m rows (many (fieldsTurn kind) 0 s at) n rows₀
+    LoopLeads (fieldsTurn kind) s base p m rows (many (fieldsTurn kind) 0 s at) n rows₀
 
 abbrev μ-loop : tie.MeasureT-loop
 μ-loop s base at rows₀ n kind p₀ m₀ rows p m = length s - p

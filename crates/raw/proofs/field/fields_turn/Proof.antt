@@ -25,17 +25,18 @@ returns-2 c =
 
 returns-3 : tie.Need-returns-3
 returns-3 c =
-    let field = c .before .before .before .before .before in
+    let f = c .before in
+    let field = f .before .before .before .before in
     let if2 = field .before .before in
     let eat-whitespace = if2 .before in
     let if1 = eat-whitespace .before in
     let asked = if1 .before .before .before in
-    let a = asked .args in
-    let f = c .before .f in (
+    let a = asked .args in (
       fields-off (a .kind) (a .s .now) (a .at) (eat-whitespace .eat-whitespace .result)
-          (⊎-elim (λ w. fields-other (a .kind) (a .s .now) (a .at) (if1 .if1 .left) (eat-whitespace .eat-whitespace .ensures .0) (w .0 .taken) (w .2 .left))
+          (⊎-elim (λ w. fields-other (a .kind) (a .s .now) (a .at) (if1 .if1 .left) (eat-whitespace .eat-whitespace .ensures .0) (w .0 .taken)
+          (w .2 .left))
           (λ w. fields-end (a .kind) (a .s .now) (a .at) (if1 .if1 .left) (eat-whitespace .eat-whitespace .ensures .0) (w .left)) (if2 .if2 .came))
-          (says-at (f .given .1) (field .field .ensures .0)),
+          (says-at (f .f .given .1) (field .field .ensures .0)),
       tt,
     )
 

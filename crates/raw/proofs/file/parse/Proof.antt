@@ -7,7 +7,7 @@ use borrow.Author.Needs.{needs}
 use Rattle.raw.specs.Reader.{many}
 use Rattle.raw.specs.Grammar.{fileTurn, file}
 use Rattle.raw.proofs.contracts.SaysLaws.{turn-at, says-off}
-use Rattle.raw.proofs.contracts.LoopSays.{Leads, leads, loop-on, loop-done, loop-off}
+use Rattle.raw.proofs.contracts.LoopSays.{LoopLeads, leads, loop-on, loop-done, loop-off}
 use Rattle.raw.proofs.contracts.Bounds.{again-place, done-place}
 use Rattle.raw.proofs.contracts.BoundsAfter.{ready-later}
 use Rattle.raw.proofs.file.parse.Statement.{statement}
@@ -15,7 +15,7 @@ use Rattle.raw.proofs.file.parse.Tie as tie
 
 abbrev Inv-loop : tie.InvT-loop
 Inv-loop s base rows₀ n p₀ m₀ rows p m =
-    (p ≤ length s) × (m ≤ n + 8 * p) × (length rows ≡ length rows₀) × Leads fileTurn s base p m rows (many fileTurn 0 s 0) n rows₀
+    (p ≤ length s) × (m ≤ n + 8 * p) × (length rows ≡ length rows₀) × LoopLeads fileTurn s base p m rows (many fileTurn 0 s 0) n rows₀
 
 abbrev μ-loop : tie.MeasureT-loop
 μ-loop s base rows₀ n p₀ m₀ rows p m = length s - p

@@ -9,7 +9,7 @@ use Rattle.row.specs.Row.{row}
 use Rattle.raw.specs.Reader.{many, under}
 use Rattle.raw.specs.Grammar.{abbrTurn, abbrField}
 use Rattle.raw.proofs.contracts.SaysLaws.{turn-at, says-off, says-under}
-use Rattle.raw.proofs.contracts.LoopSays.{Leads, leads, loop-on, loop-done, loop-off}
+use Rattle.raw.proofs.contracts.LoopSays.{LoopLeads, leads, loop-on, loop-done, loop-off}
 use Rattle.raw.proofs.contracts.Bounds.{again-place, done-place}
 use Rattle.raw.proofs.value.abbr_field.Statement.{statement}
 use Rattle.raw.proofs.value.abbr_field.Tie as tie
@@ -20,7 +20,7 @@ Inv-loop s base at rows₀ n p₀ m₀ rows p m =
     (p ≤ length s) ×
     (m + 8 * at ≤ n + 1 + 8 * p) ×
     (length rows ≡ length rows₀) ×
-    Leads abbrTurn s base p m rows (many abbrTurn 0 s at) (n + 1) rows₀
+    LoopLeads abbrTurn s base p m rows (many abbrTurn 0 s at) (n + 1) rows₀
 
 abbrev μ-loop : tie.MeasureT-loop
 μ-loop s base at rows₀ n p₀ m₀ rows p m = length s - p

@@ -34,10 +34,10 @@ loop-again c =
 
 returns : tie.Need-returns Inv-loop μ-loop
 returns c =
-    let turn = c .before .before .before .before .before .loop in
-    let test = c .before .before .before .before .loop-test in
-    let if2 = c .before .if2 in
-    number-again (test .taken) (if2 .taken) (turn .dot) (turn .inv) (c .if3 .taken)
+    let if2 = c .before in
+    let test = if2 .before .before .before in
+    let turn = test .before in
+    number-again (test .loop-test .taken) (if2 .if2 .taken) (turn .loop .dot) (turn .loop .inv) (c .if3 .taken)
 
 add-i-2 : tie.Need-add-i-2 Inv-loop μ-loop
 add-i-2 c = omega arith
@@ -47,10 +47,10 @@ loop-less-2 c = omega arith
 
 loop-again-2 : tie.Need-loop-again-2 Inv-loop μ-loop
 loop-again-2 c =
-    let turn = c .before .before .before .before .before .loop in
-    let test = c .before .before .before .before .loop-test in
-    let if2 = c .before .if2 in
-    number-point (test .taken) (if2 .taken) (turn .dot) (turn .inv) (c .if3 .left)
+    let if2 = c .before in
+    let test = if2 .before .before .before in
+    let turn = test .before in
+    number-point (test .loop-test .taken) (if2 .if2 .taken) (turn .loop .dot) (turn .loop .inv) (c .if3 .left)
 
 returns-2 : tie.Need-returns-2 Inv-loop μ-loop
 returns-2 c =

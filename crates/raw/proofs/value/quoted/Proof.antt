@@ -60,10 +60,16 @@ returns-2 c =
     quoted-closed (quoted-plain (turn .loop .inv) (omega (arith, h)) (m .0 .1) (m .1)) (omega (arith, h)) (c .match2 .keys1)
 
 add-i-2 : tie.Need-add-i-2 Inv-loop μ-loop
-add-i-2 c = omega (arith, c .before .before .before .before .before .has .ensures (c .before .before .before .before .if1 .taken))
+add-i-2 c =
+    let if1 = c .before .before .before .before in
+    let has = if1 .before in
+    omega (arith, has .has .ensures (if1 .if1 .taken))
 
 loop-less-2 : tie.Need-loop-less-2 Inv-loop μ-loop
-loop-less-2 c = omega (arith, c .before .before .before .before .before .has .ensures (c .before .before .before .before .if1 .taken))
+loop-less-2 c =
+    let if1 = c .before .before .before .before in
+    let has = if1 .before in
+    omega (arith, has .has .ensures (if1 .if1 .taken))
 
 loop-again-2 : tie.Need-loop-again-2 Inv-loop μ-loop
 loop-again-2 c =
@@ -76,7 +82,10 @@ loop-again-2 c =
     quoted-far (quoted-plain (turn .loop .inv) (omega (arith, h)) (m .0 .1) (m .1)) (omega (arith, h)) (c .match2 .keys2)
 
 add-past-quotes : tie.Need-add-past-quotes Inv-loop μ-loop
-add-past-quotes c = omega (arith, c .before .before .before .before .before .has .ensures (c .before .before .before .before .if1 .taken))
+add-past-quotes c =
+    let if1 = c .before .before .before .before in
+    let has = if1 .before in
+    omega (arith, has .has .ensures (if1 .if1 .taken))
 
 loop-less-3 : tie.Need-loop-less-3 Inv-loop μ-loop
 loop-less-3 c =

@@ -8,9 +8,12 @@ use Rattle.row.proofs.form.write_row.Tie as tie
 
 returns : tie.Need-returns
 returns c =
-    let a = c .before .before .before .before .before .before .args in
-    c .before .before .write-numbers .ensures
-    ∙ ap (λ (k : ℕ). putRow (a .rows .now) (a .n) (rowOf k (a .detail) (a .start) (a .end))) (c .before .before .before .kind-number .ensures)
+    let write-numbers = c .before .before in
+    let kind-number = write-numbers .before in
+    let begin = kind-number .before .before .before in
+    let a = begin .args in
+    write-numbers .write-numbers .ensures
+    ∙ ap (λ (k : ℕ). putRow (a .rows .now) (a .n) (rowOf k (a .detail) (a .start) (a .end))) (kind-number .kind-number .ensures)
 
 pub write-row-spec : {M : Type 1} → statement M
 write-row-spec =

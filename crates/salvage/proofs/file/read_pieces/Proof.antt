@@ -48,14 +48,14 @@ read-piece-requires c κs =
 
 add-n : tie.Need-add-n Inv-loop μ-loop
 add-n c =
-    let y = c .before .before .before .before .before in
-    let k = c .before .k in
+    let k = c .before in
+    let y = k .before .before .before .before in
     let m = y .before .before .before in
     let x = m .before in
     let l = x .before .before .loop in
     let b = x .before .before .before .before .before in
     let g = going-sound (b .args .s .now) (b .args .rows .now) (l .rows) (b .args .valid) (l .at) _ (l .n) (l .sound) (l .inv) (x .piece-end .ensures)
-    (b .pre .valid) (m .least .ensures) (y .read-piece .last .1 .1 .0) (y .read-piece .ensures) (y .read-piece .kept .1 .1 .0) (k .given .1) in
+    (b .pre .valid) (m .least .ensures) (y .read-piece .last .1 .1 .0) (y .read-piece .ensures) (y .read-piece .kept .1 .1 .0) (k .k .given .1) in
     omega (arith, g .most, g .place, b .pre .short)
 
 loop-less : tie.Need-loop-less Inv-loop μ-loop
@@ -63,26 +63,26 @@ loop-less c = let x = c .before .before .before .before .before .before .before 
 
 loop-again : tie.Need-loop-again Inv-loop μ-loop
 loop-again c =
-    let y = c .before .before .before .before .before in
-    let k = c .before .k in
+    let k = c .before in
+    let y = k .before .before .before .before in
     let m = y .before .before .before in
     let x = m .before in
     let l = x .before .before .loop in
     let b = x .before .before .before .before .before in
     going-sound (b .args .s .now) (b .args .rows .now) (l .rows) (b .args .valid) (l .at) _ (l .n) (l .sound) (l .inv) (x .piece-end .ensures)
-    (b .pre .valid) (m .least .ensures) (y .read-piece .last .1 .1 .0) (y .read-piece .ensures) (y .read-piece .kept .1 .1 .0) (k .given .1)
+    (b .pre .valid) (m .least .ensures) (y .read-piece .last .1 .1 .0) (y .read-piece .ensures) (y .read-piece .kept .1 .1 .0) (k .k .given .1)
 
 add-n-2 : tie.Need-add-n-2 Inv-loop μ-loop
 add-n-2 c =
-    let y = c .before .before .before .before .before in
-    let k2 = c .before .k2 in
+    let k2 = c .before in
+    let y = k2 .before .before .before .before in
     let m = y .before .before .before in
     let x = m .before in
     let l = x .before .before .loop in
     let b = x .before .before .before .before .before in
     let g = going-damaged (b .args .s .now) (b .args .rows .now) (l .rows) (b .args .valid) (l .at) _ (l .n) (l .sound) (l .inv)
     (x .piece-end .ensures) (b .pre .valid) (m .least .ensures) (y .read-piece .last .1 .1 .0) (y .read-piece .ensures)
-    (y .read-piece .kept .1 .1 .0) (k2 .given .1) in
+    (y .read-piece .kept .1 .1 .0) (k2 .k2 .given .1) in
     omega (arith, g .most, g .place, b .pre .short)
 
 loop-less-2 : tie.Need-loop-less-2 Inv-loop μ-loop
@@ -90,14 +90,14 @@ loop-less-2 c = let x = c .before .before .before .before .before .before .befor
 
 loop-again-2 : tie.Need-loop-again-2 Inv-loop μ-loop
 loop-again-2 c =
-    let y = c .before .before .before .before .before in
-    let k2 = c .before .k2 in
+    let k2 = c .before in
+    let y = k2 .before .before .before .before in
     let m = y .before .before .before in
     let x = m .before in
     let l = x .before .before .loop in
     let b = x .before .before .before .before .before in
     going-damaged (b .args .s .now) (b .args .rows .now) (l .rows) (b .args .valid) (l .at) _ (l .n) (l .sound) (l .inv) (x .piece-end .ensures)
-    (b .pre .valid) (m .least .ensures) (y .read-piece .last .1 .1 .0) (y .read-piece .ensures) (y .read-piece .kept .1 .1 .0) (k2 .given .1)
+    (b .pre .valid) (m .least .ensures) (y .read-piece .last .1 .1 .0) (y .read-piece .ensures) (y .read-piece .kept .1 .1 .0) (k2 .k2 .given .1)
 
 same-length : tie.Need-same-length Inv-loop μ-loop
 same-length c = c .before .before .loop .inv .same

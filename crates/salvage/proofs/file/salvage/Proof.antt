@@ -9,17 +9,18 @@ returns c = let a = c .before .before .before .args in salvage-long (a .s .now) 
 
 write-sound-requires : tie.Need-write-sound-requires
 write-sound-requires c κs =
-    let r = c .before .before .before .before .before in
+    let n = c .before .before in
+    let r = n .before .before .before in
     let i = r .before .before .before in
-    counted-sound (i .before .before .before .args .s .now) (i .if1 .left) (r .read-pieces .ensures) (c .before .before .n .given .1)
+    counted-sound (i .before .before .before .args .s .now) (i .if1 .left) (r .read-pieces .ensures) (n .n .given .1)
 
 write-damaged-requires : tie.Need-write-damaged-requires
 write-damaged-requires c κs =
-    let r = c .before .before .before .before .before in
-    let n2 = c .before .before .n2 in
+    let n2 = c .before .before in
+    let r = n2 .before .before .before in
     let v = r .before .before in
     let i = v .before in (
-      counted-damaged (i .before .before .before .args .s .now) (i .if1 .left) (r .read-pieces .ensures) (n2 .given .1),
+      counted-damaged (i .before .before .before .args .s .now) (i .if1 .left) (r .read-pieces .ensures) (n2 .n2 .given .1),
       record { short = i .if1 .left; valid = v .valid-to .ensures },
     )
 

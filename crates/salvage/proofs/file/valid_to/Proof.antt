@@ -9,10 +9,11 @@ returns c = valid-all (c .before .before .before .before .args .s .now) (c .befo
 
 returns-2 : tie.Need-returns-2
 returns-2 c =
-    let a = c .before .before .before .before .before .args in
-    let validate = c .before .before .before .validate in
-    let i = c .before .i in
-    valid-part (a .s .now) (validate .ensures) (i .given .1)
+    let i = c .before in
+    let validate = i .before .before in
+    let begin = validate .before .before in
+    let a = begin .args in
+    valid-part (a .s .now) (validate .validate .ensures) (i .i .given .1)
 
 pub valid-to-spec : {M : Type 1} → statement M
 valid-to-spec = tie.close (tie.spec (λ c κs. search needs) (λ c. search needs) (λ c. search needs) returns returns-2)

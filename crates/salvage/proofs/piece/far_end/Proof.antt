@@ -3,13 +3,13 @@ use Prim.Native.Nat.{ℕ, _-_, _≤_, _<_}
 use native.Mathlib.Omega.{arith}
 use lib.ListN.{length}
 use borrow.Author.Needs.{needs}
-use Rattle.salvage.specs.Inner.{Ends}
+use Rattle.salvage.specs.Inner.{PieceEnds}
 use Rattle.salvage.proofs.ways.PieceEnd.{found-last, found-head, found-on}
 use Rattle.salvage.proofs.piece.far_end.Statement.{statement}
 use Rattle.salvage.proofs.piece.far_end.Tie as tie
 
 abbrev Inv-loop : tie.InvT-loop
-Inv-loop s at i₀ i = (at ≤ i) × (i < length s) × ((e : ℕ) → Ends s i e → Ends s at e)
+Inv-loop s at i₀ i = (at ≤ i) × (i < length s) × ((e : ℕ) → PieceEnds s i e → PieceEnds s at e)
 
 abbrev μ-loop : tie.MeasureT-loop
 μ-loop s at i₀ i = length s - i

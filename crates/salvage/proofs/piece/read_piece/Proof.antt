@@ -14,19 +14,21 @@ write-damage-requires c κs =
 
 returns : tie.Need-returns
 returns c =
-    let r = c .before .before .before .before .before in
+    let n = c .before in
+    let r = n .before .before .before .before in
     let b = r .before .before .before .before in
-    piece-sound (b .args .w .now) (b .pre) (b .args .rows .now) (c .before .n .given .1) (r .read-alone .ensures .0) (r .read-alone .ensures .1)
+    piece-sound (b .args .w .now) (b .pre) (b .args .rows .now) (n .n .given .1) (r .read-alone .ensures .0) (r .read-alone .ensures .1)
 
 returns-2 : tie.Need-returns-2
 returns-2 c =
-    let f = c .before .before .before .before .before in
-    let write-damage = c .before .before .write-damage in
+    let write-damage = c .before .before in
+    let f = write-damage .before .before .before in
     let r = f .before .before .before .before in
     let b = r .before .before .before .before in
     let w = b .args .w .now in
     let x = off-strict w (b .pre) (b .args .rows .now) (f .f .given .1) (r .read-alone .ensures .0) in
-    piece-damaged w (b .pre) (b .args .rows .now) x (r .read-alone .last .1 .1 .0) (r .read-alone .kept .1 .1 .0) (write-damage .ensures)
+    piece-damaged w (b .pre) (b .args .rows .now) x (r .read-alone .last .1 .1 .0) (r .read-alone .kept .1 .1 .0)
+    (write-damage .write-damage .ensures)
 
 pub read-piece-spec : {M : Type 1} → statement M
 read-piece-spec =

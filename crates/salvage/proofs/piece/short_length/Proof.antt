@@ -1,13 +1,13 @@
 -- `salvage::piece::short_length` meets its contract: the bytes looked at so far belong to the piece from `at` on. Assumes nothing.
 use Prim.Native.Nat.{ℕ, _+_, _-_, _≤_, _<_}
 use native.Mathlib.Omega.{arith}
-use Rattle.salvage.specs.Inner.{Ends}
+use Rattle.salvage.specs.Inner.{PieceEnds}
 use Rattle.salvage.proofs.ways.PieceEnd.{short-found, short-on, ends-place}
 use Rattle.salvage.proofs.piece.short_length.Statement.{statement}
 use Rattle.salvage.proofs.piece.short_length.Tie as tie
 
 abbrev Inv-loop : tie.InvT-loop
-Inv-loop s at k₀ k = (0 < k) × (k ≤ 8) × ((e : ℕ) → Ends s (at + k - 1) e → Ends s at e)
+Inv-loop s at k₀ k = (0 < k) × (k ≤ 8) × ((e : ℕ) → PieceEnds s (at + k - 1) e → PieceEnds s at e)
 
 abbrev μ-loop : tie.MeasureT-loop
 μ-loop s at k₀ k = 8 - k

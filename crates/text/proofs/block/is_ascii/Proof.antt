@@ -30,9 +30,10 @@ loop-less c = omega arith
 
 loop-again : tie.Need-loop-again Inv-loop μ-loop
 loop-again c =
-    let a = c .before .before .before .before .before .args in
-    let v = c .before .before .before .loop in
-    (omega arith, least-more (a .s .now) (a .at) (v .k) (v .m) (c .greater .ensures) (v .inv .1))
+    let v = c .before .before .before in
+    let begin = v .before .before in
+    let a = begin .args in
+    (omega arith, least-more (a .s .now) (a .at) (v .loop .k) (v .loop .m) (c .greater .ensures) (v .loop .inv .1))
 
 returns : tie.Need-returns Inv-loop μ-loop
 returns c = λ e.

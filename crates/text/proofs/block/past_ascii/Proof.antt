@@ -28,7 +28,10 @@ is-ascii-requires : tie.Need-is-ascii-requires Inv-loop μ-loop
 is-ascii-requires c κs = c .before .has .ensures (c .if3 .taken)
 
 returns-2 : tie.Need-returns-2 Inv-loop μ-loop
-returns-2 c = clear-join (c .before .before .before .before .before .before .loop .inv) (clear-as (c .before .intervals .ensures) (c .past .ensures))
+returns-2 c =
+    let intervals = c .before in
+    let looping = intervals .before .before .before .before .before in
+    clear-join (looping .loop .inv) (clear-as (intervals .intervals .ensures) (c .past .ensures))
 
 add-i : tie.Need-add-i Inv-loop μ-loop
 add-i c = omega (arith, c .before .before .before .has .ensures (c .before .before .if3 .taken))

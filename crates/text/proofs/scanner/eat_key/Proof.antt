@@ -47,10 +47,11 @@ loop-less c = omega arith
 
 loop-again : tie.Need-loop-again Inv-loop μ-loop
 loop-again c =
-    let a = c .before .before .before .before .before .args in
-    let turn = c .before .before .before .loop in
-    let test = c .before .before .loop-test in
-    turn .inv ∙ key-on (a .s .now) _ (test .taken) (c .if1 .left)
+    let test = c .before .before in
+    let turn = test .before in
+    let begin = turn .before .before in
+    let a = begin .args in
+    turn .loop .inv ∙ key-on (a .s .now) _ (test .loop-test .taken) (c .if1 .left)
 
 returns-3 : tie.Need-returns-3 Inv-loop μ-loop
 returns-3 c =

@@ -14,10 +14,11 @@ returns c = let a = c .before .before .args in bit-end IdStart (a .s .now) (a .a
 
 returns-2 : tie.Need-returns-2
 returns-2 c =
-    let a = c .before .before .before .before .before .args in
-    let if1 = c .before .before .before .if1 in
-    let is-letter = c .before .is-letter in
-    letter-start (a .s .now) (a .at) (if1 .left) (sym (is-letter .ensures) ∙ c .if2 .taken)
+    let is-letter = c .before in
+    let if1 = is-letter .before .before in
+    let begin = if1 .before .before in
+    let a = begin .args in
+    letter-start (a .s .now) (a .at) (if1 .if1 .left) (sym (is-letter .is-letter .ensures) ∙ c .if2 .taken)
 
 returns-3 : tie.Need-returns-3
 unfolding holdsOf

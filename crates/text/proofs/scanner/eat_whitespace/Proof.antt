@@ -49,10 +49,12 @@ loop-less c = omega arith
 
 loop-again : tie.Need-loop-again Inv-loop μ-loop
 loop-again c =
-    let a = c .before .before .before .before .before .args in
-    let v = c .before .before .before .loop in
-    let h = c .before .before .loop-test .taken in
-    v .inv ∙ ⊎-elim (λ w. tab-on (a .s .now) (v .i) h (not-false _ (w .2 .left))) (λ w. space-on (a .s .now) (v .i) h (w .left)) (c .if1 .came)
+    let h = c .before .before in
+    let v = h .before in
+    let begin = v .before .before in
+    let a = begin .args in
+    v .loop .inv ∙ ⊎-elim (λ w. tab-on (a .s .now) (v .loop .i) (h .loop-test .taken) (not-false _ (w .2 .left)))
+    (λ w. space-on (a .s .now) (v .loop .i) (h .loop-test .taken) (w .left)) (c .if1 .came)
 
 returns-3 : tie.Need-returns-3 Inv-loop μ-loop
 returns-3 c =

@@ -12,10 +12,11 @@ returns c =
 
 returns-2 : tie.Need-returns-2
 returns-2 c =
-    let a = c .before .before .before .before .before .args in
-    let decode = c .before .before .before .decode in
-    let code = c .before .code in
-    seen-told (a .s .now) (a .at) (decode .ensures) (code .given .1)
+    let code = c .before in
+    let decode = code .before .before in
+    let begin = decode .before .before in
+    let a = begin .args in
+    seen-told (a .s .now) (a .at) (decode .decode .ensures) (code .code .given .1)
 
 returns-3 : tie.Need-returns-3
 returns-3 c =

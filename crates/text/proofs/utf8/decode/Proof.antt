@@ -23,12 +23,13 @@ value-at-requires c κs = (omega arith, omega arith, omega arith)
 
 returns-3 : tie.Need-returns-3
 returns-3 c =
-    let a = c .before .before .before .before .before .args in
-    let if1 = c .before .before .before .if1 in
-    let sequence = c .before .before .sequence in
-    let if2 = c .before .if2 in
-    ap (λ (v : ℕ). Char v (a .at + sequence .result)) (c .value-at .ensures) ∙ sym
-    (decode-some (a .s .now) (a .at) (if1 .left) (sequence .ensures .0) (if2 .left))
+    let if2 = c .before in
+    let sequence = if2 .before in
+    let if1 = sequence .before in
+    let begin = if1 .before .before in
+    let a = begin .args in
+    ap (λ (v : ℕ). Char v (a .at + sequence .sequence .result)) (c .value-at .ensures) ∙ sym
+    (decode-some (a .s .now) (a .at) (if1 .if1 .left) (sequence .sequence .ensures .0) (if2 .if2 .left))
 
 pub decode-spec : {M : Type 1} → statement M
 decode-spec =

@@ -16,19 +16,21 @@ returns c =
 
 returns-2 : tie.Need-returns-2
 returns-2 c =
-    let a = c .before .before .before .before .before .args in
-    let is-scalar = c .before .before .before .is-scalar in
-    let if1 = c .before .before .if1 in
-    let if2 = c .before .if2 in
-    short-one (a .c) (a .out .now) (sym (is-scalar .ensures) ∙ not-false _ (if1 .left)) (if2 .taken) (c .if3 .taken)
+    let if2 = c .before in
+    let if1 = if2 .before in
+    let is-scalar = if1 .before in
+    let begin = is-scalar .before .before in
+    let a = begin .args in
+    short-one (a .c) (a .out .now) (sym (is-scalar .is-scalar .ensures) ∙ not-false _ (if1 .if1 .left)) (if2 .if2 .taken) (c .if3 .taken)
 
 returns-3 : tie.Need-returns-3
 returns-3 c =
-    let a = c .before .before .before .before .before .args in
-    let is-scalar = c .before .before .before .is-scalar in
-    let if1 = c .before .before .if1 in
-    let if2 = c .before .if2 in
-    encode-one (a .c) (a .out .now) (sym (is-scalar .ensures) ∙ not-false _ (if1 .left)) (if2 .taken) (c .if3 .left)
+    let if2 = c .before in
+    let if1 = if2 .before in
+    let is-scalar = if1 .before in
+    let begin = is-scalar .before .before in
+    let a = begin .args in
+    encode-one (a .c) (a .out .now) (sym (is-scalar .is-scalar .ensures) ∙ not-false _ (if1 .if1 .left)) (if2 .if2 .taken) (c .if3 .left)
 
 returns-4 : tie.Need-returns-4
 returns-4 c =

@@ -13,10 +13,11 @@ returns c = λ e. let z : _≡_ {A = ℕ} 0 1 = cc in absurd (omega arith)
 
 returns-2 : tie.Need-returns-2
 returns-2 c =
-    let a· = c .before .before .before .before .before .before .before .before .args in
-    let is-tail = c .before .before .is-tail in
-    λ e. let a = a· in let b = both-true _ (c .is-tail2 .result) e in let d = both-true _ (is-tail .result) (b .0) in
-    (width-three (a .s .now) (a .at) (omega arith) (d .0) (sym (is-tail .ensures) ∙ d .1) (sym (c .is-tail2 .ensures) ∙ b .1), omega arith)
+    let is-tail = c .before .before in
+    let begin = is-tail .before .before .before .before .before .before in
+    let a· = begin .args in
+    λ e. let a = a· in let b = both-true _ (c .is-tail2 .result) e in let d = both-true _ (is-tail .is-tail .result) (b .0) in
+    (width-three (a .s .now) (a .at) (omega arith) (d .0) (sym (is-tail .is-tail .ensures) ∙ d .1) (sym (c .is-tail2 .ensures) ∙ b .1), omega arith)
 
 pub is-three-spec : {M : Type 1} → statement M
 is-three-spec =

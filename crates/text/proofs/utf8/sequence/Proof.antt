@@ -19,12 +19,13 @@ returns-2 c =
 
 returns-3 : tie.Need-returns-3
 returns-3 c =
-    let a = c .before .before .before .before .before .args in
-    let if1 = c .before .before .before .if1 in
-    let shared-slice-known2 = c .before .before .shared-slice-known2 in
-    let if2 = c .before .if2 in
-    let g = shared-slice-known2 .given (a .at) in
-    (sym (width-none (a .s .now) (a .at) (if1 .left) (omega arith) (if2 .left) (c .if3 .taken)), omega arith, omega arith)
+    let if2 = c .before in
+    let shared-slice-known2 = if2 .before in
+    let if1 = shared-slice-known2 .before in
+    let begin = if1 .before .before in
+    let a = begin .args in
+    let g = shared-slice-known2 .shared-slice-known2 .given (a .at) in
+    (sym (width-none (a .s .now) (a .at) (if1 .if1 .left) (omega arith) (if2 .if2 .left) (c .if3 .taken)), omega arith, omega arith)
 
 returns-4 : tie.Need-returns-4
 returns-4 c =

@@ -46,9 +46,10 @@ loop-less-2 c = omega (arith, c .before .is-two .ensures (c .if2 .taken) .1)
 
 loop-again-2 : tie.Need-loop-again-2 Inv-loop μ-loop
 loop-again-2 c =
-    let v = c .before .before .before .before .before .loop in
-    let x = c .before .is-two .ensures (c .if2 .taken) in
-    (x .1, v .inv .1 ∙ valid-on (λ n. Valid) _ (v .at) 2 (sym (x .0)) (λ z. omega arith) (x .1))
+    let is-two = c .before in
+    let v = is-two .before .before .before .before in
+    let x = is-two .is-two .ensures (c .if2 .taken) in
+    (x .1, v .loop .inv .1 ∙ valid-on (λ n. Valid) _ (v .loop .at) 2 (sym (x .0)) (λ z. omega arith) (x .1))
 
 add-at-2 : tie.Need-add-at-2 Inv-loop μ-loop
 add-at-2 c = omega (arith, c .before .is-three .ensures (c .if3 .taken) .1)
@@ -58,9 +59,10 @@ loop-less-3 c = omega (arith, c .before .is-three .ensures (c .if3 .taken) .1)
 
 loop-again-3 : tie.Need-loop-again-3 Inv-loop μ-loop
 loop-again-3 c =
-    let v = c .before .before .before .before .before .before .before .loop in
-    let x = c .before .is-three .ensures (c .if3 .taken) in
-    (x .1, v .inv .1 ∙ valid-on (λ n. Valid) _ (v .at) 3 (sym (x .0)) (λ z. omega arith) (x .1))
+    let is-three = c .before in
+    let v = is-three .before .before .before .before .before .before in
+    let x = is-three .is-three .ensures (c .if3 .taken) in
+    (x .1, v .loop .inv .1 ∙ valid-on (λ n. Valid) _ (v .loop .at) 3 (sym (x .0)) (λ z. omega arith) (x .1))
 
 returns : tie.Need-returns Inv-loop μ-loop
 returns c =

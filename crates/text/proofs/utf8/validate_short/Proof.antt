@@ -15,12 +15,15 @@ returns c = let at = c .before .wide-at .ensures in sym (at .walked ∙ walk-end
 
 returns-2 : tie.Need-returns-2
 returns-2 c =
-    let a = c .before .before .before .before .before .before .args in
-    let wide-at = c .before .before .before .wide-at in
-    let inside = c .before .before .if2 .left in
-    let octet = c .before .shared-slice-known2 .given (wide-at .result) in
-    let none = width-none (a .s .now) (wide-at .result) inside (omega arith) (wide-at .ensures .wide inside) (c .if3 .taken) in
-    sym (wide-at .ensures .walked ∙ valid-stop (λ n. Valid) _ _ 0 (sym none) refl inside)
+    let shared-slice-known2 = c .before in
+    let if2 = shared-slice-known2 .before in
+    let wide-at = if2 .before in
+    let begin = wide-at .before .before .before in
+    let a = begin .args in
+    let inside = if2 .if2 .left in
+    let octet = shared-slice-known2 .shared-slice-known2 .given (wide-at .wide-at .result) in
+    let none = width-none (a .s .now) (wide-at .wide-at .result) inside (omega arith) (wide-at .wide-at .ensures .wide inside) (c .if3 .taken) in
+    sym (wide-at .wide-at .ensures .walked ∙ valid-stop (λ n. Valid) _ _ 0 (sym none) refl inside)
 
 pub validate-short-spec : {M : Type 1} → statement M
 validate-short-spec =

@@ -33,37 +33,42 @@ returns c =
 
 loop-again : tie.Need-loop-again Inv-loop μ-loop
 loop-again c =
-    let loop = c .before .before .before .before .loop in
-    let s = c .before .before .before .before .before .before .args .s .now in
-    let eat = c .before .before .before .eat-until in
-    let inside = c .before .before .if1 .left in (
-      omega (arith, eat .ensures .1 .from, loop .inv .0),
-      omega (arith, inside),
-      omega (arith, eat .ensures .1 .from, loop .inv .2),
-      loop .inv .3 ∙ end-open (loop .depth) s (loop .i) (eat .result) (eat .ensures .0) inside (c .if2 .taken)
-          ∙ ap (λ (d : ℕ). endOf (many endTurn d s (eat .result + 1))) (sym (add-one (loop .depth))),
+    let inside = c .before .before in
+    let eat = inside .before in
+    let loop = eat .before in
+    let s = loop .before .before in (
+      omega (arith, eat .eat-until .ensures .1 .from, loop .loop .inv .0),
+      omega (arith, inside .if1 .left),
+      omega (arith, eat .eat-until .ensures .1 .from, loop .loop .inv .2),
+      loop .loop .inv .3 ∙ end-open (loop .loop .depth) (s .args .s .now) (loop .loop .i) (eat .eat-until .result) (eat .eat-until .ensures .0)
+          (inside .if1 .left) (c .if2 .taken)
+          ∙ ap (λ (d : ℕ). endOf (many endTurn d (s .args .s .now) (eat .eat-until .result + 1))) (sym (add-one (loop .loop .depth))),
     )
 
 returns-2 : tie.Need-returns-2 Inv-loop μ-loop
 returns-2 c =
-    let loop = c .before .before .before .before .before .loop in
-    let s = c .before .before .before .before .before .before .before .args .s .now in
-    let eat = c .before .before .before .before .eat-until in
-    let inside = c .before .before .before .if1 .left in (
-      end-found (loop .depth) s (loop .i) (eat .result) (eat .ensures .0) inside (c .before .if2 .left) (c .if3 .taken) ∙ sym (loop .inv .3),
-      (omega (arith, eat .ensures .1 .from, loop .inv .0), inside),
+    let if2 = c .before in
+    let inside = if2 .before .before in
+    let eat = inside .before in
+    let loop = eat .before in
+    let s = loop .before .before in (
+      end-found (loop .loop .depth) (s .args .s .now) (loop .loop .i) (eat .eat-until .result) (eat .eat-until .ensures .0) (inside .if1 .left)
+          (if2 .if2 .left) (c .if3 .taken) ∙ sym (loop .loop .inv .3),
+      (omega (arith, eat .eat-until .ensures .1 .from, loop .loop .inv .0), inside .if1 .left),
     )
 
 loop-again-2 : tie.Need-loop-again-2 Inv-loop μ-loop
 loop-again-2 c =
-    let loop = c .before .before .before .before .before .loop in
-    let s = c .before .before .before .before .before .before .before .args .s .now in
-    let eat = c .before .before .before .before .eat-until in
-    let inside = c .before .before .before .if1 .left in (
-      omega (arith, eat .ensures .1 .from, loop .inv .0),
-      omega (arith, inside),
-      omega (arith, eat .ensures .1 .from, loop .inv .2),
-      loop .inv .3 ∙ end-close (loop .depth) s (loop .i) (eat .result) (eat .ensures .0) inside (c .before .if2 .left) (c .if3 .left),
+    let if2 = c .before in
+    let inside = if2 .before .before in
+    let eat = inside .before in
+    let loop = eat .before in
+    let s = loop .before .before in (
+      omega (arith, eat .eat-until .ensures .1 .from, loop .loop .inv .0),
+      omega (arith, inside .if1 .left),
+      omega (arith, eat .eat-until .ensures .1 .from, loop .loop .inv .2),
+      loop .loop .inv .3 ∙ end-close (loop .loop .depth) (s .args .s .now) (loop .loop .i) (eat .eat-until .result) (eat .eat-until .ensures .0)
+          (inside .if1 .left) (if2 .if2 .left) (c .if3 .left),
     )
 
 pub argument-end-spec : {M : Type 1} → statement M

@@ -6,16 +6,16 @@ use Rattle.turn.proofs.turn.back_blank.Tie as tie
 
 returns : tie.Need-returns
 returns c =
-    let begin = c .before .before .before .before .before .before .before .before .before .before .before in
+    let push = c .before .before .before in
+    let copy = push .before .before .before .before in
+    let begin = copy .before .before .before .before in
     let a = begin .args in
     let p = begin .pre in
-    let copy = c .before .before .before .before .before .before .before .copy in
-    let push = c .before .before .before .push in
     let eat = c .eat-whitespace in (
-      back-blank (a .s .now) (a .at) (a .code) (a .next) (a .len) (a .out .now) (p .0) (eat .result) (push .result) (copy .result) _ _ (p .1)
-          (eat .ensures .0) (copy .ensures .0) (push .ensures .0),
-      grows-blank (a .s .now) (a .at) (a .code) (a .next) (a .len) (a .out .now) (p .0) (eat .result) (push .result) (copy .result) (p .1)
-          (eat .ensures .0) (eat .ensures .1) (copy .ensures .1) (push .ensures .1),
+      back-blank (a .s .now) (a .at) (a .code) (a .next) (a .len) (a .out .now) (p .0) (eat .result) (push .push .result) (copy .copy .result) _ _
+          (p .1) (eat .ensures .0) (copy .copy .ensures .0) (push .push .ensures .0),
+      grows-blank (a .s .now) (a .at) (a .code) (a .next) (a .len) (a .out .now) (p .0) (eat .result) (push .push .result) (copy .copy .result) (p .1)
+          (eat .ensures .0) (eat .ensures .1) (copy .copy .ensures .1) (push .push .ensures .1),
     )
 
 pub back-blank-spec : {M : Type 1} → statement M

@@ -6,15 +6,15 @@ use Rattle.turn.proofs.turn.back_control.Tie as tie
 
 returns : tie.Need-returns
 returns c =
-    let begin = c .before .before .before .before .before .before .before .before .before .before in
+    let two = c .before .before in
+    let one = two .before .before .before .before in
+    let begin = one .before .before .before .before in
     let a = begin .args in
-    let p = begin .pre in
-    let one = c .before .before .before .before .before .before .copy in
-    let two = c .before .before .copy2 in (
-      back-control (a .s .now) (a .at) (a .code) (a .next) (a .len) (a .out .now) (p .0) (two .result) (one .result) _ _ (p .1) (p .2)
-          (one .ensures .0) (two .ensures .0),
-      grows-control (a .s .now) (a .at) (a .code) (a .next) (a .len) (a .out .now) (p .0) (two .result) (one .result) (one .ensures .1)
-          (two .ensures .1),
+    let p = begin .pre in (
+      back-control (a .s .now) (a .at) (a .code) (a .next) (a .len) (a .out .now) (p .0) (two .copy2 .result) (one .copy .result) _ _ (p .1) (p .2)
+          (one .copy .ensures .0) (two .copy2 .ensures .0),
+      grows-control (a .s .now) (a .at) (a .code) (a .next) (a .len) (a .out .now) (p .0) (two .copy2 .result) (one .copy .result)
+          (one .copy .ensures .1) (two .copy2 .ensures .1),
     )
 
 pub back-control-spec : {M : Type 1} → statement M

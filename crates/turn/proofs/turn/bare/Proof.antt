@@ -12,11 +12,11 @@ use Rattle.turn.proofs.turn.bare.Tie as tie
 
 execute-bare-requires : tie.Need-execute-bare-requires
 execute-bare-requires c κs =
-    let begin = c .before .before .before .before .before .before in
+    let mean = c .before in
+    let begin = mean .before .before .before .before .before in
     let a = begin .args in
-    let p = begin .pre in
-    let mean = c .before .meaning-of in (
-      subst Sane (sym (mean .ensures)) (meaning-sane (part (a .s .now) (a .at + 1) (a .end))),
+    let p = begin .pre in (
+      subst Sane (sym (mean .meaning-of .ensures)) (meaning-sane (part (a .s .now) (a .at + 1) (a .end))),
       omega (arith, p .0 .name),
       omega
           (arith, p .0 .white, p .0 .inside),
@@ -25,21 +25,21 @@ execute-bare-requires c κs =
 
 returns : tie.Need-returns
 returns c =
-    let begin = c .before .before .before .before .before .before .before .before .before in
+    let run = c .before .before in
+    let mean = run .before .before in
+    let begin = mean .before .before .before .before .before in
     let a = begin .args in
-    let p = begin .pre in
-    let mean = c .before .before .before .before .meaning-of in
-    let run = c .before .before .execute-bare in (
+    let p = begin .pre in (
       record {
-        len = run .result;
+        len = run .execute-bare .result;
         told = refl;
-        lays = bare-lays (part (a .s .now) (a .at + 1) (a .end)) (a .out .now) (a .len) (mean .result) (run .result) _ (mean .ensures)
-            (run .ensures .0);
+        lays = bare-lays (part (a .s .now) (a .at + 1) (a .end)) (a .out .now) (a .len) (mean .meaning-of .result) (run .execute-bare .result) _
+            (mean .meaning-of .ensures) (run .execute-bare .ensures .0);
       },
       record {
         at = omega (arith, p .0 .name, p .0 .white);
         inside = p .0 .inside;
-        text = omega (arith, p .0 .name, p .0 .white, run .ensures .1);
+        text = omega (arith, p .0 .name, p .0 .white, run .execute-bare .ensures .1);
       },
     )
 

@@ -14,72 +14,104 @@ use Rattle.turn.proofs.turn.hyphens.Tie as tie
 
 returns : tie.Need-returns
 returns c =
-    let begin = c .before .before .before .before .before .before .before .before in
+    let push = c .before .before in
+    let if1 = push .before .before in
+    let two = if1 .before in
+    let begin = two .before .before .before in
     let a = begin .args in
-    let p = begin .pre in
-    let two = c .before .before .before .before .before .eat-byte in
-    let push = c .before .before .push in (
-      wrote-one false (a .s .now) (a .at) (a .len) (a .out .now) (a .at + 1) (push .result) _ (0x2D ∷ [])
-          (hyphen-one (a .s .now) (a .at) (p .0) (p .1) (two .result) (two .ensures .0) (c .before .before .before .before .if1 .taken))
-          (push .ensures .0),
-      record { at = omega arith; inside = omega (arith, p .0); text = omega (arith, push .ensures .1) },
+    let p = begin .pre in (
+      wrote-one false (a .s .now) (a .at) (a .len) (a .out .now) (a .at + 1) (push .push .result) _ (0x2D ∷ [])
+          (hyphen-one (a .s .now) (a .at) (p .0) (p .1) (two .eat-byte .result) (two .eat-byte .ensures .0) (if1 .if1 .taken))
+          (push .push .ensures .0),
+      record { at = omega arith; inside = omega (arith, p .0); text = omega (arith, push .push .ensures .1) },
     )
 
 put-code-requires : tie.Need-put-code-requires
 unfolding isScalar
 put-code-requires c κs =
-    let begin = c .before .before .before .before .before .before .before in
-    let two = c .before .before .before .before .eat-byte in
-    let more = c .before .before .before .if1 .left in
-    (refl, omega (arith, begin .pre .2, begin .pre .0, two .ensures .1 .from, two .ensures .1 .to, more, octets-three 0x2013 (omega arith)))
+    let more = c .before .before .before in
+    let two = more .before in
+    let begin = two .before .before .before in (
+      refl,
+      omega (
+        arith,
+        begin .pre .2,
+        begin .pre .0,
+        two .eat-byte .ensures .1 .from,
+        two .eat-byte .ensures .1 .to,
+        more .if1 .left,
+        octets-three
+            0x2013 (omega arith),
+      ),
+    )
 
 returns-2 : tie.Need-returns-2
 unfolding octets
 returns-2 c =
-    let begin = c .before .before .before .before .before .before .before .before .before .before in
+    let put = c .before .before in
+    let if2 = put .before .before in
+    let three = if2 .before in
+    let more = three .before in
+    let two = more .before in
+    let begin = two .before .before .before in
     let a = begin .args in
-    let p = begin .pre in
-    let two = c .before .before .before .before .before .before .before .eat-byte in
-    let more = c .before .before .before .before .before .before .if1 .left in
-    let three = c .before .before .before .before .before .eat-byte2 in
-    let put = c .before .before .put-code in (
-      wrote-one false (a .s .now) (a .at) (a .len) (a .out .now) (two .result) (put .result) _ (octets 0x2013)
-          (hyphen-two (a .s .now) (a .at) (p .0) (p .1) (two .result) (two .ensures .0) more (three .result) (three .ensures .0)
-          (c .before .before .before .before .if2 .taken))
-          (put .ensures),
+    let p = begin .pre in (
+      wrote-one false (a .s .now) (a .at) (a .len) (a .out .now) (two .eat-byte .result) (put .put-code .result) _ (octets 0x2013)
+          (hyphen-two (a .s .now) (a .at) (p .0) (p .1) (two .eat-byte .result) (two .eat-byte .ensures .0) (more .if1 .left)
+          (three .eat-byte2 .result) (three .eat-byte2 .ensures .0) (if2 .if2 .taken))
+          (put .put-code .ensures),
       record {
-        at = omega (arith, two .ensures .1 .from);
-        inside = omega (arith, two .ensures .1 .to, p .0);
-        text = omega (arith, put .ensures .end, two .ensures .1 .from, more, octets-three 0x2013 (omega arith));
+        at = omega (arith, two .eat-byte .ensures .1 .from);
+        inside = omega (arith, two .eat-byte .ensures .1 .to, p .0);
+        text = omega (arith, put .put-code .ensures .end, two .eat-byte .ensures .1 .from, more .if1 .left, octets-three 0x2013 (omega arith));
       },
     )
 
 put-code-requires-2 : tie.Need-put-code-requires-2
 unfolding isScalar
 put-code-requires-2 c κs =
-    let begin = c .before .before .before .before .before .before .before in
-    let two = c .before .before .before .before .eat-byte in
-    let more = c .before .before .before .if1 .left in
-    (refl, omega (arith, begin .pre .2, begin .pre .0, two .ensures .1 .from, two .ensures .1 .to, more, octets-three 0x2014 (omega arith)))
+    let more = c .before .before .before in
+    let two = more .before in
+    let begin = two .before .before .before in (
+      refl,
+      omega (
+        arith,
+        begin .pre .2,
+        begin .pre .0,
+        two .eat-byte .ensures .1 .from,
+        two .eat-byte .ensures .1 .to,
+        more .if1 .left,
+        octets-three
+            0x2014 (omega arith),
+      ),
+    )
 
 returns-3 : tie.Need-returns-3
 unfolding octets
 returns-3 c =
-    let begin = c .before .before .before .before .before .before .before .before .before .before in
+    let put = c .before .before in
+    let if2 = put .before .before in
+    let three = if2 .before in
+    let more = three .before in
+    let two = more .before in
+    let begin = two .before .before .before in
     let a = begin .args in
-    let p = begin .pre in
-    let two = c .before .before .before .before .before .before .before .eat-byte in
-    let more = c .before .before .before .before .before .before .if1 .left in
-    let three = c .before .before .before .before .before .eat-byte2 in
-    let put = c .before .before .put-code2 in (
-      wrote-one false (a .s .now) (a .at) (a .len) (a .out .now) (three .result) (put .result) _ (octets 0x2014)
-          (hyphen-three (a .s .now) (a .at) (p .0) (p .1) (two .result) (two .ensures .0) more (three .result) (three .ensures .0)
-          (c .before .before .before .before .if2 .left))
-          (put .ensures),
+    let p = begin .pre in (
+      wrote-one false (a .s .now) (a .at) (a .len) (a .out .now) (three .eat-byte2 .result) (put .put-code2 .result) _ (octets 0x2014)
+          (hyphen-three (a .s .now) (a .at) (p .0) (p .1) (two .eat-byte .result) (two .eat-byte .ensures .0) (more .if1 .left)
+          (three .eat-byte2 .result) (three .eat-byte2 .ensures .0) (if2 .if2 .left))
+          (put .put-code2 .ensures),
       record {
-        at = omega (arith, two .ensures .1 .from, three .ensures .1 .from);
-        inside = omega (arith, two .ensures .1 .to, three .ensures .1 .to, p .0);
-        text = omega (arith, put .ensures .end, two .ensures .1 .from, three .ensures .1 .from, more, octets-three 0x2014 (omega arith));
+        at = omega (arith, two .eat-byte .ensures .1 .from, three .eat-byte2 .ensures .1 .from);
+        inside = omega (arith, two .eat-byte .ensures .1 .to, three .eat-byte2 .ensures .1 .to, p .0);
+        text = omega (
+          arith,
+          put .put-code2 .ensures .end,
+          two .eat-byte .ensures .1 .from,
+          three .eat-byte2 .ensures .1 .from,
+          more .if1 .left,
+          octets-three 0x2014 (omega arith),
+        );
       },
     )
 

@@ -15,72 +15,76 @@ use Rattle.turn.proofs.turn.one.Tie as tie
 
 execute-command-requires : tie.Need-execute-command-requires
 execute-command-requires c κs =
-    let begin = c .before .before .before .before .before .before .before .before .before .before .before .before .before .before .before in
+    let copy = c .before .before .before in
+    let lead = copy .before .before .before .before in
+    let mean = lead .before .before in
+    let eat = mean .before in
+    let begin = eat .before .before .before .before .before in
     let a = begin .args in
     let p = begin .pre in
-    let eat = c .before .before .before .before .before .before .before .before .before .before .eat in
-    let mean = c .before .before .before .before .before .before .before .before .before .meaning-of in
-    let lead = c .before .before .before .before .before .before .before .execute-before in
-    let copy = c .before .before .before .copy in
     let end = p .0 .name in
     let white = p .0 .white in
-    let to = eat .ensures .1 in
-    let inside : eat .result ≤ length (a .s .now) = omega (arith, to .to, p .0 .inside) in
-    let room = one-room (length (a .s .now)) (a .at) (a .end) (a .after) (eat .result) (a .len) (length (a .out .now)) (lead .result) (copy .result)
-    end white (to .from) inside (p .1 .room) (lead .ensures .1) (copy .ensures .1) in
-    let one = lead .kept .1 .1 .1 .1 .0 in
-    let two = copy .kept .1 .1 .1 .0 in (
+    let to = eat .eat .ensures .1 in
+    let inside : eat .eat .result ≤ length (a .s .now) = omega (arith, to .to, p .0 .inside) in
+    let room = one-room (length (a .s .now)) (a .at) (a .end) (a .after) (eat .eat .result) (a .len) (length (a .out .now))
+    (lead .execute-before .result) (copy .copy .result)
+    end white (to .from) inside (p .1 .room) (lead .execute-before .ensures .1) (copy .copy .ensures .1) in
+    let one = lead .execute-before .kept .1 .1 .1 .1 .0 in
+    let two = copy .copy .kept .1 .1 .1 .0 in (
       (
         p .1 .marks,
-        subst Sane (sym (mean .ensures)) (meaning-sane (part (a .s .now) (a .at + 1) (a .end))),
+        subst Sane (sym (mean .meaning-of .ensures)) (meaning-sane (part (a .s .now) (a .at + 1) (a .end))),
         omega (arith, end),
         omega
             (arith, white, p .0 .inside),
         omega (arith, one, two, p .1 .room, inside, white, to .from),
       ),
       (
-        omega (arith, lead .ensures .0 .end),
-        omega (arith, copy .ensures .0 .end),
+        omega (arith, lead .execute-before .ensures .0 .end),
+        omega (arith, copy .copy .ensures .0 .end),
         omega (arith, room .0, one, two),
         omega (arith, room .1, one, two),
         omega (arith, room .2, one, two),
-        both-first (a .len) (leading (part (a .s .now) (a .at + 1) (a .end)) (mean .result)) (a .out .now) (lead .result) _ _ (copy .result) _
-            (lead .ensures .0) (copy .ensures .0)
-            (omega (arith, room .2)) (omega (arith, room .0, one, copy .ensures .0 .end)) (omega (arith, room .0, one, two)),
+        both-first (a .len) (leading (part (a .s .now) (a .at + 1) (a .end)) (mean .meaning-of .result)) (a .out .now) (lead .execute-before .result)
+            _ _ (copy .copy .result) _ (lead .execute-before .ensures .0) (copy .copy .ensures .0)
+            (omega (arith, room .2)) (omega (arith, room .0, one, copy .copy .ensures .0 .end)) (omega (arith, room .0, one, two)),
       ),
     )
 
 returns : tie.Need-returns
 returns c =
-    let begin = c .before .before .before .before .before .before .before .before .before .before .before .before .before .before .before .before .before .before in
+    let run = c .before .before in
+    let copy = run .before .before .before .before in
+    let lead = copy .before .before .before .before in
+    let mean = lead .before .before in
+    let eat = mean .before in
+    let begin = eat .before .before .before .before .before in
     let a = begin .args in
     let p = begin .pre in
-    let eat = c .before .before .before .before .before .before .before .before .before .before .before .before .before .eat in
-    let mean = c .before .before .before .before .before .before .before .before .before .before .before .before .meaning-of in
-    let lead = c .before .before .before .before .before .before .before .before .before .before .execute-before in
-    let copy = c .before .before .before .before .before .before .copy in
-    let run = c .before .before .execute-command in
-    let to = eat .ensures .1 in
-    let inside : eat .result ≤ length (a .s .now) = omega (arith, to .to, p .0 .inside) in
-    let room = one-room (length (a .s .now)) (a .at) (a .end) (a .after) (eat .result) (a .len) (length (a .out .now)) (lead .result) (copy .result)
-    (p .0 .name) (p .0 .white) (to .from) inside (p .1 .room) (lead .ensures .1) (copy .ensures .1) in
-    let one = lead .kept .1 .1 .1 .1 .0 in
-    let two = copy .kept .1 .1 .1 .0 in (
+    let to = eat .eat .ensures .1 in
+    let inside : eat .eat .result ≤ length (a .s .now) = omega (arith, to .to, p .0 .inside) in
+    let room = one-room (length (a .s .now)) (a .at) (a .end) (a .after) (eat .eat .result) (a .len) (length (a .out .now))
+    (lead .execute-before .result) (copy .copy .result)
+    (p .0 .name) (p .0 .white) (to .from) inside (p .1 .room) (lead .execute-before .ensures .1) (copy .copy .ensures .1) in
+    let one = lead .execute-before .kept .1 .1 .1 .1 .0 in
+    let two = copy .copy .kept .1 .1 .1 .0 in (
       record {
-        len = run .result;
-        told = ap (λ (n : ℕ). text.Put n (run .result)) (eat .ensures .0);
-        lays = one-lays (part (a .s .now) (a .at + 1) (a .end)) _ (a .out .now) (a .len) (mean .result) (lead .result) _ (copy .result) _
-            (run .result)
-            _ (mean .ensures)
-            (lead .ensures .0) (lays-as (lead .result) _ _ _ (copy .result) _ (ap (part (a .s .now) (a .after)) (eat .ensures .0)) (copy .ensures .0))
-            (omega (arith, room .2)) (omega (arith, room .0, one, copy .ensures .0 .end)) (omega (arith, room .0, one, two)) (run .ensures .0);
+        len = run .execute-command .result;
+        told = ap (λ (n : ℕ). text.Put n (run .execute-command .result)) (eat .eat .ensures .0);
+        lays = one-lays (part (a .s .now) (a .at + 1) (a .end)) _ (a .out .now) (a .len) (mean .meaning-of .result) (lead .execute-before .result) _
+            (copy .copy .result) _ (run .execute-command .result)
+            _ (mean .meaning-of .ensures) (lead .execute-before .ensures .0)
+            (lays-as (lead .execute-before .result) _ _ _ (copy .copy .result) _ (ap (part (a .s .now) (a .after)) (eat .eat .ensures .0))
+            (copy .copy .ensures .0))
+            (omega (arith, room .2)) (omega (arith, room .0, one, copy .copy .ensures .0 .end)) (omega (arith, room .0, one, two))
+            (run .execute-command .ensures .0);
       },
       record {
         at = omega (arith, to .from, p .0 .name, p .0 .white);
         inside = inside;
-        text = one-grows (a .at) (a .end) (a .after) (eat .result) (a .len) (lead .result) (copy .result) (run .result) (p .0 .name) (p .0 .white)
-            (to .from)
-            (lead .ensures .1) (copy .ensures .1) (run .ensures .1);
+        text = one-grows (a .at) (a .end) (a .after) (eat .eat .result) (a .len) (lead .execute-before .result) (copy .copy .result)
+            (run .execute-command .result) (p .0 .name) (p .0 .white) (to .from)
+            (lead .execute-before .ensures .1) (copy .copy .ensures .1) (run .execute-command .ensures .1);
       },
     )
 

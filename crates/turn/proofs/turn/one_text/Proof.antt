@@ -10,8 +10,9 @@ use Rattle.turn.proofs.turn.one_text.Tie as tie
 
 hyphens-requires : tie.Need-hyphens-requires
 hyphens-requires c κs =
-    let begin = c .before .before .before .before .before in
-    let is = sign-tests 0x2D _ (begin .args .verb) (c .before .if1 .taken) in
+    let if1 = c .before in
+    let begin = if1 .before .before .before .before in
+    let is = sign-tests 0x2D _ (begin .args .verb) (if1 .if1 .taken) in
     (begin .pre .0, is .0, begin .pre .3)
 
 returns : tie.Need-returns
@@ -26,8 +27,9 @@ returns c =
 
 other-requires : tie.Need-other-requires
 other-requires c κs =
-    let begin = c .before .before .before .before .before in
-    (begin .pre .0, begin .pre .1, begin .pre .2, no-sign 0x2D _ (begin .args .verb) (c .before .if1 .left), begin .pre .3)
+    let if1 = c .before in
+    let begin = if1 .before .before .before .before in
+    (begin .pre .0, begin .pre .1, begin .pre .2, no-sign 0x2D _ (begin .args .verb) (if1 .if1 .left), begin .pre .3)
 
 pub one-text-spec : {M : Type 1} → statement M
 one-text-spec =

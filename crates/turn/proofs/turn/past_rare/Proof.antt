@@ -7,10 +7,11 @@ use Rattle.turn.proofs.turn.past_rare.Tie as tie
 
 returns : tie.Need-returns
 returns c =
-    let begin = c .before .before .before .before .before in
+    let eat = c .before in
+    let if1 = eat .before in
+    let begin = if1 .before .before .before in
     let a = begin .args in
-    let eat = c .before .eat-whitespace in
-    steps-blank (a .s .now) (a .at) (eat .result) (begin .pre) (c .before .before .if1 .taken) (eat .ensures .0) (c .if2 .taken)
+    steps-blank (a .s .now) (a .at) (eat .eat-whitespace .result) (begin .pre) (if1 .if1 .taken) (eat .eat-whitespace .ensures .0) (c .if2 .taken)
 
 returns-2 : tie.Need-returns-2
 returns-2 c = let begin = c .before .before .before .before .before in steps-none (begin .args .s .now) (begin .args .at) (begin .pre)
@@ -30,11 +31,13 @@ returns-5 c =
 
 returns-6 : tie.Need-returns-6
 returns-6 c =
-    let peek = c .before .before .before .before .before in
+    let is-white = c .before in
+    let code = is-white .before .before in
+    let peek = code .before .before in
     let begin = peek .before .before .before .before .before .before in
     let a = begin .args in
-    steps-wide (a .s .now) (a .at) _ _ (peek .before .if3 .left) (sym (peek .peek .ensures .0) ∙ c .before .before .before .code .given .1)
-    (sym (c .before .is-white .ensures) ∙ c .if4 .left)
+    steps-wide (a .s .now) (a .at) _ _ (peek .before .if3 .left) (sym (peek .peek .ensures .0) ∙ code .code .given .1)
+    (sym (is-white .is-white .ensures) ∙ c .if4 .left)
 
 pub past-rare-spec : {M : Type 1} → statement M
 past-rare-spec =

@@ -4,13 +4,13 @@ use native.Mathlib.Omega.{arith}
 use mathlib.Core.Path.{sym, _∙_}
 use lib.ListN.{length}
 use borrow.Author.Needs.{needs}
-use Rattle.turn.specs.Turns.{Runs}
+use Rattle.turn.specs.Turns.{CopiesAll}
 use Rattle.turn.proofs.ways.TextTurns.{runs-none, runs-on, plain-copies}
 use Rattle.turn.proofs.turn.run.Statement.{statement}
 use Rattle.turn.proofs.turn.run.Tie as tie
 
 abbrev Inv-loop : tie.InvT-loop
-Inv-loop s at i₀ i = Runs s at i
+Inv-loop s at i₀ i = CopiesAll s at i
 
 abbrev μ-loop : tie.MeasureT-loop
 μ-loop s at i₀ i = length s - i
@@ -31,16 +31,17 @@ returns c = c .before .before .before .before .before .before .loop .inv
 
 loop-less-2 : tie.Need-loop-less-2 Inv-loop μ-loop
 loop-less-2 c =
-    let inside = c .before .before .before .before .before .loop-test .taken in
-    omega (arith, c .if2 .left, c .before .past-rare .ensures .to, inside)
+    let past-rare = c .before in
+    let inside = past-rare .before .before .before .before in
+    omega (arith, c .if2 .left, past-rare .past-rare .ensures .to, inside .loop-test .taken)
 
 loop-again-2 : tie.Need-loop-again-2 Inv-loop μ-loop
 loop-again-2 c =
-    let head = c .before .before .before .before .before .before in
+    let next = c .before in
+    let head = next .before .before .before .before .before in
     let a = head .before .before .args in
-    let next = c .before .past-rare in
-    runs-on (a .s .now) (a .at) (head .loop .i) (next .result) (head .loop .inv) (c .if2 .left) (next .ensures .to)
-    (next .ensures .copies (c .if2 .left))
+    runs-on (a .s .now) (a .at) (head .loop .i) (next .past-rare .result) (head .loop .inv) (c .if2 .left) (next .past-rare .ensures .to)
+    (next .past-rare .ensures .copies (c .if2 .left))
 
 returns-2 : tie.Need-returns-2 Inv-loop μ-loop
 returns-2 c = c .before .loop .inv

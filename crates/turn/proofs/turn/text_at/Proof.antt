@@ -16,24 +16,23 @@ returns c =
 
 texts-requires : tie.Need-texts-requires
 texts-requires c κs =
-    let told = c .before .before .r .given .1 in
-    let call = c .before .before .before .before .before .before in
+    let told = c .before .before in
+    let call = told .before .before .before .before in
     let begin = call .before .before .before .before .before .before .before .before .before in
-    let g = put-grows (length (begin .args .s .now)) (begin .args .at) (begin .args .len) told (call .backslash .ensures .1) in
+    let g = put-grows (length (begin .args .s .now)) (begin .args .at) (begin .args .len) (told .r .given .1) (call .backslash .ensures .1) in
     (g .inside, omega (arith, g .text, begin .pre .1 .room, call .backslash .kept .1 .1 .1 .0))
 
 returns-3 : tie.Need-returns-3
 returns-3 c =
-    let texts = c .before .before .texts in
-    let told = c .before .before .before .before .before .r .given .1 in
-    let call = c .before .before .before .before .before .before .before .before .before in
+    let texts = c .before .before in
+    let told = texts .before .before .before in
+    let call = told .before .before .before .before in
     let a = call .before .before .before .before .before .before .before .before .before .args in (
-      wrote-on (a .verb) (a .s .now) (a .at) (a .len) (a .out .now) _ _ _ (texts .result .at) (texts .result .len) _
-          (put-says (a .verb) (a .s .now) (a .at) (a .len) (a .out .now) _ told (call .backslash .ensures .0))
-          (texts .ensures .0),
-      grows-on (length (a .s .now)) 1 0 (a .at) (a .len) _ _ (texts .result .at) (texts .result .len)
-          (put-grows (length (a .s .now)) (a .at) (a .len) told (call .backslash .ensures .1))
-          (texts .ensures .1 .0),
+      wrote-on (a .verb) (a .s .now) (a .at) (a .len) (a .out .now) _ _ _ (texts .texts .result .at) (texts .texts .result .len) _
+          (put-says (a .verb) (a .s .now) (a .at) (a .len) (a .out .now) _ (told .r .given .1) (call .backslash .ensures .0))
+          (texts .texts .ensures .0),
+      grows-on (length (a .s .now)) 1 0 (a .at) (a .len) _ _ (texts .texts .result .at) (texts .texts .result .len)
+          (put-grows (length (a .s .now)) (a .at) (a .len) (told .r .given .1) (call .backslash .ensures .1)) (texts .texts .ensures .1 .0),
     )
 
 returns-4 : tie.Need-returns-4

@@ -51,7 +51,8 @@ returns c =
 
 returns-2 : tie.Need-returns-2 Inv-loop μ-loop
 returns-2 c =
-    let copy = c .before .before .before .before .before .before in
+    let ends-text = c .before in
+    let copy = ends-text .before .before .before .before .before in
     let run = copy .before .before in
     let head = run .before in
     let a = head .before .before .before .args in
@@ -61,19 +62,22 @@ returns-2 c =
       (
         grows-more (length (a .s .now)) (a .at) (a .len) (x .i) (x .l) (run .run .result) (copy .copy .result)
             (x .inv .1) (run .run .ensures .from) (run .run .ensures .to) (copy .copy .ensures .1),
-        λ h. sym (c .before .ends-text .ensures) ∙ c .if2 .taken,
+        λ h. sym (ends-text .ends-text .ensures) ∙ c .if2 .taken,
       ),
     )
 
 one-text-requires : tie.Need-one-text-requires Inv-loop μ-loop
 one-text-requires c κs =
-    let copy = c .before .before .before .before .before .before .before in
+    let if2 = c .before in
+    let ends-text = if2 .before in
+    let if1 = ends-text .before .before in
+    let copy = if1 .before .before .before in
     let run = copy .before .before .run in
     let head = copy .before .before .before in
     let begin = head .before .before .before in
     let g = head .loop .inv .1 in
-    let is = not-ends (begin .args .verb) _ (sym (c .before .before .ends-text .ensures) ∙ c .before .if2 .left) in (
-      c .before .before .before .before .if1 .left,
+    let is = not-ends (begin .args .verb) _ (sym (ends-text .ends-text .ensures) ∙ if2 .if2 .left) in (
+      if1 .if1 .left,
       is .0,
       is .1,
       omega (
@@ -91,27 +95,28 @@ one-text-requires c κs =
 
 loop-less : tie.Need-loop-less Inv-loop μ-loop
 loop-less c =
-    let text = c .before .before .one-text in
-    let run = c .before .before .before .before .before .before .before .before .before .before .before .before .run in
-    omega (arith, text .ensures .1 .at, text .ensures .1 .inside, run .ensures .from)
+    let text = c .before .before in
+    let run = text .before .before .before .before .before .before .before .before .before .before in
+    omega (arith, text .one-text .ensures .1 .at, text .one-text .ensures .1 .inside, run .run .ensures .from)
 
 loop-again : tie.Need-loop-again Inv-loop μ-loop
 loop-again c =
-    let text = c .before .before .one-text in
-    let copy = c .before .before .before .before .before .before .before .before .before .before in
+    let text = c .before .before in
+    let copy = text .before .before .before .before .before .before .before .before in
     let run = copy .before .before in
     let head = run .before in
     let a = head .before .before .before .args in
     let x = head .loop in (
-      wrote-on (a .verb) (a .s .now) (a .at) (a .len) (a .out .now) (run .run .result) (copy .copy .result) _ (text .result .at) (text .result .len) _
+      wrote-on (a .verb) (a .s .now) (a .at) (a .len) (a .out .now) (run .run .result) (copy .copy .result) _ (text .one-text .result .at)
+          (text .one-text .result .len) _
           (wrote-more (a .verb) (a .s .now) (a .at) (a .len) (a .out .now) (x .i) (x .l) (x .out) (run .run .result) (copy .copy .result) _
           (x .inv .0) (run .run .ensures) (copy .copy .ensures .0))
-          (text .ensures .0),
-      grows-on (length (a .s .now)) 0 1 (a .at) (a .len) (run .run .result) (copy .copy .result) (text .result .at) (text .result .len)
-          (grows-more (length (a .s .now)) (a .at) (a .len) (x .i) (x .l) (run .run .result) (copy .copy .result)
+          (text .one-text .ensures .0),
+      grows-on (length (a .s .now)) 0 1 (a .at) (a .len) (run .run .result) (copy .copy .result) (text .one-text .result .at)
+          (text .one-text .result .len) (grows-more (length (a .s .now)) (a .at) (a .len) (x .i) (x .l) (run .run .result) (copy .copy .result)
           (x .inv .1) (run .run .ensures .from) (run .run .ensures .to) (copy .copy .ensures .1))
-          (text .ensures .1),
-      text .kept .1 .1 .1 .0 ∙ copy .copy .kept .1 .1 .1 .0 ∙ x .inv .2,
+          (text .one-text .ensures .1),
+      text .one-text .kept .1 .1 .1 .0 ∙ copy .copy .kept .1 .1 .1 .0 ∙ x .inv .2,
     )
 
 pub texts-spec : {M : Type 1} → statement M

@@ -1,5 +1,5 @@
 -- `values::elements::value` and `values::elements::name`, which call each other, meet their contracts: `name` calls `value` with fewer names left to
--- open, and `value` calls `name` with its own; so twice the names left fall, with one more for `value`. Assumes nothing.
+-- open, and `value` calls `name` with its own. What falls is twice the names left, and one more for `value`. Assumes nothing.
 use Prim.Native.Nat.{ℕ, _+_, _-_, _*_, _/_, _≤_, _<_}
 use native.Mathlib.Omega.{arith}
 use mathlib.Core.Path.{_≡_, refl, sym, subst, _∙_}
@@ -12,6 +12,7 @@ use borrow.Fn.PlainCycle.{Measures, is, falls, and}
 use Rattle.row.specs.declared.form.Kind.the-variants.{Name}
 use Rattle.row.specs.Row.{row}
 use Rattle.row.specs.Numbers.{rowsOf}
+use Rattle.row.specs.Limits.{mostOpen}
 use Rattle.resolve.specs.declared.progress.Went.{Went}
 use Rattle.resolve.specs.Checks.{everySpan, lentOf}
 use Rattle.resolve.specs.Progress.{Bounded, BoundedWent, SaysRun}
@@ -20,7 +21,7 @@ use Rattle.resolve.proofs.progress.counted.Reads as counted-reads
 use Rattle.resolve.proofs.progress.literal.Reads as literal-reads
 use Rattle.resolve.proofs.progress.month.Reads as month-reads
 use Rattle.values.specs.Field.{meaningOf}
-use Rattle.values.specs.Uses.{Inside, valueFrom}
+use Rattle.values.specs.Uses.{RowInside, valueFrom}
 use Rattle.values.proofs.ways.ElementWays as ways
 use Rattle.values.proofs.ways.NameWays as names
 use Rattle.values.proofs.elements.name.Reads as name
@@ -87,7 +88,7 @@ module _ (t : ℕ) where
       let start = meant .before .before .before .before .before .before .before .before .before .before .before .before .before in
       let a = start .args in
       let lent = lentOf (a .file .now) (a .rows .now) (a .months .now) (a .words .now) in
-      let path = take (32 - a .left) (a .path .now) in (
+      let path = take (mostOpen - a .left) (a .path .now) in (
         names.name-refused lent (a .verb) (a .left) path (row Name (a .start) (a .end)) (a .st) (a .words .now) (meant .meaning-of .result)
             (meant .meaning-of .ensures .0) (asked .may-open .result) (asked .may-open .ensures) (a .chunks .now) (a .text .now) _
             (told .reason .given .1),
@@ -101,7 +102,7 @@ module _ (t : ℕ) where
       let start = meant .before .before .before .before .before .before .before .before .before .before .before .before .before in
       let a = start .args in (
         start .pre .1 .1,
-        names.some-left (meant .meaning-of .result) (take (32 - a .left) (a .path .now)) (a .left) (a .st .names)
+        names.some-left (meant .meaning-of .result) (take (mostOpen - a .left) (a .path .now)) (a .left) (a .st .names)
             (sym (asked .may-open .ensures) ∙ c .enum-told .given .1) .1,
       )
 
@@ -113,7 +114,7 @@ module _ (t : ℕ) where
       let meant = asked .before .before in
       let start = meant .before .before .before .before .before .before .before .before .before .before .before .before .before in
       let a = start .args in
-      let left = names.some-left (meant .meaning-of .result) (take (32 - a .left) (a .path .now)) (a .left) (a .st .names)
+      let left = names.some-left (meant .meaning-of .result) (take (mostOpen - a .left) (a .path .now)) (a .left) (a .st .names)
       (sym (asked .may-open .ensures) ∙ granted .enum-told .given .1) .0 in
       omega (arith, left, start .pre .1 .0 .path .0, start .pre .1 .0 .path .1)
 
@@ -125,7 +126,7 @@ module _ (t : ℕ) where
       let meant = asked .before .before in
       let start = meant .before .before .before .before .before .before .before .before .before .before .before .before .before in
       let a = start .args in
-      let left = names.some-left (meant .meaning-of .result) (take (32 - a .left) (a .path .now)) (a .left) (a .st .names)
+      let left = names.some-left (meant .meaning-of .result) (take (mostOpen - a .left) (a .path .now)) (a .left) (a .st .names)
       (sym (asked .may-open .ensures) ∙ granted .enum-told .given .1) .0 in
       omega (arith, left, start .pre .1 .0 .path .0, start .pre .1 .0 .path .1)
 
@@ -137,7 +138,7 @@ module _ (t : ℕ) where
       let meant = asked .before .before in
       let start = meant .before .before .before .before .before .before .before .before .before .before .before .before .before in
       let a = start .args in
-      let left = names.some-left (meant .meaning-of .result) (take (32 - a .left) (a .path .now)) (a .left) (a .st .names)
+      let left = names.some-left (meant .meaning-of .result) (take (mostOpen - a .left) (a .path .now)) (a .left) (a .st .names)
       (sym (asked .may-open .ensures) ∙ granted .enum-told .given .1) .0 in
       omega (arith, left, start .pre .1 .0 .path .0, start .pre .1 .0 .path .1)
 
@@ -151,7 +152,7 @@ module _ (t : ℕ) where
       let meant = asked .before .before in
       let start = meant .before .before .before .before .before .before .before .before .before .before .before .before .before in
       let a = start .args in
-      let inside = subst (Inside (length (a .rows .now) / 4)) (m .1) (meant .meaning-of .ensures .1) in
+      let inside = subst (RowInside (length (a .rows .now) / 4)) (m .1) (meant .meaning-of .ensures .1) in
       omega (arith, inside)
 
   name-add-value : name-lts.Need-add-value (name-calls t) (name-at t) name.Post
@@ -164,7 +165,7 @@ module _ (t : ℕ) where
       let meant = asked .before .before in
       let start = meant .before .before .before .before .before .before .before .before .before .before .before .before .before in
       let a = start .args in
-      let inside = subst (Inside (length (a .rows .now) / 4)) (m .1) (meant .meaning-of .ensures .1) in
+      let inside = subst (RowInside (length (a .rows .now) / 4)) (m .1) (meant .meaning-of .ensures .1) in
       omega (arith, inside)
 
   name-value-requires : name-lts.Need-value-requires (name-calls t) (name-at t) name.Post
@@ -177,13 +178,13 @@ module _ (t : ℕ) where
       let meant = asked .before .before in
       let start = meant .before .before .before .before .before .before .before .before .before .before .before .before .before in
       let a = start .args in
-      let inside = subst (Inside (length (a .rows .now) / 4)) (m .1) (meant .meaning-of .ensures .1) in
-      let left = names.some-left (meant .meaning-of .result) (take (32 - a .left) (a .path .now)) (a .left) (a .st .names)
+      let inside = subst (RowInside (length (a .rows .now) / 4)) (m .1) (meant .meaning-of .ensures .1) in
+      let left = names.some-left (meant .meaning-of .result) (take (mostOpen - a .left) (a .path .now)) (a .left) (a .st .names)
       (sym (asked .may-open .ensures) ∙ granted .enum-told .given .1) .0 in (
         omega (arith, left, start .pre .0),
         (
-          names.sound-down (a .file .now) (a .rows .now) (a .months .now) (a .words .now) (a .heads .now) (a .next .now) (a .scratch .now)
-              (a .known .now) (a .marks .now) (a .path .now) (a .left) _ (start .pre .1 .0) (length-set (a .path .now) (32 - a .left) _),
+          names.ready-value-down (a .file .now) (a .rows .now) (a .months .now) (a .words .now) (a .heads .now) (a .next .now) (a .scratch .now)
+              (a .known .now) (a .marks .now) (a .path .now) (a .left) _ (start .pre .1 .0) (length-set (a .path .now) (mostOpen - a .left) _),
           opened .counted .ensures .0 .1,
           omega arith,
           omega (arith, inside),
@@ -237,7 +238,7 @@ module _ (t : ℕ) where
       let meant = asked .before .before in
       let start = meant .before .before .before .before .before .before .before .before .before .before .before .before .before in
       let a = start .args in
-      v .kept .1 .1 .1 .1 .1 .1 .1 .1 .1 .1 .0 ∙ length-set (a .path .now) (32 - a .left) _
+      v .kept .1 .1 .1 .1 .1 .1 .1 .1 .1 .1 .0 ∙ length-set (a .path .now) (mostOpen - a .left) _
 
   name-returns-2 : name-lts.Need-returns-2 (name-calls t) (name-at t) name.Post
   name-returns-2 c =
@@ -252,9 +253,9 @@ module _ (t : ℕ) where
       let start = meant .before .before .before .before .before .before .before .before .before .before .before .before .before in
       let a = start .args in
       let lent = lentOf (a .file .now) (a .rows .now) (a .months .now) (a .words .now) in
-      let path = take (32 - a .left) (a .path .now) in
+      let path = take (mostOpen - a .left) (a .path .now) in
       let p = start .pre .1 .0 .path in
-      let left = names.some-left (meant .meaning-of .result) (take (32 - a .left) (a .path .now)) (a .left) (a .st .names)
+      let left = names.some-left (meant .meaning-of .result) (take (mostOpen - a .left) (a .path .now)) (a .left) (a .st .names)
       (sym (asked .may-open .ensures) ∙ granted .enum-told .given .1) .0 in (
         names.name-definition lent (a .verb) (a .left) path (row Name (a .start) (a .end)) (a .st) (a .words .now) (meant .meaning-of .result)
             (meant .meaning-of .ensures .0) (asked .may-open .result) (asked .may-open .ensures) (a .chunks .now) (a .text .now)
@@ -277,7 +278,7 @@ module _ (t : ℕ) where
       let start = meant .before .before .before .before .before .before .before .before .before .before .before .before .before in
       let a = start .args in
       let lent = lentOf (a .file .now) (a .rows .now) (a .months .now) (a .words .now) in
-      let path = take (32 - a .left) (a .path .now) in (
+      let path = take (mostOpen - a .left) (a .path .now) in (
         names.name-month lent (a .verb) (a .left) path (row Name (a .start) (a .end)) (a .st) (a .words .now) (meant .meaning-of .result)
             (meant .meaning-of .ensures .0) (asked .may-open .result) (asked .may-open .ensures) (a .chunks .now) (a .text .now)
             (granted .enum-told .given .1) (opened .counted .result) (opened .counted .ensures .0 .0) (opened .counted .ensures .1) (m .0 .0)
@@ -294,7 +295,7 @@ module _ (t : ℕ) where
       let start = meant .before .before .before .before .before .before .before .before .before .before .before .before .before in
       let a = start .args in
       let lent = lentOf (a .file .now) (a .rows .now) (a .months .now) (a .words .now) in
-      let path = take (32 - a .left) (a .path .now) in
+      let path = take (mostOpen - a .left) (a .path .now) in
       absurd
       (names.name-known lent (a .verb) (a .left) path (row Name (a .start) (a .end)) (a .st) (a .words .now) (meant .meaning-of .result)
       (meant .meaning-of .ensures .0) (asked .may-open .result) (asked .may-open .ensures) (a .chunks .now) (a .text .now)
@@ -305,14 +306,14 @@ module _ (t : ℕ) where
 abbrev value-calls : ℕ → value-lts.Claims
 value-calls t = (element-at-reads.Asked, element-at-reads.Learnt, literal-reads.Asked, literal-reads.Learnt, name-below t, name.Post)
 
--- whatever the rest of the elements come to, all of them come to
+-- an answer that is right for the elements from here on is right for all of them
 abbrev value-Inv-loop : value-lts.InvT-loop
 value-Inv-loop file rows months words heads next known marks verb left path₀ at scratch₀ chunks₀ text₀ st₀ i₀ path scratch chunks text st i =
     (length path ≡ length path₀) × (length scratch ≡ length scratch₀) × (length chunks ≡ length chunks₀) × (length text ≡ length text₀)
-    × (i ≤ length rows + 8) × Bounded st × (everySpan file (rowsOf (drop i rows)) ≡ true) × (take (32 - left) path ≡ take (32 - left) path₀)
+    × (i ≤ length rows + 8) × Bounded st × (everySpan file (rowsOf (drop i rows)) ≡ true) × (take (mostOpen - left) path ≡ take (mostOpen - left) path₀)
     × ((r : Went) (b t : List ℕ)
-    → SaysRun (valueFrom (lentOf file rows months words) verb left (take (32 - left) path₀) (rowsOf (drop i rows)) (st .names)) st chunks text r b t
-    → SaysRun (valueFrom (lentOf file rows months words) verb left (take (32 - left) path₀) (rowsOf (drop at rows)) (st₀ .names)) st₀ chunks₀ text₀ r b t)
+    → SaysRun (valueFrom (lentOf file rows months words) verb left (take (mostOpen - left) path₀) (rowsOf (drop i rows)) (st .names)) st chunks text r b t
+    → SaysRun (valueFrom (lentOf file rows months words) verb left (take (mostOpen - left) path₀) (rowsOf (drop at rows)) (st₀ .names)) st₀ chunks₀ text₀ r b t)
 
 abbrev value-μ-loop : value-lts.MeasureT-loop
 value-μ-loop file rows months words heads next known marks verb left path₀ at scratch₀ chunks₀ text₀ st₀ i₀ path scratch chunks text st i =
@@ -344,7 +345,7 @@ module _ (t : ℕ) where
       let a = start .args in
       let l = turn .loop in
       let lent = lentOf (a .file .now) (a .rows .now) (a .months .now) (a .words .now) in
-      let path = take (32 - a .left) (a .path .now) in (
+      let path = take (mostOpen - a .left) (a .path .now) in (
         l .inv .8 _ _ _ (ways.value-end lent (a .verb) (a .left) path (a .rows .now) (l .i) (l .st) (l .chunks) (l .text) (v .result) (v .ensures) (c .enum-told .given .1)),
         (l .inv .5, l .inv .7),
       )
@@ -420,7 +421,8 @@ module _ (t : ℕ) where
 
   value-loop-again : value-lts.Need-loop-again (value-calls t) (value-at t) value.Post value-Inv-loop value-μ-loop
   value-loop-again c =
-      let called = c .before .before .before .before .before .before .before .before .before in
+      let t = c .before in
+      let called = t .before .before .before .before .before .before .before .before in
       let r = called .literal in
       let seen = called .before .before .before .before .before .before in
       let e = seen .e .given in
@@ -432,8 +434,8 @@ module _ (t : ℕ) where
       let l = turn .loop in
       let at = ways.placed (a .file .now) (a .rows .now) (l .i) (l .inv .6) (v .result) (v .ensures) _ (e .1) in
       let lent = lentOf (a .file .now) (a .rows .now) (a .months .now) (a .words .now) in
-      let path = take (32 - a .left) (a .path .now) in
-      let is = c .before .t .given in (
+      let path = take (mostOpen - a .left) (a .path .now) in
+      let is = t .t .given in (
         l .inv .0,
         r .kept .1 .1 .1 .1 .0 ∙ l .inv .1,
         r .kept .1 .1 .1 .1 .1 .0 ∙ l .inv .2,
@@ -443,14 +445,15 @@ module _ (t : ℕ) where
         at .3,
         l .inv .7,
         λ r₂ b₂ t₂ h. l .inv .8 r₂ b₂ t₂
-            (ways.literal-on lent (a .verb) (a .left) path (a .rows .now) (l .i) (l .st) (l .chunks) (l .text) (v .result) (v .ensures) (e .0 .0) (e .0 .1 .0)
-            (at .0) (r .result) _ _ (e .1) _ (asking .cut-part (a .file .now) (e .0 .0) (e .0 .1 .0) (at .1) (at .2)) (r .ensures .0)
+            (ways.literal-on lent (a .verb) (a .left) path (a .rows .now) (l .i) (l .st) (l .chunks) (l .text) (v .result) (v .ensures) (e .0 .0)
+            (e .0 .1 .0) (at .0) (r .result) _ _ (e .1) _ (asking .cut-part (a .file .now) (e .0 .0) (e .0 .1 .0) (at .1) (at .2)) (r .ensures .0)
             (is .0 .0) (is .1) r₂ b₂ t₂ h),
       )
 
   value-returns-2 : value-lts.Need-returns-2 (value-calls t) (value-at t) value.Post value-Inv-loop value-μ-loop
   value-returns-2 c =
-      let called = c .before .before .before .before .before .before .before .before .before in
+      let f = c .before in
+      let called = f .before .before .before .before .before .before .before .before in
       let r = called .literal in
       let seen = called .before .before .before .before .before .before in
       let e = seen .e .given in
@@ -462,12 +465,12 @@ module _ (t : ℕ) where
       let l = turn .loop in
       let at = ways.placed (a .file .now) (a .rows .now) (l .i) (l .inv .6) (v .result) (v .ensures) _ (e .1) in
       let lent = lentOf (a .file .now) (a .rows .now) (a .months .now) (a .words .now) in
-      let path = take (32 - a .left) (a .path .now) in (
+      let path = take (mostOpen - a .left) (a .path .now) in (
         l .inv .8 _ _ _
-            (ways.literal-stopped lent (a .verb) (a .left) path (a .rows .now) (l .i) (l .st) (l .chunks) (l .text) (v .result) (v .ensures) (e .0 .0) (e .0 .1 .0)
-            (at .0) (r .result) _ _ (e .1) _ (asking .cut-part (a .file .now) (e .0 .0) (e .0 .1 .0) (at .1) (at .2)) (r .ensures .0)
-            _ (c .before .f .given .1)),
-        (subst BoundedWent (c .before .f .given .1) (r .ensures .1), l .inv .7),
+            (ways.literal-stopped lent (a .verb) (a .left) path (a .rows .now) (l .i) (l .st) (l .chunks) (l .text) (v .result) (v .ensures) (e .0 .0)
+            (e .0 .1 .0) (at .0) (r .result) _ _ (e .1) _ (asking .cut-part (a .file .now) (e .0 .0) (e .0 .1 .0) (at .1) (at .2)) (r .ensures .0)
+            _ (f .f .given .1)),
+        (subst BoundedWent (f .f .given .1) (r .ensures .1), l .inv .7),
       )
 
   value-name-requires : value-lts.Need-name-requires (value-calls t) (value-at t) value.Post value-Inv-loop value-μ-loop
@@ -484,7 +487,7 @@ module _ (t : ℕ) where
       let p = start .pre .1 .0 in (
         omega (arith, start .pre .0),
         (
-          ways.sound-on (a .file .now) (a .rows .now) (a .months .now) (a .words .now) (a .heads .now) (a .next .now) (a .scratch .now) (a .known .now)
+          ways.ready-value-on (a .file .now) (a .rows .now) (a .months .now) (a .words .now) (a .heads .now) (a .next .now) (a .scratch .now) (a .known .now)
               (a .marks .now) (a .path .now) (a .left) (l .scratch) (l .path) p (l .inv .1) (l .inv .0),
           l .inv .5,
           omega (arith, at .1, at .2, p .short),
@@ -507,7 +510,8 @@ module _ (t : ℕ) where
 
   value-loop-again-2 : value-lts.Need-loop-again-2 (value-calls t) (value-at t) value.Post value-Inv-loop value-μ-loop
   value-loop-again-2 c =
-      let called = c .before .before .before .before .before .before .before .before .before .before .before in
+      let t2 = c .before in
+      let called = t2 .before .before .before .before .before .before .before .before .before .before in
       let r = called .name in
       let seen = called .before .before .before .before .before .before in
       let e = seen .e2 .given in
@@ -519,8 +523,8 @@ module _ (t : ℕ) where
       let l = turn .loop in
       let at = ways.placed (a .file .now) (a .rows .now) (l .i) (l .inv .6) (v .result) (v .ensures) _ (e .1) in
       let lent = lentOf (a .file .now) (a .rows .now) (a .months .now) (a .words .now) in
-      let path = take (32 - a .left) (a .path .now) in
-      let is = c .before .t2 .given in (
+      let path = take (mostOpen - a .left) (a .path .now) in
+      let is = t2 .t2 .given in (
         r .kept .1 .1 .1 .1 .1 .1 .1 .1 .1 .1 .0 ∙ l .inv .0,
         r .kept .1 .1 .1 .1 .1 .1 .1 .1 .1 .1 .1 .1 .1 .1 .0 ∙ l .inv .1,
         r .kept .1 .1 .1 .1 .1 .1 .1 .1 .1 .1 .1 .1 .1 .1 .1 .0 ∙ l .inv .2,
@@ -530,14 +534,14 @@ module _ (t : ℕ) where
         at .3,
         r .ensures .1 .1 ∙ l .inv .7,
         λ r₂ b₂ t₂ h. l .inv .8 r₂ b₂ t₂
-            (ways.name-on lent (a .verb) (a .left) path (a .rows .now) (l .i) (l .st) (l .chunks) (l .text) (v .result) (v .ensures) (e .0 .0) (e .0 .1 .0)
-            (at .0) (r .result) _ _ (e .1) _ (l .inv .7) (r .ensures .0)
-            (is .0 .0) (is .1) r₂ b₂ t₂ h),
+            (ways.name-on lent (a .verb) (a .left) path (a .rows .now) (l .i) (l .st) (l .chunks) (l .text) (v .result) (v .ensures) (e .0 .0)
+            (e .0 .1 .0) (at .0) (r .result) _ _ (e .1) _ (l .inv .7) (r .ensures .0) (is .0 .0) (is .1) r₂ b₂ t₂ h),
       )
 
   value-returns-3 : value-lts.Need-returns-3 (value-calls t) (value-at t) value.Post value-Inv-loop value-μ-loop
   value-returns-3 c =
-      let called = c .before .before .before .before .before .before .before .before .before .before .before in
+      let f2 = c .before in
+      let called = f2 .before .before .before .before .before .before .before .before .before .before in
       let r = called .name in
       let seen = called .before .before .before .before .before .before in
       let e = seen .e2 .given in
@@ -549,12 +553,12 @@ module _ (t : ℕ) where
       let l = turn .loop in
       let at = ways.placed (a .file .now) (a .rows .now) (l .i) (l .inv .6) (v .result) (v .ensures) _ (e .1) in
       let lent = lentOf (a .file .now) (a .rows .now) (a .months .now) (a .words .now) in
-      let path = take (32 - a .left) (a .path .now) in (
+      let path = take (mostOpen - a .left) (a .path .now) in (
         l .inv .8 _ _ _
-            (ways.name-stopped lent (a .verb) (a .left) path (a .rows .now) (l .i) (l .st) (l .chunks) (l .text) (v .result) (v .ensures) (e .0 .0) (e .0 .1 .0)
-            (at .0) (r .result) _ _ (e .1) _ (l .inv .7) (r .ensures .0)
-            _ (c .before .f2 .given .1)),
-        (subst BoundedWent (c .before .f2 .given .1) (r .ensures .1 .0), r .ensures .1 .1 ∙ l .inv .7),
+            (ways.name-stopped lent (a .verb) (a .left) path (a .rows .now) (l .i) (l .st) (l .chunks) (l .text) (v .result) (v .ensures) (e .0 .0)
+            (e .0 .1 .0) (at .0) (r .result) _ _ (e .1) _ (l .inv .7) (r .ensures .0)
+            _ (f2 .f2 .given .1)),
+        (subst BoundedWent (f2 .f2 .given .1) (r .ensures .1 .0), r .ensures .1 .1 ∙ l .inv .7),
       )
 
 pub +name+value-spec : {M : Type 1} → statement M

@@ -25,9 +25,10 @@ returns-3 c =
 
 returns-4 : tie.Need-returns-4
 returns-4 c =
-    let room = c .before .before .before .before .before .before .before in
+    let if2 = c .before in
+    let room = if2 .before .before .before .before .before .before in
     let a = room .before .before .args in
-    element-other (a .rows .now) (a .i) (room .if1 .left) (c .before .if2 .left) (c .if3 .left)
+    element-other (a .rows .now) (a .i) (room .if1 .left) (if2 .if2 .left) (c .if3 .left)
 
 pub element-at-spec : {M : Type 1} → statement M
 element-at-spec =

@@ -4,10 +4,10 @@ use native.Mathlib.Omega.{arith}
 use mathlib.Core.Path.{sym, _∙_}
 use lib.ListN.{length}
 use borrow.Author.Needs.{needs}
-use Rattle.resolve.specs.Resolves.{mostWritten}
 use Rattle.whole.proofs.counting.AtMost.{row-there, spans, sums, Summed, summed-none, summed-on, summed-end}
 use Rattle.whole.proofs.bound.most_of.Statement.{statement}
 use Rattle.whole.proofs.bound.most_of.Tie as tie
+use Rattle.row.specs.Limits.{mostWritten}
 
 -- the literals before number `at` are summed up
 abbrev Inv-loop : tie.InvT-loop
@@ -32,45 +32,45 @@ returns c =
 
 sub-n : tie.Need-sub-n Inv-loop μ-loop
 sub-n c =
-    let e = c .before .before .e .given in
-    let l = c .before .before .before .before .before .loop in
-    let s = spans (e .0 .0) (e .0 .1 .0) (c .if1 .left) in
+    let e = c .before .before in
+    let l = e .before .before .before in
+    let s = spans (e .e .given .0 .0) (e .e .given .0 .1 .0) (c .if1 .left) in
     omega (arith, s .0)
 
 add-n : tie.Need-add-n Inv-loop μ-loop
 add-n c =
-    let e = c .before .before .e .given in
-    let l = c .before .before .before .before .before .loop in
-    let s = spans (e .0 .0) (e .0 .1 .0) (c .if1 .left) in
+    let e = c .before .before in
+    let l = e .before .before .before in
+    let s = spans (e .e .given .0 .0) (e .e .given .0 .1 .0) (c .if1 .left) in
     omega (arith, s .1)
 
 add-n-2 : tie.Need-add-n-2 Inv-loop μ-loop
 add-n-2 c =
-    let e = c .before .before .e .given in
-    let l = c .before .before .before .before .before .loop in
-    let s = spans (e .0 .0) (e .0 .1 .0) (c .if1 .left) in
-    omega (arith, s .1, l .inv .1)
+    let e = c .before .before in
+    let l = e .before .before .before in
+    let s = spans (e .e .given .0 .0) (e .e .given .0 .1 .0) (c .if1 .left) in
+    omega (arith, s .1, l .loop .inv .1)
 
 sub-m : tie.Need-sub-m Inv-loop μ-loop
 sub-m c =
-    let e = c .before .before .e .given in
-    let l = c .before .before .before .before .before .loop in
-    let s = spans (e .0 .0) (e .0 .1 .0) (c .if1 .left) in
+    let e = c .before .before in
+    let l = e .before .before .before in
+    let s = spans (e .e .given .0 .0) (e .e .given .0 .1 .0) (c .if1 .left) in
     omega (arith, s .0)
 
 mul-m : tie.Need-mul-m Inv-loop μ-loop
 mul-m c =
-    let e = c .before .before .e .given in
-    let l = c .before .before .before .before .before .loop in
-    let s = spans (e .0 .0) (e .0 .1 .0) (c .if1 .left) in
+    let e = c .before .before in
+    let l = e .before .before .before in
+    let s = spans (e .e .given .0 .0) (e .e .given .0 .1 .0) (c .if1 .left) in
     omega (arith, s .1)
 
 add-m : tie.Need-add-m Inv-loop μ-loop
 add-m c =
-    let e = c .before .before .e .given in
-    let l = c .before .before .before .before .before .loop in
-    let s = spans (e .0 .0) (e .0 .1 .0) (c .if1 .left) in
-    omega (arith, s .1, l .inv .2)
+    let e = c .before .before in
+    let l = e .before .before .before in
+    let s = spans (e .e .given .0 .0) (e .e .given .0 .1 .0) (c .if1 .left) in
+    omega (arith, s .1, l .loop .inv .2)
 
 loop-less : tie.Need-loop-less Inv-loop μ-loop
 loop-less c =

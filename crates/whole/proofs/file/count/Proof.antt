@@ -5,7 +5,7 @@ use mathlib.Core.Path.{_≡_, refl, _∙_}
 use lib.ListN.{length}
 use borrow.Author.Needs.{needs}
 use Rattle.resolve.specs.Checks.{lentOf}
-use Rattle.whole.specs.Filing.{Bounded, Begun}
+use Rattle.whole.specs.Filing.{BoundedTotals, CountedTo}
 use Rattle.whole.proofs.counting.RowKinds.{inside, past}
 use Rattle.whole.proofs.counting.CountWays.{count-start, few-values, count-flag, count-value, count-other, count-end, resolving}
 use Rattle.whole.proofs.file.count.Statement.{statement}
@@ -14,7 +14,7 @@ use Rattle.whole.proofs.file.count.Tie as tie
 -- the values of the rows before row i are counted
 abbrev Inv-loop : tie.InvT-loop
 Inv-loop file rows flags months words heads next known marks scratch₀ t₀ i₀ scratch t i =
-    (length scratch ≡ length scratch₀) × Bounded t × Begun (lentOf file rows months words) flags i t
+    (length scratch ≡ length scratch₀) × BoundedTotals t × CountedTo (lentOf file rows months words) flags i t
 
 abbrev μ-loop : tie.MeasureT-loop
 μ-loop file rows flags months words heads next known marks scratch₀ t₀ i₀ scratch t i = length rows / 4 - i

@@ -5,7 +5,7 @@ use mathlib.Core.Path.{_≡_, refl, _∙_}
 use lib.ListN.{length}
 use borrow.Author.Needs.{needs}
 use Rattle.resolve.specs.Checks.{lentOf}
-use Rattle.whole.specs.Filing.{Bounded}
+use Rattle.whole.specs.Filing.{BoundedTotals}
 use Rattle.whole.specs.Bounds.{Covered}
 use Rattle.whole.proofs.counting.RowKinds.{past}
 use Rattle.whole.proofs.counting.Covering.{cover-start, cover-end}
@@ -16,7 +16,7 @@ use Rattle.whole.proofs.file.most_of_all.Tie as tie
 -- the values of the rows before row i come to no more than was counted
 abbrev Inv-loop : tie.InvT-loop
 Inv-loop file rows flags months words heads next known marks scratch₀ t₀ i₀ scratch t i =
-    (length scratch ≡ length scratch₀) × Bounded t × Covered (lentOf file rows months words) flags i t
+    (length scratch ≡ length scratch₀) × BoundedTotals t × Covered (lentOf file rows months words) flags i t
 
 abbrev μ-loop : tie.MeasureT-loop
 μ-loop file rows flags months words heads next known marks scratch₀ t₀ i₀ scratch t i = length rows / 4 - i

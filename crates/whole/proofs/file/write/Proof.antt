@@ -6,7 +6,7 @@ use lib.ListN.{length}
 use borrow.Author.Needs.{needs}
 use Rattle.resolve.specs.Checks.{lentOf}
 use Rattle.whole.specs.WholeFile.{results}
-use Rattle.whole.specs.Filing.{Wrote}
+use Rattle.whole.specs.Filing.{WroteTo}
 use Rattle.whole.proofs.values.Fitting.{fits-as}
 use Rattle.whole.proofs.ways.ValueWays as ways
 use Rattle.whole.proofs.file.write.Statement.{statement}
@@ -14,7 +14,7 @@ use Rattle.whole.proofs.file.write.Tie as tie
 
 abbrev Inv-loop : tie.InvT-loop
 Inv-loop file rows flags months words heads next known marks scratch₀ answers₀ chunks₀ text₀ t₀ i₀ scratch answers chunks text t i =
-    Wrote (lentOf file rows months words) flags i answers₀ chunks₀ text₀ t answers chunks text × (i ≤ length rows / 4)
+    WroteTo (lentOf file rows months words) flags i answers₀ chunks₀ text₀ t answers chunks text × (i ≤ length rows / 4)
     × (length scratch ≡ length scratch₀) × (length answers ≡ length answers₀) × (length chunks ≡ length chunks₀) × (length text ≡ length text₀)
 
 abbrev μ-loop : tie.MeasureT-loop
@@ -36,13 +36,14 @@ loop-holds c =
 
 write-row-requires : tie.Need-write-row-requires Inv-loop μ-loop
 write-row-requires c κs =
-    let turn = c .before .before .before .before .before in
+    let loop-test = c .before .before .before .before in
+    let turn = loop-test .before in
     let so = turn .loop .inv in
     let start = turn .before .before .before .before .before .before .before .before .before .before .before .before .before .before .before in
     let a = start .args in (
       ways.filing-on (a .file .now) (a .rows .now) (a .flags .now) (a .months .now) (a .words .now) (a .heads .now) (a .next .now) (a .scratch .now)
           (a .known .now) (a .marks .now) (turn .loop .scratch) (start .pre .0) (so .2),
-      c .before .before .before .before .loop-test .taken,
+      loop-test .loop-test .taken,
       record { vs = so .0 .vs; so = so .0 .so },
       fits-as (results (lentOf (a .file .now) (a .rows .now) (a .months .now) (a .words .now)) (a .flags .now)) (a .answers .now) (a .chunks .now)
           (a .text .now) (turn .loop .answers) (turn .loop .chunks) (turn .loop .text) (so .3) (so .4) (so .5) (start .pre .1),

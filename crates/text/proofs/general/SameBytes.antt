@@ -11,7 +11,7 @@ use mathlib.Core.List.{List, [], _∷_}
 use lib.ListN.{length}
 use lib.Dec.{eqb}
 use borrow.Author.Tests.{eqb-true, eq-eqb}
-use Rattle.text.specs.Same.{sameBytes}
+use Rattle.text.specs.SameBytes.{sameBytes}
 use Rattle.text.proofs.general.Tests.{both-true}
 
 and-right : (b c : Bool) → c ≡ false → (b && c) ≡ false

@@ -2,7 +2,7 @@
 --     on-behind, on-front, on-it     where the row in the middle comes before the letter and mark, behind them, or is the one
 --     over                           where no row is left
 -- Then its answer on the numbers of a list that rises.
---     halves                         it is `lookup` in the list
+--     by-halving                     the search is `lookup` in the list
 -- Assumes nothing.
 use Prim.Native.Nat.{ℕ, zero, suc, _+_, _-_, _/_, _≤_, _<_}
 use native.Mathlib.Omega.{arith}
@@ -16,10 +16,10 @@ use lib.ListN.{length}
 use borrow.Author.Tests.{ltb-true, ltb-false, lt-ltb, le-ltb}
 use Rattle.compose.specs.declared.Composed.{Composed}
 use Rattle.compose.specs.declared.Composed.the-variants.{Char, Nothing}
-use Rattle.compose.specs.Lookup.{Row, numbers, has, lookup, rises}
+use Rattle.compose.specs.Lookup.{Composite, numbers, has, lookup, rises}
 use Rattle.compose.specs.Halving.{rowAt, middle, isLow, isHigh, compare, halving, between, halved}
-use Rattle.compose.proofs.Order.{Less, before-less, less-trans, less-apart, apart, neither}
-use Rattle.compose.proofs.Rows.{rowOf, count, order, found, missing}
+use Rattle.compose.proofs.lists.Order.{Less, before-less, less-trans, less-apart, apart, neither}
+use Rattle.compose.proofs.lists.Rows.{rowOf, count, order, found, missing}
 
 -- ---- turns
 
@@ -61,20 +61,20 @@ over t l m lo hi h = enough (hi - lo) 0 t l m lo hi (omega arith) (omega arith)
 -- ---- on a list that rises
 
 -- row k comes before the letter and mark, or behind them
-abbrev Low : List Row → ℕ → ℕ → ℕ → Type 0
+abbrev Low : List Composite → ℕ → ℕ → ℕ → Type 0
 Low rs l m k = Less (rowOf rs k .letter) (rowOf rs k .mark) l m
 
-abbrev High : List Row → ℕ → ℕ → ℕ → Type 0
+abbrev High : List Composite → ℕ → ℕ → ℕ → Type 0
 High rs l m k = Less l m (rowOf rs k .letter) (rowOf rs k .mark)
 
 -- lo and hi bracket a letter and a mark: every row before lo comes before them, and every row from hi on comes behind them
-record Bracket (rs : List Row) (l m lo hi : ℕ) : Type 0 where
+record Bracket (rs : List Composite) (l m lo hi : ℕ) : Type 0 where
   ends : lo ≤ hi
   inside : hi ≤ length rs
   low : (k : ℕ) → k < lo → Low rs l m k
   high : (k : ℕ) → hi ≤ k → k < length rs → High rs l m k
 
-module _ (rs : List Row) (rising : rises rs ≡ true) (l m : ℕ) where
+module _ (rs : List Composite) (rising : rises rs ≡ true) (l m : ℕ) where
   whole : Bracket rs l m 0 (length rs)
   whole = record { ends = omega arith; inside = omega arith; low = λ k h. absurd (omega arith); high = λ k h g. absurd (omega arith) }
 
@@ -108,7 +108,7 @@ module _ (rs : List Row) (rising : rises rs ≡ true) (l m : ℕ) where
   look : (k : ℕ) → k < length rs → (u d : Composed) → (Low rs l m k → u ≡ lookup rs l m) → (High rs l m k → d ≡ lookup rs l m) → compare (rowOf rs k) l m u d ≡ lookup rs l m
   look k h u d up down = by (isLow r l m) (isHigh r l m) refl refl
     where
-      r : Row
+      r : Composite
       r = rowOf rs k
 
       by : (x y : Bool) → isLow r l m ≡ x → isHigh r l m ≡ y → cond x u (cond y d (Char (r .char))) ≡ lookup rs l m
@@ -133,8 +133,8 @@ module _ (rs : List Row) (rising : rises rs ≡ true) (l m : ℕ) where
           (λ c. on (k + 1) hi (omega arith) (behind b k (omega arith) (omega arith) c))
           (λ c. on lo k (omega arith) (front b k (omega arith) (omega arith) c))
 
-  pub halves : halved (numbers rs) l m ≡ lookup rs l m
+  pub by-halving : halved (numbers rs) l m ≡ lookup rs l m
   unfolding halved
-  halves =
+  by-halving =
       let e : length (numbers rs) / 3 ≡ length rs = omega (arith, count rs) in
       rw e (by-turns (length rs) 0 (length rs) (omega arith) whole)

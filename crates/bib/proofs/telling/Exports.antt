@@ -2,9 +2,9 @@
 --     told-refused     a refusal in lent numbers
 --     exported         a call that tells its outcome meets its contract
 --     told-resolving, exported-resolving
---                      the same of the calls that resolve
+--                      a call that resolves tells its answer, and then meets its contract
 --     told-filing, exported-file
---                      the same of the call that resolves every value of a file
+--                      the call that resolves every value of a file tells its answer, and then meets its contract
 -- Assumes nothing.
 use Prim.Native.Nat.{ℕ}
 use mathlib.Core.Path.{_≡_, sym, ap, _∙_, subst}

@@ -1,0 +1,112 @@
+-- Which refusals `resolve_file` can answer for itself and for each value, and their places: `refusals`.
+-- Assumes nothing.
+use Prim.Native.Nat.{ℕ, suc, _<_}
+use native.Mathlib.Omega.{arith}
+use mathlib.Core.Path.{_≡_, refl, sym, ap, subst, _∙_}
+use mathlib.Core.Logic.{_↔_, inl, inr}
+use mathlib.Core.Bool.{Bool, true, false, cond}
+use mathlib.Core.List.{List, [], _∷_, List·Memᴰ, List·Memᴰ·head, List·Memᴰ·tail, List·Memᴰ·not-nil}
+use lib.ListN.{length, drop}
+use lib.Dec.{leb}
+use borrow.Author.Tests.{leb-false, lt-leb}
+use Rattle.row.specs.declared.fault.Fault.{Fault}
+use Rattle.row.specs.declared.fault.Reason.the-variants.{NoRoom, BadRows}
+use Rattle.row.specs.Fault.{numberOf, nowhere}
+use Rattle.row.specs.Row.{Row}
+use Rattle.row.specs.Limits.{leastScratch}
+use Rattle.chunk.specs.declared.answer.Checked.{Checked}
+use Rattle.chunk.specs.declared.answer.Checked.the-variants as checked
+use Rattle.resolve.specs.Resolves.{Value, refused, checkedFile}
+use Rattle.resolve.specs.Checks.{Lent, lentOf}
+use Rattle.resolve.specs.Refusals.{CallFault, first, not-right, full, FullCall}
+use Rattle.resolve.proofs.Refusals.{refusals as call-refusals}
+use Rattle.values.specs.Field.{fieldOf}
+use Rattle.values.specs.Refusals.{FieldFault}
+use Rattle.values.proofs.Refusals.{refusals as value-refusals}
+use Rattle.whole.specs.declared.file.Filed.{Filed}
+use Rattle.whole.specs.declared.file.Filed.the-variants as filed
+use Rattle.whole.specs.WholeFile.{isValueRow, flag, resultsFrom, results, fitsAll, all, none, tellAll, areFiled, afterAll}
+use Rattle.whole.specs.Refusals.{Refusals}
+use Rattle.whole.proofs.ways.FileWays.{asked-of}
+
+-- ---- the call itself, which comes to the values vs where all is right
+
+module _ (file : List ℕ) (good : Bool) (w : ℕ) (vs : List Value) (q b t : List ℕ) where
+  -- what the call comes to, by what it asks
+  abbrev call : Checked → Bool → Bool → Filed
+  call c x y = tellAll (afterAll c (cond x (cond y (all vs) (none (nowhere NoRoom))) (none (nowhere BadRows)))) q b t
+
+  call-fault : (f : Fault) → filed.Refused f ≡ call (checkedFile file) good (leb leastScratch w) → CallFault file good (λ g. ⊥) f
+  call-fault f = by (checkedFile file) refl good refl (leb leastScratch w)
+    where
+      by : (c : Checked) → checkedFile file ≡ c → (x : Bool) → good ≡ x → (y : Bool) → filed.Refused f ≡ call c x y → CallFault file good (λ g. ⊥) f
+      by (checked.Refused g) p x r y e = let z : g ≡ f = cc in first f (call-refusals .file file f (p ∙ ap checked.Refused z))
+      by checked.Passed p false r y e = let z : nowhere BadRows ≡ f = cc in subst (CallFault file good (λ g. ⊥)) z (not-right p r)
+      by checked.Passed p true r false e = let z : nowhere NoRoom ≡ f = cc in subst (CallFault file good (λ g. ⊥)) z (full (p, r))
+      by checked.Passed p true r true e = room _ _ _ (fitsAll vs q b t) e
+        where
+          room : (i j k : ℕ) (x : Bool) → filed.Refused f ≡ cond x (filed.Values i j k) (filed.Refused (nowhere NoRoom))
+              → CallFault file good (λ g. ⊥) f
+          room i j k true e = let z : _≡_ {A = ℕ} 0 1 = cc in absurd (omega arith)
+          room i j k false e = let z : nowhere NoRoom ≡ f = cc in subst (CallFault file good (λ g. ⊥)) z (full (p, r))
+
+  -- where 16 is answered
+  is-full : call (checkedFile file) good (leb leastScratch w) ≡ filed.Refused (nowhere NoRoom) → FullCall file good w (fitsAll vs q b t ≡ false)
+  is-full = by (checkedFile file) refl good refl (leb leastScratch w) (leb-false leastScratch w)
+    where
+      room : (i j k : ℕ) (x : Bool) → cond x (filed.Values i j k) (filed.Refused (nowhere NoRoom)) ≡ filed.Refused (nowhere NoRoom) → x ≡ false
+      room i j k true e = let z : _≡_ {A = ℕ} 0 1 = cc in absurd (omega arith)
+      room i j k false e = refl
+
+      by : (c : Checked) → checkedFile file ≡ c → (x : Bool) → good ≡ x → (y : Bool) → (y ≡ false → w < leastScratch)
+          → call c x y ≡ filed.Refused (nowhere NoRoom) → FullCall file good w (fitsAll vs q b t ≡ false)
+      by (checked.Refused g) p x r y l e =
+          let z : g ≡ nowhere NoRoom = cc in
+          let n : numberOf (g .reason) ≡ 16 = ap (λ (f : Fault). numberOf (f .reason)) z in
+          absurd (omega (arith, n, call-refusals .file-own file g (call-refusals .file file g p)))
+      by checked.Passed p false r y l e =
+          let z : nowhere BadRows ≡ nowhere NoRoom = cc in
+          let n : _≡_ {A = ℕ} 17 16 = ap (λ (f : Fault). numberOf (f .reason)) z in absurd (omega (arith, n))
+      by checked.Passed p true r false l e = ((p, r), inl (l refl))
+      by checked.Passed p true r true l e = ((p, r), inr (room _ _ _ (fitsAll vs q b t) e))
+
+  -- and that it is answered then
+  then-full : FullCall file good w (fitsAll vs q b t ≡ false) → call (checkedFile file) good (leb leastScratch w) ≡ filed.Refused (nowhere NoRoom)
+  then-full ((p, r), inl h) = rw (p, r, lt-leb leastScratch w h) refl
+  then-full ((p, r), inr h) = rw (p, r) (by (leb leastScratch w))
+    where
+      by : (y : Bool) → call checked.Passed true y ≡ filed.Refused (nowhere NoRoom)
+      by true = rw h refl
+      by false = refl
+
+  call-full : (r : Filed) → r ≡ call (checkedFile file) good (leb leastScratch w)
+      → (r ≡ filed.Refused (nowhere NoRoom)) ↔ FullCall file good w (fitsAll vs q b t ≡ false)
+  call-full r e = (λ z. is-full (sym e ∙ z), λ h. e ∙ then-full h)
+
+-- ---- the values
+
+result-fault : (l : Lent) (i : ℕ) (fs : List ℕ) (rs : List Row) (f : Fault) → List·Memᴰ (refused f) (resultsFrom l i fs rs) → FieldFault l f
+unfolding resultsFrom
+result-fault l i fs [] f d = absurd (List·Memᴰ·not-nil d)
+result-fault l i fs (r ∷ rs) f d = by (isValueRow r) (result-fault l (suc i) (drop 1 fs) rs f) (result-fault l (suc i) fs rs f) d
+  where
+    by : (x : Bool) → (List·Memᴰ (refused f) (resultsFrom l (suc i) (drop 1 fs) rs) → FieldFault l f)
+        → (List·Memᴰ (refused f) (resultsFrom l (suc i) fs rs) → FieldFault l f)
+        → List·Memᴰ (refused f) (cond x (fieldOf l (flag fs) i ∷ resultsFrom l (suc i) (drop 1 fs) rs) (resultsFrom l (suc i) fs rs)) → FieldFault l f
+    by true g h (List·Memᴰ·head e) = value-refusals .value l (flag fs) i f (sym e)
+    by true g h (List·Memᴰ·tail d) = g d
+    by false g h d = h d
+
+pub refusals : Refusals
+refusals =
+    record {
+      file = λ file rows flags months words w h x q b t w′ h′ x′ q′ b′ t′ f r.
+          call-fault file (areFiled file rows flags months words) (length w) (results (lentOf file rows months words) flags) q b t f
+          (r .writes .answer);
+      file-full = λ file rows flags months words w h x q b t w′ h′ x′ q′ b′ t′ y r.
+          call-full file (areFiled file rows flags months words) (length w) (results (lentOf file rows months words) flags) q b t y
+          (r .writes .answer);
+      values = λ file rows flags months words w vs e f d.
+          let l = lentOf file rows months words in
+          result-fault l 0 flags (l .rows) f (subst (List·Memᴰ (refused f)) (sym (asked-of file rows flags months words w vs e .values-are)) d);
+    }

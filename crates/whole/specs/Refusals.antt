@@ -1,0 +1,33 @@
+-- Which refusals the call `resolve_file` can answer for itself and for each value [01:Numbers a caller can get], and their places. The proof is
+-- `refusals` of proofs/Refusals.antt.
+-- Assumes nothing.
+use Prim.Native.Nat.{ℕ}
+use mathlib.Core.Path.{_≡_}
+use mathlib.Core.Logic.{_↔_}
+use mathlib.Core.Bool.{false}
+use mathlib.Core.List.{List, List·Memᴰ}
+use lib.ListN.{length}
+use Rattle.row.specs.declared.fault.Fault.{Fault}
+use Rattle.row.specs.declared.fault.Reason.the-variants.{NoRoom}
+use Rattle.row.specs.Fault.{nowhere}
+use Rattle.resolve.specs.Resolves.{Value, refused}
+use Rattle.resolve.specs.Checks.{lentOf}
+use Rattle.resolve.specs.Refusals.{CallFault, FullCall}
+use Rattle.values.specs.Refusals.{FieldFault}
+use Rattle.whole.specs.declared.file.Filed.{Filed}
+use Rattle.whole.specs.declared.file.Filed.the-variants as filed
+use Rattle.whole.specs.WholeFile.{results, fitsAll, all, areFiled, allOf, ResolvesFile}
+
+pub record Refusals : Type 0 where
+  -- the call itself answers 1, 2, 17 and 16 alone: what its work meets is the answer of a value
+  pub file : (file rows flags months words w h x q b t w′ h′ x′ q′ b′ t′ : List ℕ) (f : Fault)
+      → ResolvesFile (allOf file rows flags months words (length w)) w h x q b t (filed.Refused f) w′ h′ x′ q′ b′ t′
+      → CallFault file (areFiled file rows flags months words) (λ g. ⊥) f
+  -- 16 exactly if the scratch is too small, or the answers need more than is lent
+  pub file-full : (file rows flags months words w h x q b t w′ h′ x′ q′ b′ t′ : List ℕ) (r : Filed)
+      → ResolvesFile (allOf file rows flags months words (length w)) w h x q b t r w′ h′ x′ q′ b′ t′
+      → (r ≡ filed.Refused (nowhere NoRoom))
+      ↔ FullCall file (areFiled file rows flags months words) (length w) (fitsAll (results (lentOf file rows months words) flags) q b t ≡ false)
+  -- a value that is refused is so as a value can be
+  pub values : (file rows flags months words : List ℕ) (w : ℕ) (vs : List Value) → allOf file rows flags months words w ≡ all vs
+      → (f : Fault) → List·Memᴰ (refused f) vs → FieldFault (lentOf file rows months words) f
