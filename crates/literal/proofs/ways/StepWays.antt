@@ -1,4 +1,9 @@
 -- The ways through the functions of src/content.rt that take one turn, and what a turn of text leaves.
+--     math-refused, math-again                  a dollar sign: the formula does not end, or is a chunk
+--     open-again, close-refused, close-again    a brace opens; a brace closes that none opened, or one that is open
+--     goes-puts, text-put                       text that is written leads from one state to the next
+--     ahead-further, ahead-cut                  the bounds of the state after text, and after a brace
+--     sign-as                                   what holds of a field that is not verbatim holds of this one, which is not
 -- Assumes nothing.
 use Prim.Native.Nat.{ℕ, zero, suc, _+_, _-_, _≤_, _<_}
 use native.Mathlib.Omega.{arith}

@@ -1,4 +1,7 @@
 -- A literal between two delimiters: the ways through `string_literal` and `braced`, whose three parts put no rows.
+--     opens-off, inside-off, closes                       the opening delimiter or the inside is refused; the closing one decides
+--     literal-within                                      a literal goes on by at least two bytes, one for each delimiter
+--     string-first-off, string-inside-off, string-rest    the same ways through `string`, which puts no row
 -- Assumes nothing.
 use Prim.Native.Nat.{ℕ, _+_, _≤_}
 use native.Mathlib.Omega.{arith}

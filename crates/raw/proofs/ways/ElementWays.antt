@@ -1,4 +1,8 @@
 -- The ways through the readers of a field's value: `single_field`, `abbr_element` and `abbr_turn`.
+--     single-braced, single-quoted, single-none    `single_field`: a brace, a quotation mark, or neither
+--     element-number, number-past                  `abbr_element` at a digit, and that the number goes past it
+--     element-name, element-field                  `abbr_element` at a name, and at what is none
+--     element-off, turn-last, turn-hash            `abbr_turn`: the element is refused, is the last, or is followed by a hash sign
 -- Assumes nothing.
 use Prim.Native.Nat.{ℕ, _≤_, _<_}
 use mathlib.Core.Path.{_≡_, refl, sym, ap, _∙_, subst}

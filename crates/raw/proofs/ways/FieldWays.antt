@@ -1,4 +1,10 @@
 -- The ways through `field`, `field_end` and `fields_turn`.
+--     name-off, equals-off, value-off, value-on    `field`: its name, its equals sign or its value is refused, or none of them
+--     value-within                                 the bounds of a field that is read to its end
+--     end-end, end-comma, end-brace, end-off       `field_end`: at the end of the text, a comma, a closing brace, another byte
+--     fields-eof, fields-brace                     `fields_turn` at the end of the text, and at the brace that closes the entry
+--     fields-other, fields-end                     where it reads a field: before another byte, or where the text has ended
+--     fields-off, fields-on                        and the field is refused, or read
 -- Assumes nothing.
 use Prim.Native.Nat.{ℕ, _+_, _*_, _≤_, _<_, max}
 use mathlib.Core.Path.{_≡_, sym, ap, _∙_}

@@ -1,4 +1,15 @@
 -- What `command`, `backslash` and `text_at` of src/turn.rt answer, in the form of their proofs; and which bytes end a text or a chunk.
+--     one-lays, bare-lays                               what `one` and `bare` write: a command with the next character, or without argument
+--     one-room, one-grows, ends-by                      the room that `one` has, and how far it goes; an argument that ends does so inside the text
+--     command-one, command-bare                         `command`, where it takes the character behind it, and where it has no argument
+--     brace-inside, brace-next                          `command`, where a brace opens its argument: the brace is in the text, right behind the name
+--     command-argument, command-endless                 and there an argument that ends, and one that does not
+--     ends-verb, ends-refused                           `backslash` at the end of the text, in a verbatim field and in another
+--     char-next, escapes, stands, behind                `backslash` before a character: its end; an escape; a verbatim field; a command
+--     begins-so                                         a character that is no white space and no control character may begin a name
+--     sign-tests, no-sign, sign-dollar, sign-closing    which sign a byte is
+--     no-sign-there, sign-inside, ordinary              a sign stands inside the text; a byte that is none is ordinary
+--     not-ends, ends-not, grows-some                    where text ends; where it has not, the next turn goes on
 -- Assumes nothing.
 use Prim.Native.Nat.{ℕ, zero, suc, _+_, _-_, _*_, _≤_, _<_, max}
 use native.Mathlib.Omega.{arith}

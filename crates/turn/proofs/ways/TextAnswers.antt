@@ -1,5 +1,10 @@
 -- What `other`, `back_blank` and `back_control` of src/turn.rt answer, in the form of their proofs: from the answers of the calls to `SaysText`
 -- and `Grows`.
+--     not-end, char-in               inside the text there is a character, which ends in it
+--     other-white, grows-white       `other` at white space, which is written as one blank
+--     other-char, grows-char         `other` at another character, which is copied
+--     back-blank, grows-blank        `back_blank`: a backslash before white space
+--     back-control, grows-control    `back_control`: a backslash before a control character
 -- Assumes nothing.
 use Prim.Native.Nat.{ℕ, _+_, _-_, _*_, _≤_, _<_}
 use native.Mathlib.Omega.{arith}
