@@ -1,6 +1,6 @@
 -- What the public contracts settle: any two outcomes that one allows are the same. Stated of each contract as the check reads it off the
 -- source, so that a contract which said less would fail here.
---     the same answer                                         `check_file`, `is_span`, `are_lent`, `is_value`
+--     the same answer                                         `check_file`, `is_span`, `are_lent`, `is_value`, `place`, `progress::answer`
 --     the same answer, scratch, chunk rows and text           `resolve_literal`
 -- Assumes nothing.
 use mathlib.Core.Path.{_≡_, sym, _∙_}

@@ -1,6 +1,6 @@
 -- Rows of chunks whose texts are UTF-8 pass the writers' check.
 --     texts-octets                the text of such chunks is UTF-8
---     flat-texts, flat-text       joining chunks keeps their texts UTF-8, and does not change the whole text
+--     flat-texts                  joining chunks keeps their texts UTF-8
 --     rows-pass                   each row has a text range that lies on character boundaries
 --     check-passes                the whole check passes
 -- Assumes nothing.
