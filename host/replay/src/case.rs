@@ -2,15 +2,18 @@
 
 use oracle::Refusal;
 
-/// A file, or a literal of a file: where it starts and ends, and whether its field is verbatim.
+/// A file, or a literal of a file.
 pub enum Case<'a> {
     File(&'a [u8]),
-    Literal {
-        file: &'a [u8],
-        start: u16,
-        end: u16,
-        is_verbatim: bool,
-    },
+    Literal(Literal<'a>),
+}
+
+/// A literal: its file, where it starts and ends there, and whether its field is verbatim.
+pub struct Literal<'a> {
+    pub file: &'a [u8],
+    pub start: u16,
+    pub end: u16,
+    pub is_verbatim: bool,
 }
 
 /// The numbers of rows, and their text.
@@ -35,44 +38,34 @@ impl List {
 
 impl Case<'_> {
     fn answer(&self) -> Result<Accepted, Refusal> {
-        match *self {
+        match self {
             Case::File(file) => oracle::read(file).map(|rows| Accepted {
                 numbers: (rows.iter())
                     .flat_map(|row| [row.kind, row.detail, row.start, row.end])
                     .collect(),
                 text: Vec::new(),
             }),
-            Case::Literal {
-                file,
-                start,
-                end,
-                is_verbatim,
-            } => {
-                let places = (start.into(), end.into());
-                oracle::resolve_literal(file, places, is_verbatim, oracle::LEAST_SCRATCH).map(
-                    |resolved| Accepted {
-                        numbers: resolved.rows,
-                        text: resolved.text,
-                    },
-                )
+            Case::Literal(l) => {
+                let places = (l.start.into(), l.end.into());
+                let scratch = oracle::LEAST_SCRATCH;
+                let answer = oracle::resolve_literal(l.file, places, l.is_verbatim, scratch);
+                answer.map(|resolved| Accepted {
+                    numbers: resolved.rows,
+                    text: resolved.text,
+                })
             }
         }
     }
 
     /// Writes the case and what the Rust answers. Gives the number.
     pub fn put(&self, bytes: &mut Vec<u8>) -> u32 {
-        match *self {
+        match self {
             Case::File(file) => put_file(bytes, 0, file),
-            Case::Literal {
-                file,
-                start,
-                end,
-                is_verbatim,
-            } => {
-                put_file(bytes, 1, file);
-                bytes.extend(start.to_be_bytes());
-                bytes.extend(end.to_be_bytes());
-                bytes.push(is_verbatim.into());
+            Case::Literal(l) => {
+                put_file(bytes, 1, l.file);
+                bytes.extend(l.start.to_be_bytes());
+                bytes.extend(l.end.to_be_bytes());
+                bytes.push(l.is_verbatim.into());
             }
         }
         put_answer(bytes, self.answer())
@@ -86,13 +79,13 @@ impl Case<'_> {
         let (case, answer) = match list.get(at)? {
             0 => (Case::File(file), to),
             _ => {
-                let literal = Case::Literal {
+                let literal = Literal {
                     file,
                     start: two(to)?,
                     end: two(to + 2)?,
                     is_verbatim: *list.get(to + 4)? != 0,
                 };
-                (literal, to + 5)
+                (Case::Literal(literal), to + 5)
             }
         };
         let length = match list.get(answer)? {

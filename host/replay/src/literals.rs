@@ -5,7 +5,7 @@ use std::collections::HashSet;
 use cases::literals::{break_literal, Literals, ACCENTS, COMMANDS, TAILS, TOKENS};
 use cases::Random;
 
-use crate::case::{Case, List};
+use crate::case::{Case, List, Literal};
 
 const SEED: u64 = 3;
 
@@ -64,12 +64,12 @@ impl Chosen<'_> {
     }
 
     fn put(&mut self, file: &[u8], start: u16, end: u16, is_verbatim: bool) {
-        self.list.add(&Case::Literal {
+        self.list.add(&Case::Literal(Literal {
             file,
             start,
             end,
             is_verbatim,
-        });
+        }));
     }
 
     /// Every command bare, with an argument, and with a letter more; and all that may stand behind a
