@@ -36,6 +36,12 @@ fn field(s: &[u8], base: usize, at: usize, rows: &mut [u32], n: usize, kind: Kin
     let Answer::Next { at: p5, n: n5 } = r5 else {
         return r5;
     };
+    // Mostly a comma stands right behind the value.
+    if p5 < s.len() {
+        if s[p5] == 0x2c {
+            return Answer::Next { at: p5, n: n5 };
+        }
+    }
     // A comment may stand before the closing brace: `year={2025}  % so`.
     let p6 = scanner::eat_whitespace(s, p5);
     let p7 = token::comment(s, p6);
@@ -47,6 +53,13 @@ fn field_end(s: &[u8], at: usize, n: usize) -> Turn
     ensures says { λ r. ⌜ ((base : ℕ) (b : List ℕ) → SaysTurn base (fieldEnd (now (s .entry)) at) n b r b) ⌝ }
     ensures within { λ r. ⌜ WithinTurn (length (now (s .entry))) 1 0 at n r ⌝ }
 {
+    if at < s.len() {
+        if s[at] == 0x2c {
+            let p2 = scanner::eat_whitespace(s, at + 1);
+            let p3 = token::comment(s, p2);
+            return Turn::Again { at: p3, n };
+        }
+    }
     let p1 = scanner::eat_whitespace(s, at);
     if p1 < s.len() {
         let b = s[p1];

@@ -86,7 +86,7 @@ pub fn string(s: &[u8], at: usize) -> Step
     let Step::At(p1) = r1 else {
         return r1;
     };
-    let r2 = quoted(s, p1);
+    let r2 = quoted_end(s, p1);
     let Step::At(p2) = r2 else {
         return r2;
     };
@@ -271,7 +271,7 @@ fn abbr_element(s: &[u8], base: usize, at: usize, rows: &mut [u32], n: usize) ->
     bare_element(s, base, at, rows, n)
 }
 
-// Eat an element, and a number sign after it if another follows.
+// Eat an element, and a number sign after it if another follows. Mostly a comma or a number sign stands right behind it.
 fn abbr_turn(s: &[u8], base: usize, at: usize, rows: &mut [u32], n: usize) -> Turn
     requires { ⌜ Ready base (length (now s)) at n ⌝ }
     ensures says { λ r. ⌜ SaysTurn base (abbrTurn 0 (now (s .entry)) at) n (now (rows .entry)) r (now (rows .exit)) ⌝ }
@@ -283,6 +283,16 @@ fn abbr_turn(s: &[u8], base: usize, at: usize, rows: &mut [u32], n: usize) -> Tu
             return Turn::Refused(f);
         }
         Answer::Next { at: p1, n: n1 } => {
+            if p1 < s.len() {
+                let b = s[p1];
+                if b == 0x2c {
+                    return Turn::Done { at: p1, n: n1 };
+                }
+                if b == 0x23 {
+                    let next = scanner::eat_whitespace(s, p1 + 1);
+                    return Turn::Again { at: next, n: n1 };
+                }
+            }
             let p2 = scanner::eat_whitespace(s, p1);
             let p3 = scanner::eat_byte(s, p2, 0x23);
             if p3 == p2 {

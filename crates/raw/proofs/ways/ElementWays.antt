@@ -3,8 +3,9 @@
 --     element-number, number-past                  `abbr_element` at a digit, and that the number goes past it
 --     element-name, element-field                  `abbr_element` at a name, and at what is none
 --     element-off, turn-last, turn-hash            `abbr_turn`: the element is refused, is the last, or is followed by a hash sign
+--     turn-comma, turn-joined                      a comma or a hash sign stands right behind the element
 -- Assumes nothing.
-use Prim.Native.Nat.{ℕ, _≤_, _<_}
+use Prim.Native.Nat.{ℕ, _+_, _≤_, _<_}
 use mathlib.Core.Path.{_≡_, refl, sym, ap, _∙_, subst}
 use mathlib.Core.Bool.{Bool, true, false}
 use mathlib.Core.List.{List, []}
@@ -12,7 +13,7 @@ use native.Mathlib.Omega.{arith}
 use lib.ListN.{length, getD}
 use lib.Dec.{ltb}
 use borrow.Author.Tests.{eq-eqb, ne-eqb, ltb-true, ltb-false}
-use Rattle.text.specs.Class.{isWhitespace, isIdStart, holdsOf}
+use Rattle.text.specs.Class.{isWhitespace, whiteSpace, isIdStart, holdsOf}
 use Rattle.text.specs.Scan.{see, skip, pastOne}
 use Rattle.text.specs.declared.class.Test.the-variants as test
 use Rattle.row.specs.declared.form.Kind.the-variants as kind
@@ -32,7 +33,7 @@ use Rattle.raw.proofs.grammar.Readers.{from-start, number-turn-kept, nu
 use Rattle.raw.proofs.readers.Then.{more-none, then-on, then-off}
 use Rattle.raw.proofs.ways.OneCharacter.{eaten-off, eaten-on, byte-end, byte-on, byte-off}
 use Rattle.text.proofs.general.Tests.{narrow-is}
-use Rattle.raw.proofs.ways.TokenWays.{white-on}
+use Rattle.raw.proofs.ways.TokenWays.{white-on, past-byte, no-white}
 use Rattle.raw.proofs.contracts.SaysLaws.{turn-of, turn-done, turn-again, turn-then, said-off}
 
 -- ---- `single_field`, by the byte
@@ -120,3 +121,14 @@ module _ (s : List ℕ) (i : ℕ) {base n : ℕ} {b b′ : List ℕ} where
     unfolding abbrTurn
     turn-hash k v =
         turn-then _ h (turn-of (then-on _ (white-on s p w) ∙ eaten-on (holdsOf test.Hash) s p₂ ((white then turn 0) s) (ok p₂ []) e k) (turn-again (then-on _ (white-on s p₃ v))))
+
+  module _ {p m : ℕ} (h : Says base (abbrElement s i) n b (answer.Next p m) b′) (l : p < length s) where
+    pub turn-comma : getD s p 0 ≡ 0x2C → SaysTurn base (abbrTurn 0 s i) n b (turned.Done p m) b′
+    unfolding isWhitespace holdsOf whiteSpace
+    turn-comma e =
+        turn-last h (no-white s p 0x2C l e (omega arith) refl) (past-byte s p 0x2C l e (omega arith) (holdsOf test.Hash)) refl
+
+    pub turn-joined : {q : ℕ} → getD s p 0 ≡ 0x23 → q ≡ skip isWhitespace s (p + 1) → SaysTurn base (abbrTurn 0 s i) n b (turned.Again q m) b′
+    unfolding isWhitespace holdsOf whiteSpace
+    turn-joined e v =
+        turn-hash h (no-white s p 0x23 l e (omega arith) refl) (past-byte s p 0x23 l e (omega arith) (holdsOf test.Hash)) (λ z. omega arith) v

@@ -1,18 +1,20 @@
 -- The ways through `field`, `field_end` and `fields_turn`.
 --     name-off, equals-off, value-off, value-on    `field`: its name, its equals sign or its value is refused, or none of them
---     value-within                                 the bounds of a field that is read to its end
+--     value-comma                                  a comma stands right behind its value
+--     comma-within, value-within                   the bounds of a field that is read up to that comma, and of one that is read to its end
 --     end-end, end-comma, end-brace, end-off       `field_end`: at the end of the text, a comma, a closing brace, another byte
+--     end-here                                     a comma stands right behind the field
 --     fields-eof, fields-brace                     `fields_turn` at the end of the text, and at the brace that closes the entry
 --     fields-other, fields-end                     where it reads a field: before another byte, or where the text has ended
 --     fields-off, fields-on                        and the field is refused, or read
 -- Assumes nothing.
 use Prim.Native.Nat.{ℕ, _+_, _*_, _≤_, _<_, max}
-use mathlib.Core.Path.{_≡_, sym, ap, _∙_}
+use mathlib.Core.Path.{_≡_, refl, sym, ap, _∙_}
 use mathlib.Core.List.{List, []}
 use native.Mathlib.Omega.{arith}
 use lib.ListN.{length, getD}
 use borrow.Author.Tests.{eq-eqb, ne-eqb}
-use Rattle.text.specs.Class.{isWhitespace, holdsOf}
+use Rattle.text.specs.Class.{isWhitespace, whiteSpace, holdsOf}
 use Rattle.text.specs.Scan.{see, skip, Ahead}
 use Rattle.text.proofs.Seeing.{seeing}
 use Rattle.row.specs.declared.form.Kind.{Kind}
@@ -33,7 +35,7 @@ use Rattle.raw.proofs.grammar.Rowless.{rowless-at, rowless-off, ident-r
 use Rattle.raw.proofs.readers.Then.{then-on, then-off}
 use Rattle.raw.proofs.ways.OneCharacter.{byte-end, byte-on, byte-off}
 use Rattle.text.proofs.general.Tests.{narrow-is}
-use Rattle.raw.proofs.ways.TokenWays.{white-on, comment-on}
+use Rattle.raw.proofs.ways.TokenWays.{white-on, comment-on, no-white, no-comment}
 use Rattle.raw.proofs.contracts.SaysLaws.{says-of, says-at, says-on, says-off, says-then, says-mark, said-off, turn-of, turn-then, turn-off}
 
 -- ---- `field`
@@ -63,7 +65,17 @@ module _ (k : Kind) (s : List ℕ) (i : ℕ) {r₁ : Step} (e₁ : r₁ ≡ step
           Says base (field k s i) n b (answer.Next p₇ m) b′
       value-on {p₅} {p₆ = p₆} e w₆ e₇ = to-value (says-then _ (says-at e h) (says-of (then-on _ (white-on s p₅ w₆)) (says-on (comment-on s p₆ e₇))))
 
--- the bounds of a field that is read to its end
+      pub value-comma : {p₅ m : ℕ} → r ≡ answer.Next p₅ m → p₅ < length s → getD s p₅ 0 ≡ 0x2C → Says base (field k s i) n b (answer.Next p₅ m) b′
+      unfolding isWhitespace holdsOf whiteSpace
+      value-comma {p₅} e l c =
+          value-on e (no-white s p₅ 0x2C l c (omega arith) refl) (no-comment s p₅ 0x2C l c (omega arith) refl)
+
+-- the bounds of a field that is read up to the comma behind its value, and of one that is read to its end
+pub comma-within : {s : List ℕ} (i n m : ℕ) {p₁ p₂ p₃ p₄ p₅ : ℕ} → (i + 1 ≤ p₁) × (p₁ ≤ length s) → Ahead s p₁ p₂ →
+    (p₂ + 1 ≤ p₃) × (p₃ ≤ length s) → Ahead s p₃ p₄ → (p₄ + 1 ≤ p₅) × (p₅ ≤ length s) × (m + 8 * p₄ ≤ n + 1 + 1 + 8 * p₅) →
+    Within (length s) 3 i n (answer.Next p₅ m)
+comma-within i n m a b c d e = (omega arith, omega arith, omega arith)
+
 pub value-within : {s : List ℕ} (i n m : ℕ) {p₁ p₂ p₃ p₄ p₅ p₆ p₇ : ℕ} → (i + 1 ≤ p₁) × (p₁ ≤ length s) → Ahead s p₁ p₂ →
     (p₂ + 1 ≤ p₃) × (p₃ ≤ length s) → Ahead s p₃ p₄ → (p₄ + 1 ≤ p₅) × (p₅ ≤ length s) × (m + 8 * p₄ ≤ n + 1 + 1 + 8 * p₅) → Ahead s p₅ p₆ →
     p₆ ≤ p₇ → p₇ ≤ max p₆ (length s) → Within (length s) 3 i n (answer.Next p₇ m)
@@ -107,6 +119,11 @@ module _ (s : List ℕ) (i : ℕ) {p : ℕ} (w : p ≡ skip isWhitespace s i) wh
 
       pub end-off : (getD s p 0 ≡ 0x7D → ⊥) → fieldEnd s i ≡ bad (faultAt ExpectedComma p)
       end-off e = no-comma ∙ byte-off (is 0x7D) s p (λ n. ok p []) (bad (faultAt ExpectedComma p)) (narrow-is 0x7D (omega arith)) h (ne-eqb _ _ e)
+
+pub end-here : (s : List ℕ) (i : ℕ) → i < length s → getD s i 0 ≡ 0x2C → {p₂ p₃ : ℕ} → p₂ ≡ skip isWhitespace s (i + 1) →
+    step.At p₃ ≡ stepOf (comment s p₂) → fieldEnd s i ≡ again p₃ [] 0
+unfolding isWhitespace whiteSpace
+end-here s i h e v d = end-comma s i (no-white s i 0x2C h e (omega arith) refl) h e v d
 
 -- ---- `fields_turn`
 

@@ -2,10 +2,11 @@
 --     scan-on, white-on, comment-on, key-on       scans, white space, a comment and a key, which never refuse
 --     key-told, comment-off, comment-line, ident-off, ident-line, ident-letters       the ways through `key`, `comment`, `ident` and `name`
 --     equals-ends, brace-ends                     what `name` asks of the byte that ends it
+--     past-byte, no-white, no-comment             at a byte of ASCII: a test of one character; no white space goes on, no comment begins
 -- Assumes nothing.
 use Prim.Native.Nat.{ℕ, _+_, _≤_, _<_, max}
-use mathlib.Core.Path.{_≡_, refl, sym, ap, _∙_}
-use mathlib.Core.Bool.{Bool, true, false, _||_}
+use mathlib.Core.Path.{_≡_, refl, sym, ap, _∙_, subst}
+use mathlib.Core.Bool.{Bool, true, false, cond, _||_}
 use mathlib.Core.List.{List, []}
 use native.Mathlib.Omega.{arith}
 use lib.ListN.{length, getD}
@@ -90,3 +91,17 @@ equals-ends = (omega arith, refl)
 pub brace-ends : (0x7B < 128) × (isIdContinue 0x7B ≡ false)
 unfolding isIdContinue
 brace-ends = (omega arith, refl)
+
+-- ---- at a byte of ASCII that is known
+
+module _ (s : List ℕ) (i x : ℕ) (h : i < length s) (e : getD s i 0 ≡ x) (l : x < 0x80) where
+  pub past-byte : (t : ℕ → Bool) → cond (t x) (i + 1) i ≡ pastOne t i (see s i)
+  past-byte t = sym (ap (pastOne t i) (seeing .at-byte s i x h e l))
+
+  pub no-white : isWhitespace x ≡ false → i ≡ skip isWhitespace s i
+  no-white w =
+      let c = seeing .char-parts s i x (i + 1) (seeing .at-byte s i x h e l) in
+      sym (seeing .skip-stop isWhitespace s i h (subst (λ (y : ℕ). isWhitespace y ≡ false) (c .1) w))
+
+  pub no-comment : holdsOf test.Percent x ≡ false → step.At i ≡ stepOf (comment s i)
+  no-comment w = comment-off s i (sym (ap (λ (b : Bool). cond b (i + 1) i) w) ∙ past-byte (holdsOf test.Percent)) refl .0

@@ -6,7 +6,7 @@ use borrow.Author.Needs.{needs}
 use Rattle.raw.proofs.contracts.Bounds.{ahead-place, file-place, step-place, answer-place, off-step, off-within}
 use Rattle.raw.proofs.contracts.BoundsAfter.{ready-later}
 use Rattle.raw.proofs.ways.TokenWays.{equals-ends}
-use Rattle.raw.proofs.ways.FieldWays.{name-off, equals-off, value-off, value-on, value-within}
+use Rattle.raw.proofs.ways.FieldWays.{name-off, equals-off, value-off, value-on, value-comma, comma-within, value-within}
 use Rattle.raw.proofs.field.field.Statement.{statement}
 use Rattle.raw.proofs.field.field.Tie as tie
 
@@ -76,8 +76,33 @@ returns-3 c =
 
 returns-4 : tie.Need-returns-4
 returns-4 c =
+    let inside = c .before .before in
+    let r5 = inside .before .before in
+    let abbr-field = r5 .before .before .before .before in
+    let put-row = abbr-field .before .before .before .before in
+    let eat-whitespace2 = put-row .before .before in
+    let r3 = eat-whitespace2 .before .before in
+    let equals = r3 .before .before in
+    let eat-whitespace = equals .before in
+    let r1 = eat-whitespace .before .before in
+    let name = r1 .before .before in
+    let asked = name .before .before .before in
+    let a = asked .args in
+    let len = length (a .s .now) in
+    let k = step-place len 1 (a .at) (r1 .r1 .given .1) (name .name .ensures .1) (asked .pre .place) in
+    let l = step-place len 1 _ (r3 .r3 .given .1) (equals .equals .ensures .1) (ahead-place (k .1) (eat-whitespace .eat-whitespace .ensures .1)) in
+    let m = answer-place len 1 _ (a .n + 1 + 1) (r5 .r5 .given .1) (abbr-field .abbr-field .ensures .1)
+    (ahead-place (l .1) (eat-whitespace2 .eat-whitespace2 .ensures .1)) in (
+      value-comma (a .kind) (a .s .now) (a .at) (name .name .ensures .0) (r1 .r1 .given .1) (eat-whitespace .eat-whitespace .ensures .0)
+          (equals .equals .ensures .0) (r3 .r3 .given .1) (eat-whitespace2 .eat-whitespace2 .ensures .0) (put-row .put-row .ensures)
+          (abbr-field .abbr-field .ensures .0) (r5 .r5 .given .1) (inside .if1 .taken) (c .if2 .taken),
+      comma-within (a .at) (a .n) _ k (eat-whitespace .eat-whitespace .ensures .1) l (eat-whitespace2 .eat-whitespace2 .ensures .1) m,
+    )
+
+returns-5 : tie.Need-returns-5
+returns-5 c =
     let eat-whitespace3 = c .before in
-    let r5 = eat-whitespace3 .before .before in
+    let r5 = eat-whitespace3 .before .before .before in
     let abbr-field = r5 .before .before .before .before in
     let put-row = abbr-field .before .before .before .before in
     let eat-whitespace2 = put-row .before .before in
@@ -123,7 +148,10 @@ field-spec =
     (λ c. search needs)
     (λ c. search needs)
     returns-3
+    (λ c. search needs)
+    (λ c. search needs)
+    returns-4
     (λ c κs. search needs)
     (λ c κs. search needs)
     (λ c. search needs)
-    returns-4)
+    returns-5)

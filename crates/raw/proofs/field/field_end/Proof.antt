@@ -2,7 +2,7 @@
 use native.Mathlib.Omega.{arith}
 use borrow.Author.Needs.{needs}
 use Rattle.raw.proofs.contracts.SaysLaws.{turn-done, turn-again, turn-off}
-use Rattle.raw.proofs.ways.FieldWays.{end-end, end-comma, end-brace, end-off}
+use Rattle.raw.proofs.ways.FieldWays.{end-end, end-here, end-comma, end-brace, end-off}
 use Rattle.raw.proofs.field.field_end.Statement.{statement}
 use Rattle.raw.proofs.field.field_end.Tie as tie
 
@@ -10,50 +10,65 @@ returns : tie.Need-returns
 returns c =
     let if2 = c .before .before in
     let if1 = if2 .before .before in
-    let eat-whitespace = if1 .before in
-    let asked = eat-whitespace .before .before in
-    let a = asked .args in
-    let eat-whitespace2 = c .before .eat-whitespace2 in (
-      λ base b. turn-again
-          (end-comma (a .s .now) (a .at) (eat-whitespace .eat-whitespace .ensures .0) (if1 .if1 .taken) (if2 .if2 .taken) (eat-whitespace2 .ensures .0) (c .comment .ensures .0)),
+    let a = if1 .before .before .args in
+    let eat-whitespace = c .before .eat-whitespace in (
+      λ base b. turn-again (end-here (a .s .now) (a .at) (if1 .if1 .taken) (if2 .if2 .taken) (eat-whitespace .ensures .0) (c .comment .ensures .0)),
       (omega arith, omega arith, omega arith),
     )
 
 returns-2 : tie.Need-returns-2
 returns-2 c =
-    let if1 = c .before .before .before in
-    let eat-whitespace = if1 .before in
-    let asked = eat-whitespace .before .before in
+    let if4 = c .before .before in
+    let if3 = if4 .before .before in
+    let eat-whitespace2 = if3 .before in
+    let asked = eat-whitespace2 .before .before .before in
     let a = asked .args in
-    let if2 = c .before .if2 in (
-      λ base b. turn-done (end-brace (a .s .now) (a .at) (eat-whitespace .eat-whitespace .ensures .0) (if1 .if1 .taken) (if2 .left) (c .if3 .taken)),
+    let eat-whitespace3 = c .before .eat-whitespace3 in (
+      λ base b. turn-again
+          (end-comma (a .s .now) (a .at) (eat-whitespace2 .eat-whitespace2 .ensures .0) (if3 .if3 .taken) (if4 .if4 .taken) (eat-whitespace3 .ensures .0) (c .comment2 .ensures .0)),
       (omega arith, omega arith, omega arith),
     )
 
 returns-3 : tie.Need-returns-3
 returns-3 c =
-    let if2 = c .before in
-    let if1 = if2 .before .before in
-    let eat-whitespace = if1 .before in
-    let asked = eat-whitespace .before .before in
+    let if3 = c .before .before .before in
+    let eat-whitespace2 = if3 .before in
+    let asked = eat-whitespace2 .before .before .before in
     let a = asked .args in
-    (λ base b. turn-off (end-off (a .s .now) (a .at) (eat-whitespace .eat-whitespace .ensures .0) (if1 .if1 .taken) (if2 .if2 .left) (c .if3 .left)), tt)
+    let if4 = c .before .if4 in (
+      λ base b. turn-done (end-brace (a .s .now) (a .at) (eat-whitespace2 .eat-whitespace2 .ensures .0) (if3 .if3 .taken) (if4 .left) (c .if5 .taken)),
+      (omega arith, omega arith, omega arith),
+    )
 
 returns-4 : tie.Need-returns-4
 returns-4 c =
-    let a = c .before .before .before .args in
-    (λ base b. turn-off (end-end (a .s .now) (a .at) (c .before .eat-whitespace .ensures .0) (c .if1 .left)), tt)
+    let if4 = c .before in
+    let if3 = if4 .before .before in
+    let eat-whitespace2 = if3 .before in
+    let asked = eat-whitespace2 .before .before .before in
+    let a = asked .args in
+    (λ base b. turn-off (end-off (a .s .now) (a .at) (eat-whitespace2 .eat-whitespace2 .ensures .0) (if3 .if3 .taken) (if4 .if4 .left) (c .if5 .left)), tt)
+
+returns-5 : tie.Need-returns-5
+returns-5 c =
+    let a = c .before .before .before .before .args in
+    (λ base b. turn-off (end-end (a .s .now) (a .at) (c .before .eat-whitespace2 .ensures .0) (c .if3 .left)), tt)
 
 pub field-end-spec : {M : Type 1} → statement M
 field-end-spec =
     tie.close
     (tie.spec
-    (λ c κs. search needs)
     (λ c. search needs)
     (λ c. search needs)
     (λ c κs. search needs)
     (λ c κs. search needs)
     returns
+    (λ c κs. search needs)
+    (λ c. search needs)
+    (λ c. search needs)
+    (λ c κs. search needs)
+    (λ c κs. search needs)
     returns-2
     returns-3
-    returns-4)
+    returns-4
+    returns-5)
