@@ -7,6 +7,7 @@ use crate::token;
 use reader;
 use row::fault::Fault;
 use row::fault::Reason;
+use row::form;
 use row::limits::MOST_BYTES;
 use text::scanner;
 use text::utf8;
@@ -91,19 +92,13 @@ pub fn parse_bytes(s: &[u8], base: usize, rows: &mut [u32]) -> Answer
     }
 }
 
-// Reads a file strictly: the number of its rows, which then stand in the lent numbers, or the refusal, which leaves them as they were.
-pub fn read(s: &[u8], rows: &mut [u32]) -> Reading
+// Reads a file of 01's length over the room `few` first, past whose end rows are only counted. If all rows are there they are copied from there;
+// else the file is read again.
+fn read_over(s: &[u8], few: &mut [u32], rows: &mut [u32]) -> Reading
+    requires { ⌜ length (now s) ≤ mostBytes ⌝ }
     ensures { λ r. ⌜ Read (now (s .entry)) (now (rows .entry)) r (now (rows .exit)) ⌝ }
 {
-    if MOST_BYTES < s.len() {
-        return Reading::Refused(Fault {
-            reason: Reason::TooLong,
-            start: 0,
-            end: 0,
-        });
-    }
-    let mut none = [0u32; 0];
-    match parse_bytes(s, 0, &mut none) {
+    match parse_bytes(s, 0, few) {
         Answer::Refused(f) => {
             return Reading::Refused(f);
         }
@@ -115,8 +110,32 @@ pub fn read(s: &[u8], rows: &mut [u32]) -> Reading
                     end: 0,
                 });
             }
+            if n <= few.len() / 4 {
+                form::copy_numbers(few, n * 4, rows);
+                return Reading::Rows(n);
+            }
             parse(s, 0, rows, 0);
             return Reading::Rows(n);
         }
     }
+}
+
+// Reads a file strictly: the number of its rows, which then stand in the lent numbers, or the refusal, which leaves them as they were. A file of a
+// few pages has a room of its own, so that it is read once; it would not pay for a file of a few lines, and a long one has more rows.
+pub fn read(s: &[u8], rows: &mut [u32]) -> Reading
+    ensures { λ r. ⌜ Read (now (s .entry)) (now (rows .entry)) r (now (rows .exit)) ⌝ }
+{
+    if MOST_BYTES < s.len() {
+        return Reading::Refused(Fault {
+            reason: Reason::TooLong,
+            start: 0,
+            end: 0,
+        });
+    }
+    if (256 < s.len()) & (s.len() < 65_536) {
+        let mut few = [0u32; 8_000];
+        return read_over(s, &mut few, rows);
+    }
+    let mut none = [0u32; 0];
+    read_over(s, &mut none, rows)
 }

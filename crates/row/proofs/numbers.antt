@@ -6,3 +6,5 @@ pub mod Overlay
 pub mod Flat
 -- spans that lie in a file: of rows put together, and of rows moved on
 pub mod Spans
+-- numbers copied over others
+pub mod Copied

@@ -1,6 +1,8 @@
 // The row form: kind, detail, start, end, four numbers to a row in lent numbers.
 ghost use mathlib.Core.Path.{_≡_};
+ghost use mathlib.Core.List.{_++_};
 ghost use Prim.Native.Nat.{_+_, _≤_};
+ghost use lib.ListN.{length, take, drop};
 ghost use Rattle.row.specs.Limits.{mostBytes};
 ghost use Rattle.row.specs.Row.{kindOf, rowOf, rowWith, row, putRow};
 
@@ -73,4 +75,16 @@ pub fn put_row(rows: &mut [u32], n: usize, kind: Kind, base: usize, start: usize
     ensures { λ _. ⌜ now (rows .exit) ≡ putRow (now (rows .entry)) n (row kind (base + start) (base + end)) ⌝ }
 {
     write_row(rows, n, kind, 0, base + start, base + end)
+}
+
+// Copies the first n numbers.
+pub fn copy_numbers(from: &[u32], n: usize, out: &mut [u32])
+    requires { ⌜ (n ≤ length (now from)) × (n ≤ length (now out)) ⌝ }
+    ensures { λ _. ⌜ now (out .exit) ≡ take n (now (from .entry)) ++ drop n (now (out .entry)) ⌝ }
+{
+    let mut i = 0;
+    while i < n {
+        out[i] = from[i];
+        i += 1;
+    }
 }

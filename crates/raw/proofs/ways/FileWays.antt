@@ -2,14 +2,16 @@
 --     file-end, file-entry, file-comment, file-other     a turn of the file, by the byte it stands at
 --     comment-further                                    a comment goes past its percent sign
 --     bytes-ill, bytes-valid                             the answers of `parse_bytes`
---     read-long, read-off, read-full, read-fits          the answers of `read`
+--     read-long                                          `read`: the file is too long
+--     read-off, read-full, read-copied, read-fits        the answers of `read_over`
 -- Assumes nothing.
-use Prim.Native.Nat.{ℕ, _+_, _/_, _≤_, _<_}
+use Prim.Native.Nat.{ℕ, _+_, _*_, _/_, _≤_, _<_}
 use native.Mathlib.Omega.{arith}
 use mathlib.Core.Path.{_≡_, refl, sym, ap, _∙_, subst}
 use mathlib.Core.Bool.{false}
-use mathlib.Core.List.{List, []}
-use lib.ListN.{length, getD}
+use mathlib.Core.List.{List, [], _++_}
+use lib.ListN.{length, getD, take, drop}
+use lib.Seq.{take-at}
 use lib.Dec.{leb}
 use borrow.Author.Tests.{ne-eqb, le-leb, lt-leb}
 use Rattle.text.specs.Class.{isWhitespace, holdsOf}
@@ -26,7 +28,7 @@ use Rattle.raw.specs.declared.answer.Step.the-variants as step
 use Rattle.raw.specs.declared.answer.Answer.{Answer}
 use Rattle.raw.specs.declared.answer.Answer.the-variants as answer
 use Rattle.raw.specs.declared.answer.Reading.the-variants as reading
-use Rattle.row.specs.Row.{Row, moved, overlay}
+use Rattle.row.specs.Row.{Row, moved, flat, overlay}
 use Rattle.raw.specs.Reader.{Out, ok, again, bad, andThen}
 use Rattle.raw.specs.Grammar.{is, comment, entry, fileTurn, file}
 use Rattle.raw.specs.Says.{stepOf, answerOf, RowsLaid, Says}
@@ -85,7 +87,7 @@ module _ (s : List ℕ) (base : ℕ) (b : List ℕ) (h : base + length s ≤ mos
   pub bytes-valid : v ≡ validity.Valid → {r : Answer} {b′ : List ℕ} → Says base (file s 0) 0 b r b′ → Says base (strict s) 0 b r b′
   bytes-valid e {r} {b′} p = subst (λ (o : Out). Says base o 0 b r b′) (sym (strict-valid s (omega arith) (sym d ∙ e))) p
 
--- ---- `read`
+-- ---- `read` and `read_over`
 
 full-rows : (b : List ℕ) {q n : ℕ} (p : ℕ) (rs : List Row) → answer.Next q n ≡ answer.Next p (0 + length rs) → length b / 4 < n →
     leb (length rs) (length b / 4) ≡ false
@@ -111,12 +113,28 @@ fits (ok p rs) b {b′} q n e l r = fits-rows b b′ p rs e l r
 fits (again p rs a) b {b′} q n e l r = fits-rows b b′ p rs e l r
 fits (bad f) b q n e l r = let z : _≡_ {A = ℕ} 0 1 = cc in absurd (omega arith)
 
+copied-rows : (y y′ b b′ : List ℕ) {q n : ℕ} (p : ℕ) (rs : List Row) → answer.Next q n ≡ answer.Next p (0 + length rs) → n ≤ length b / 4 →
+    n ≤ length y / 4 → y′ ≡ overlay y 0 (moved 0 rs) → b′ ≡ take (n * 4) y′ ++ drop (n * 4) b →
+    (reading.Rows n ≡ readingOut (ok p rs) (length b)) × (b′ ≡ leftOut (ok p rs) b)
+copied-rows y y′ b b′ {n = n} p rs e l m r c =
+    let k : n ≡ length rs = let z : n ≡ 0 + length rs = cc in omega arith in
+    let t = le-leb (length rs) (length b / 4) (omega arith) in
+    let f : y′ ≡ flat rs ++ drop (length rs * 4) y = r ∙ ap (overlay y 0) (laid .moved-none rs) ∙ laid .overlay-fits rs y (omega arith) in
+    let g : take (n * 4) y′ ≡ flat rs = ap (take (n * 4)) f ∙ take-at (flat rs) (drop (length rs * 4) y) (n * 4) (laid .flat-length rs ∙ ap (λ (x : ℕ). x * 4) (sym k)) in
+    (rw t (ap reading.Rows k), rw t (c ∙ ap (λ (x : List ℕ). x ++ drop (n * 4) b) g ∙ ap (λ (x : ℕ). flat rs ++ drop (x * 4) b) k))
+
+copied : (o : Out) (y y′ b : List ℕ) {b′ : List ℕ} (q n : ℕ) → answer.Next q n ≡ answerOf o 0 → n ≤ length b / 4 → n ≤ length y / 4 →
+    RowsLaid 0 o 0 y y′ → b′ ≡ take (n * 4) y′ ++ drop (n * 4) b → (reading.Rows n ≡ readingOut o (length b)) × (b′ ≡ leftOut o b)
+copied (ok p rs) y y′ b {b′} q n e l m r c = copied-rows y y′ b b′ p rs e l m r c
+copied (again p rs a) y y′ b {b′} q n e l m r c = copied-rows y y′ b b′ p rs e l m r c
+copied (bad f) y y′ b q n e l m r c = let z : _≡_ {A = ℕ} 0 1 = cc in absurd (omega arith)
+
 pub read-long : (s b : List ℕ) → mostBytes < length s → Read s b (reading.Refused (nowhere TooLong)) b
 unfolding strict
 read-long s b h = let t = lt-leb (length s) mostBytes h in record { answer = rw t; rows = rw t }
 
 module _ (s b : List ℕ) {y y′ : List ℕ} {r : Answer} (w : Says 0 (strict s) 0 y r y′) where
-  -- by the first reading, which only counted the rows
+  -- by the first reading, which counted the rows
   pub read-off : {f : Fault} → r ≡ answer.Refused f → Read s b (reading.Refused f) b
   read-off z =
       let t = sym (said-off (says-at z w)) in
@@ -125,6 +143,10 @@ module _ (s b : List ℕ) {y y′ : List ℕ} {r : Answer} (w : Says 0 (strict s
   module _ {p n : ℕ} (z : r ≡ answer.Next p n) where
     pub read-full : length b / 4 < n → Read s b (reading.Refused (nowhere NoRoom)) b
     read-full l = let k = full (strict s) b p n (sym z ∙ w .told) l in record { answer = k .0; rows = k .1 }
+
+    -- the rows were read into the numbers y, and are copied from there
+    pub read-copied : {b′ : List ℕ} → n ≤ length b / 4 → n ≤ length y / 4 → b′ ≡ take (n * 4) y′ ++ drop (n * 4) b → Read s b (reading.Rows n) b′
+    read-copied l m e = let k = copied (strict s) y y′ b p n (sym z ∙ w .told) l m (w .rows) e in record { answer = k .0; rows = k .1 }
 
     pub read-fits : {x : Answer} {b′ : List ℕ} → n ≤ length b / 4 → Says 0 (file s 0) 0 b x b′ → Read s b (reading.Rows n) b′
     read-fits {b′ = b′} l k =
