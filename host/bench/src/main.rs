@@ -19,7 +19,8 @@
 //! (above 1 the proved reader is faster), of the best times and of the medians.
 //!
 //! Each shape is read at two sizes. `growth` is how much a byte of the larger costs, measured in
-//! bytes of the smaller, by the best times: about 1 where the cost grows in proportion.
+//! bytes of the smaller, by the best times: about 1 where the cost grows in proportion. Last come
+//! files of some 15 KB, as authors send them, one by one; `--processor` is too coarse for these.
 //!
 //! Then the UTF-8 check alone beside `std::str::from_utf8`; packing and unpacking the rows beside the
 //! Rust packer, with ratios of the same sense; and salvage: on files sound and damaged beside strict
@@ -39,10 +40,11 @@ mod wholes;
 
 use std::path::PathBuf;
 use std::process::ExitCode;
+use std::slice;
 
 use timing::{growth, Times};
 
-/// Measured for one text: the Rust, the proved reader into lent rows, into fresh ones and into none.
+/// Measured for one text, or for several one after the other: the Rust, the proved reader into lent rows, into fresh ones and into none.
 struct Measured {
     bytes: usize,
     rust: Times,
@@ -116,6 +118,7 @@ fn rows(wanted: &Wanted) {
         shapes::all(folders)
             .iter()
             .for_each(|shape| read(shape, rounds));
+        typical(folders, rounds);
     }
     let real = shapes::real(folders);
     if wanted.has("utf8") {
@@ -162,8 +165,8 @@ fn number(option: &str, word: Option<String>) -> Result<usize, String> {
 
 fn read(shape: &shapes::Shape, rounds: usize) {
     println!("{}", shape.name);
-    let small = measure(&shape.small, rounds);
-    let full = measure(&shape.full, rounds);
+    let small = measure(slice::from_ref(&shape.small), rounds);
+    let full = measure(slice::from_ref(&shape.full), rounds);
     let times = [
         ("Rust", &small.rust, &full.rust),
         ("lent", &small.lent, &full.lent),
@@ -172,27 +175,42 @@ fn read(shape: &shapes::Shape, rounds: usize) {
     growth(small.bytes, full.bytes, &times);
 }
 
-fn measure(text: &[u8], rounds: usize) -> Measured {
-    let need = 4 * agreed_rows(text);
-    let mut rows = vec![1; need];
+/// Files as authors send them, read one after the other.
+fn typical(folders: &[PathBuf], rounds: usize) {
+    let files = shapes::typical(folders);
+    if !files.is_empty() {
+        println!("typical files: {} of some 15 KB each", files.len());
+        measure(&files, rounds);
+    }
+}
+
+fn measure(files: &[Vec<u8>], rounds: usize) -> Measured {
+    let counts: Vec<usize> = files.iter().map(|file| agreed_rows(file)).collect();
+    let most = 4 * counts.iter().max().expect("there is a file");
+    let mut rows = vec![1; most];
     let mut measured = Measured {
-        bytes: text.len(),
+        bytes: files.iter().map(Vec::len).sum(),
         rust: Times::new(),
         lent: Times::new(),
         fresh: Times::new(),
         judged: Times::new(),
     };
     for _ in 0..rounds {
-        measured.rust.run(|| timing::the_rust(text));
-        measured.lent.run(|| proved::read(text, &mut rows));
-        measured.fresh.run(|| {
-            let mut rows = vec![0; need];
+        measured.rust.run_each(files, timing::the_rust);
+        measured
+            .lent
+            .run_each(files, |text| proved::read(text, &mut rows));
+        let mut needs = counts.iter();
+        measured.fresh.run_each(files, |text| {
+            let mut rows = vec![0; 4 * needs.next().expect("a count for each file")];
             proved::read(text, &mut rows);
             rows
         });
-        measured.judged.run(|| proved::read(text, &mut []));
+        measured
+            .judged
+            .run_each(files, |text| proved::read(text, &mut []));
     }
-    measured.print(need / 4);
+    measured.print(counts.iter().sum());
     measured
 }
 

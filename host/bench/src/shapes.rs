@@ -7,6 +7,9 @@ const FULL: usize = 10_500_000;
 const TIMES: usize = 4;
 const MILLION: usize = 1_000_000;
 
+/// A typical file, in bytes.
+const TYPICAL: usize = 15_000;
+
 /// Longer real files are left out, so that the whole stays as short as a file must be.
 const LONGEST_PART: usize = 6_000_000;
 
@@ -136,6 +139,20 @@ pub fn pieces() -> [Shape; 4] {
 /// The files that strict reading accepts.
 pub fn real(folders: &[PathBuf]) -> Option<Shape> {
     joined("accepted", folders, |file| oracle::read(file).is_ok())
+}
+
+/// The same in files of some 15 KB, each from an item that begins a line to another.
+pub fn typical(folders: &[PathBuf]) -> Vec<Vec<u8>> {
+    let text = real(folders).map_or(Vec::new(), |shape| shape.full);
+    let (mut files, mut from) = (Vec::new(), 0);
+    let item = |at: &usize| text[at - 1..].starts_with(b"\n@");
+    for at in (1..text.len()).filter(item) {
+        if at - from >= TYPICAL && oracle::read(&text[from..at]).is_ok() {
+            files.push(text[from..at].to_vec());
+            from = at;
+        }
+    }
+    files
 }
 
 /// The same at 1, 2, 4, 8 and as nearly 16 MB as a file may be, whole files each.

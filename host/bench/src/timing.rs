@@ -68,6 +68,19 @@ impl Times {
         drop(given);
     }
 
+    /// Times one run over each of several files, and adds the times up. What a file gives is dropped
+    /// while the clock stands still.
+    pub fn run_each<'a, T>(&mut self, files: &'a [Vec<u8>], mut run: impl FnMut(&'a [u8]) -> T) {
+        let mut sum = 0.0;
+        for file in files {
+            let clock = Clock::start();
+            let given = black_box(run(file));
+            sum += clock.elapsed();
+            drop(given);
+        }
+        self.0.push(sum);
+    }
+
     pub fn best(&self) -> f64 {
         self.0.iter().copied().fold(f64::INFINITY, f64::min)
     }
