@@ -9,6 +9,8 @@ use Rattle.text.proofs.utf8.validate.Kinds as validate-kinds
 use Rattle.text.proofs.utf8.validate.Reads as validate
 use Rattle.text.proofs.utf8.validate_short.Kinds as validate-short-kinds
 use Rattle.text.proofs.utf8.validate_short.Reads as validate-short
+use Rattle.text.proofs.utf8.validate_text.Kinds as validate-text-kinds
+use Rattle.text.proofs.utf8.validate_text.Reads as validate-text
 use Rattle.text.proofs.utf8.decode.Kinds as decode-kinds
 use Rattle.text.proofs.utf8.decode.Reads as decode
 use Rattle.text.proofs.utf8.encode.Kinds as encode-kinds
@@ -45,6 +47,8 @@ use Rattle.text.proofs.scanner.eat_line.Kinds as eat-line-kinds
 use Rattle.text.proofs.scanner.eat_line.Reads as eat-line
 use Rattle.text.proofs.block.find.Kinds as find-kinds
 use Rattle.text.proofs.block.find.Reads as find
+use Rattle.text.proofs.block.copy.Kinds as copy-kinds
+use Rattle.text.proofs.block.copy.Reads as copy
 use Rattle.text.proofs.scanner.from.Kinds as from-kinds
 use Rattle.text.proofs.scanner.from.Reads as from
 
@@ -53,6 +57,9 @@ one-validate κs a x y s t p q = p ∙ sym q
 
 pub one-validate-short : One 1 validate-short-kinds.ps validate-short-kinds.r validate-short.Post
 one-validate-short κs a x y s t p q = p ∙ sym q
+
+pub one-validate-text : One 1 validate-text-kinds.ps validate-text-kinds.r validate-text.Post
+one-validate-text κs a x y s t p q = p ∙ sym q
 
 pub one-decode : One 1 decode-kinds.ps decode-kinds.r decode.Post
 one-decode κs a x y s t p q = p ∙ sym q
@@ -108,6 +115,10 @@ one-eat-line κs a x y s t p q = p .0 ∙ sym (q .0)
 
 pub one-find : One 1 find-kinds.ps find-kinds.r find.Post
 one-find κs a x y s t p q = found-once p q
+
+-- the same bytes
+pub one-copy : Both 2 copy-kinds.ps copy-kinds.r copy.Post (λ κs x s y t. now (s .1 .1 .1 .0) ≡ now (t .1 .1 .1 .0))
+one-copy κs a x y s t p q = p ∙ sym q
 
 -- the same bytes, wherever they lie
 pub one-from : Both 1 from-kinds.ps from-kinds.r from.Post (λ κs x s y t. now x ≡ now y)

@@ -10,6 +10,8 @@ pub mod Below
 pub mod Places
 -- a part of a text, from one place to another
 pub mod Parts
+-- parts of a text, stored one after the other
+pub mod Stores
 -- texts compared byte by byte
 pub mod SameBytes
 -- what it means that a contract allows one outcome only

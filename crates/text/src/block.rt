@@ -3,9 +3,11 @@
 // The loop over a block takes differences, minima and maxima only. No comparison decides in it, so the compiler works on the whole block at once.
 ghost use mathlib.Core.Path.{_≡_};
 ghost use mathlib.Core.Bool.{true, false};
-ghost use Prim.Native.Nat.{_+_, _-_, _≤_, _<_, min, max};
+ghost use Prim.Native.Nat.{_+_, _-_, _≤_, _<_, min};
 ghost use lib.ListN.{length};
-ghost use Rattle.text.specs.Block.{setOf, inSet, apart, braces, quotes, others, solids, Clear, Found};
+ghost use lib.Seq.{sets};
+ghost use Rattle.text.specs.Scan.{part};
+ghost use Rattle.text.specs.Block.{setOf, inSet, apart, braces, quotes, others, solids, lines, Clear, Found, isSimple, PlainRun};
 
 // The bytes from the first to the last, both included.
 pub struct Interval {
@@ -35,12 +37,6 @@ fn lesser(a: u8, b: u8) -> u8
     if a < b { a } else { b }
 }
 
-fn greater(a: u8, b: u8) -> u8
-    ensures { λ r. ⌜ r ≡ max a b ⌝ }
-{
-    if a < b { b } else { a }
-}
-
 // What is left of a when b is taken away, or 0.
 fn minus(a: u8, b: u8) -> u8
     ensures { λ r. ⌜ r ≡ a - b ⌝ }
@@ -65,12 +61,12 @@ fn distance(x: Set, b: u8) -> u8
     lesser(apart(one, b), lesser(apart(two, b), apart(three, b)))
 }
 
-// The place of the byte in its block where it is one of the set, and a greater number otherwise.
-fn place(x: Set, b: u8, k: u8) -> u8
+// The place k of a byte in its block where its distance d is 0, and a greater number otherwise.
+fn place(d: u8, k: u8) -> u8
     requires { ⌜ k < 16 ⌝ }
-    ensures { λ r. ⌜ (k < r → inSet x b ≡ false) ⌝ }
+    ensures { λ r. ⌜ (k < r → 0 < d) ⌝ }
 {
-    lesser(distance(x, b), 15) * 16 + k
+    lesser(d, 15) * 16 + k
 }
 
 // How many of the sixteen bytes from a place on stand before the first of the set.
@@ -82,7 +78,7 @@ fn part(s: &[u8], at: usize, x: Set) -> usize
     let mut k: u8 = 0;
     while k < 16 {
         let i = at + k as usize;
-        m = lesser(m, place(x, s[i], k));
+        m = lesser(m, place(distance(x, s[i]), k));
         k += 1;
     }
     m as usize
@@ -113,14 +109,14 @@ fn past(s: &[u8], at: usize, x: Set) -> usize
     i
 }
 
-// Whether none of the sixty-four bytes from a place on is one of the set.
-fn is_clear(s: &[u8], at: usize, x: Set) -> bool
-    requires { ⌜ at + 64 ≤ length (now s) ⌝ }
-    ensures { λ r. ⌜ (r ≡ true → Clear x (now (s .entry)) at (at + 64)) ⌝ }
+// Whether none of the n bytes from a place on is one of the set. Where n is a constant, the compiler works on whole blocks.
+fn is_clear(s: &[u8], at: usize, n: usize, x: Set) -> bool
+    requires { ⌜ at + n ≤ length (now s) ⌝ }
+    ensures { λ r. ⌜ (r ≡ true → Clear x (now (s .entry)) at (at + n)) ⌝ }
 {
     let mut m: u8 = 255;
     let mut k = 0;
-    while k < 64 {
+    while k < n {
         let i = at + k;
         m = lesser(m, distance(x, s[i]));
         k += 1;
@@ -134,7 +130,7 @@ fn past_long(s: &[u8], at: usize, x: Set) -> usize
 {
     let mut i = at;
     while has(s, i, 64) {
-        if !is_clear(s, i, x) {
+        if !is_clear(s, i, 64, x) {
             return i;
         }
         i += 64;
@@ -166,21 +162,6 @@ pub fn past_white(s: &[u8], at: usize) -> usize
     at
 }
 
-// Whether the sixty-four bytes from a place on are ASCII.
-fn is_ascii(s: &[u8], at: usize) -> bool
-    requires { ⌜ at + 64 ≤ length (now s) ⌝ }
-    ensures { λ r. ⌜ (r ≡ true → Clear others (now (s .entry)) at (at + 64)) ⌝ }
-{
-    let mut m: u8 = 0;
-    let mut k = 0;
-    while k < 64 {
-        let i = at + k;
-        m = greater(m, s[i]);
-        k += 1;
-    }
-    m < 0x80
-}
-
 // Over ASCII. Where the next byte is none, no block is looked at.
 pub fn past_ascii(s: &[u8], at: usize) -> usize
     ensures { λ r. ⌜ Clear others (now (s .entry)) at r ⌝ }
@@ -190,14 +171,8 @@ pub fn past_ascii(s: &[u8], at: usize) -> usize
             return at;
         }
     }
-    let mut i = at;
-    while has(s, i, 64) {
-        if !is_ascii(s, i) {
-            return past(s, i, intervals(0x80, 0xff, 0x80, 0xff, 0x80, 0xff));
-        }
-        i += 64;
-    }
-    i
+    let it = intervals(0x80, 0xff, 0x80, 0xff, 0x80, 0xff);
+    past(s, past_long(s, at, it), it)
 }
 
 // The first place from a place on where x stands, or the end.
@@ -213,4 +188,148 @@ pub fn find(s: &[u8], at: usize, x: u8) -> usize
         i += 1;
     }
     i
+}
+
+// `copy` of sixteen bytes at most. All are read before the first is written: where n is a constant, the compiler moves them at once.
+fn move_block(s: &[u8], from: usize, n: usize, out: &mut [u8], at: usize)
+    requires { ⌜ (n ≤ 16) × (from + n ≤ length (now s)) × (at + n ≤ length (now out)) ⌝ }
+    ensures { λ _. ⌜ now (out .exit) ≡ sets (now (out .entry)) at (part (now (s .entry)) from (from + n)) ⌝ }
+{
+    let mut b = [0u8; 16];
+    let mut k = 0;
+    while k < n {
+        b[k] = s[from + k];
+        k += 1;
+    }
+    k = 0;
+    while k < n {
+        out[at + k] = b[k];
+        k += 1;
+    }
+}
+
+// `copy` of less than sixteen bytes: two moves that may overlap.
+fn copy_short(s: &[u8], from: usize, n: usize, out: &mut [u8], at: usize)
+    requires { ⌜ (n < 16) × (from + n ≤ length (now s)) × (at + n ≤ length (now out)) ⌝ }
+    ensures { λ _. ⌜ now (out .exit) ≡ sets (now (out .entry)) at (part (now (s .entry)) from (from + n)) ⌝ }
+{
+    if 8 <= n {
+        move_block(s, from, 8, out, at);
+        move_block(s, from + (n - 8), 8, out, at + (n - 8));
+        return;
+    }
+    if 4 <= n {
+        move_block(s, from, 4, out, at);
+        move_block(s, from + (n - 4), 4, out, at + (n - 4));
+        return;
+    }
+    let mut i = 0;
+    while i < n {
+        out[at + i] = s[from + i];
+        i += 1;
+    }
+}
+
+// The n bytes of s from a place on, over those of `out` from another on. The last move may overlap the one before it.
+pub fn copy(s: &[u8], from: usize, n: usize, out: &mut [u8], at: usize)
+    requires { ⌜ (from + n ≤ length (now s)) × (at + n ≤ length (now out)) ⌝ }
+    ensures { λ _. ⌜ now (out .exit) ≡ sets (now (out .entry)) at (part (now (s .entry)) from (from + n)) ⌝ }
+{
+    if n < 16 {
+        copy_short(s, from, n, out, at);
+        return;
+    }
+    let last = n - 16;
+    let mut i = 0;
+    while i < last {
+        move_block(s, from + i, 16, out, at + i);
+        i += 16;
+    }
+    move_block(s, from + last, 16, out, at + last);
+}
+
+// 0 where the byte b ends a run of plain text, whose byte before b is a.
+fn apart_from_plain(a: u8, b: u8) -> u8
+    ensures { λ r. ⌜ (0 < r → (isSimple b ≡ true) × (a ≡ 0x20 → b ≡ 0x20 → ⊥)) ⌝ }
+{
+    let one = lesser(minus(b, 0x1f), minus(0x7f, b));
+    let two = lesser(b ^ 0x24, b ^ 0x2d);
+    let three = lesser(b ^ 0x5c, (a ^ 0x20) | (b ^ 0x20));
+    let four = lesser(b ^ 0x7b, b ^ 0x7d);
+    lesser(lesser(one, two), lesser(three, four))
+}
+
+// How many of the sixteen bytes from a place on are plain.
+fn plain_part(s: &[u8], at: usize) -> usize
+    requires { ⌜ (0 < at) × (at + 16 ≤ length (now s)) ⌝ }
+    ensures { λ r. ⌜ PlainRun (now (s .entry)) at (at + r) × (r ≤ 16) ⌝ }
+{
+    let mut m: u8 = 16;
+    let mut k: u8 = 0;
+    while k < 16 {
+        let i = at + k as usize;
+        m = lesser(m, place(apart_from_plain(s[i - 1], s[i]), k));
+        k += 1;
+    }
+    m as usize
+}
+
+// Over plain text from a place on that is not the first. Less than sixteen bytes are left to the caller.
+pub fn past_plain(s: &[u8], at: usize) -> usize
+    requires { ⌜ 0 < at ⌝ }
+    ensures { λ r. ⌜ PlainRun (now (s .entry)) at r ⌝ }
+{
+    if !has(s, at, 16) {
+        return at;
+    }
+    let last = s.len() - 16;
+    let mut i = at;
+    while i < last {
+        let k = plain_part(s, i);
+        if k < 16 {
+            return i + k;
+        }
+        i += 16;
+    }
+    last + plain_part(s, last)
+}
+
+// `past_long` by sixteen bytes, to the end of the text. Less than sixteen bytes are left to the caller.
+fn past_short(s: &[u8], at: usize, x: Set) -> usize
+    ensures { λ r. ⌜ Clear x (now (s .entry)) at r ⌝ }
+{
+    if !has(s, at, 16) {
+        return at;
+    }
+    let last = s.len() - 16;
+    let mut i = at;
+    while i < last {
+        if !is_clear(s, i, 16, x) {
+            return i;
+        }
+        i += 16;
+    }
+    if is_clear(s, last, 16, x) {
+        return s.len();
+    }
+    i
+}
+
+// A place before which there is no line end: over bytes that are 0x0e at least.
+pub fn past_lines(s: &[u8], at: usize) -> usize
+    ensures { λ r. ⌜ Clear lines (now (s .entry)) at r ⌝ }
+{
+    past_short(s, at, intervals(0x00, 0x0d, 0x00, 0x0d, 0x00, 0x0d))
+}
+
+// Whether all of a text is ASCII.
+pub fn all_ascii(s: &[u8]) -> bool
+    ensures { λ r. ⌜ (r ≡ true → Clear others (now (s .entry)) 0 (length (now (s .entry)))) ⌝ }
+{
+    let it = intervals(0x80, 0xff, 0x80, 0xff, 0x80, 0xff);
+    let n = s.len();
+    if n < 16 {
+        return is_clear(s, 0, n, it);
+    }
+    past_short(s, 0, it) == n
 }

@@ -286,3 +286,15 @@ pub fn is_boundary(s: &[u8], n: usize) -> bool
     }
     n == s.len()
 }
+
+// `validate`, quicker for a text that is short and ASCII.
+pub fn validate_text(s: &[u8]) -> Validity
+    ensures { λ r. ⌜ r ≡ validityOf (now (s .entry)) ⌝ }
+{
+    if s.len() < 256 {
+        if block::all_ascii(s) {
+            return Validity::Valid;
+        }
+    }
+    validate(s)
+}

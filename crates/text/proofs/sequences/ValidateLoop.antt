@@ -1,6 +1,7 @@
 -- The loop of `validate`, look by look.
 --     valid-on, valid-one      a sequence is passed; an octet of ASCII is passed
---     valid-ascii, valid-stop  a run of ASCII is passed; the walk ends at any other octet
+--     valid-run, valid-stop    a run of ASCII is passed; the walk ends at any other octet
+--     valid-all                a text that is ASCII is valid
 -- Assumes nothing.
 use mathlib.Core.Path.{_≡_, refl, sym, ap, _∙_}
 use mathlib.Core.List.{List}
@@ -11,11 +12,11 @@ use native.Mathlib.Numerals.{add-one}
 use lib.ListN.{length, getD, drop}
 use borrow.Author.Tests.{eq-eqb, ne-eqb}
 use Rattle.text.specs.Walk.{walk}
-use Rattle.text.specs.Utf8.{width, lookValid}
+use Rattle.text.specs.Utf8.{width, lookValid, validityOf}
 use Rattle.text.specs.Block.{others, Clear}
 use Rattle.text.specs.declared.utf8.Validity.{Validity}
-use Rattle.text.specs.declared.utf8.Validity.the-variants.{IllFormed}
-use Rattle.text.proofs.sequences.Walk.{walk-pass, walk-answer}
+use Rattle.text.specs.declared.utf8.Validity.the-variants.{Valid, IllFormed}
+use Rattle.text.proofs.sequences.Walk.{walk-pass, walk-answer, walk-end}
 use Rattle.text.proofs.scanning.Blocks.{none-ascii}
 use Rattle.text.proofs.sequences.FirstOctet.{width-ascii}
 
@@ -42,10 +43,13 @@ module _ (e : ℕ → Validity) (s : List ℕ) where
       ascii-on i n (omega arith) (λ k p q. a k p (omega arith)) ∙ valid-one (i + n) (omega arith) (a (i + n) (omega arith) (omega arith))
       ∙ ap (λ (m : ℕ). walk lookValid e s m) (add-one (i + n) ∙ sym (add-suc i n))
 
-  -- an octet of ASCII and the run of ASCII behind it are passed
-  pub valid-ascii : (i : ℕ) {r : ℕ} → i < length s → getD s i 0 < 0x80 → Clear others s (i + 1) r → walk lookValid e s i ≡ walk lookValid e s r
-  valid-ascii i {r} h a x =
-      let q : i + 1 + (r - (i + 1)) ≡ r = omega (arith, x .from) in
-      valid-one i h a
-      ∙ ascii-on (i + 1) (r - (i + 1)) (omega (arith, x .from, x .to)) (λ k p l. let b = x .clear k p (omega arith) in none-ascii (getD s k 0) (b .0) (b .1))
+  -- a run of ASCII is passed
+  pub valid-run : (i : ℕ) {r : ℕ} → i ≤ length s → Clear others s i r → walk lookValid e s i ≡ walk lookValid e s r
+  valid-run i {r} h x =
+      let q : i + (r - i) ≡ r = omega (arith, x .from) in
+      ascii-on i (r - i) (omega (arith, x .from, x .to)) (λ k p l. let b = x .clear k p (omega arith) in none-ascii (getD s k 0) (b .0) (b .1))
       ∙ ap (λ (m : ℕ). walk lookValid e s m) q
+
+pub valid-all : (s : List ℕ) → Clear others s 0 (length s) → validityOf s ≡ Valid
+unfolding validityOf
+valid-all s x = valid-run (λ n. Valid) s 0 (omega arith) x ∙ walk-end lookValid (λ n. Valid) s (length s) (omega arith)

@@ -8,10 +8,10 @@ use Rattle.text.proofs.block.is_clear.Statement.{statement}
 use Rattle.text.proofs.block.is_clear.Tie as tie
 
 abbrev Inv-loop : tie.InvT-loop
-Inv-loop s at x m₀ k₀ m k = (k ≤ 64) × Away x s at k m
+Inv-loop s at n x m₀ k₀ m k = (k ≤ n) × Away x s at k m
 
 abbrev μ-loop : tie.MeasureT-loop
-μ-loop s at x m₀ k₀ m k = 64 - k
+μ-loop s at n x m₀ k₀ m k = n - k
 
 loop-holds : tie.Need-loop-holds Inv-loop μ-loop
 loop-holds c = (omega arith, λ z j l. absurd (omega arith))
@@ -42,7 +42,7 @@ returns : tie.Need-returns Inv-loop μ-loop
 returns c = λ e.
     let a = c .before .before .before .args in
     let v = c .before .loop in
-    away-done (a .x) (a .s .now) (a .at) 64 (v .m) (omega arith) (λ z j l. v .inv .1 z j (omega arith)) (ltb-true 0 (v .m) e)
+    away-done (a .x) (a .s .now) (a .at) (a .n) (v .m) (omega arith) (λ z j l. v .inv .1 z j (omega arith)) (ltb-true 0 (v .m) e)
 
 pub is-clear-spec : {M : Type 1} → statement M
 is-clear-spec =

@@ -2,12 +2,12 @@
 use Prim.Native.Nat.{_+_, _-_, _≤_}
 use native.Mathlib.Omega.{arith}
 use borrow.Author.Needs.{needs}
-use Rattle.text.proofs.scanning.Blocks.{Before, part-more, part-done}
+use Rattle.text.proofs.scanning.Blocks.{Before, before-more, ClearAt, part-done}
 use Rattle.text.proofs.block.part.Statement.{statement}
 use Rattle.text.proofs.block.part.Tie as tie
 
 abbrev Inv-loop : tie.InvT-loop
-Inv-loop s at x m₀ k₀ m k = (k ≤ 16) × (m ≤ 16) × Before x s at k m
+Inv-loop s at x m₀ k₀ m k = (k ≤ 16) × (m ≤ 16) × Before (ClearAt x s) at k m
 
 abbrev μ-loop : tie.MeasureT-loop
 μ-loop s at x m₀ k₀ m k = 16 - k
@@ -15,8 +15,8 @@ abbrev μ-loop : tie.MeasureT-loop
 loop-holds : tie.Need-loop-holds Inv-loop μ-loop
 loop-holds c = (omega arith, omega arith, λ j l n. absurd (omega arith))
 
-shared-slice-read-place : tie.Need-shared-slice-read-place Inv-loop μ-loop
-shared-slice-read-place c = omega arith
+shared-slice-read-distance : tie.Need-shared-slice-read-distance Inv-loop μ-loop
+shared-slice-read-distance c = omega arith
 
 place-requires : tie.Need-place-requires Inv-loop μ-loop
 place-requires c κs = omega arith
@@ -30,12 +30,17 @@ loop-less c = omega arith
 loop-again : tie.Need-loop-again Inv-loop μ-loop
 loop-again c =
     let place = c .before in
-    let shared-slice-known2 = place .before in
-    let v = shared-slice-known2 .before .before in
+    let distance = place .before in
+    let slice-known = distance .before in
+    let v = slice-known .before .before in
     let asked = v .before .before in
     let a = asked .args in
-    let b = shared-slice-known2 .shared-slice-known2 .given (a .at + v .loop .k) in
-    (omega arith, omega arith, part-more (a .x) (a .s .now) (a .at) (v .loop .k) (v .loop .m) _ (c .lesser .ensures) (v .loop .inv .2) (omega arith) (place .place .ensures))
+    let b = slice-known .shared-slice-known2 .given (a .at + v .loop .k) in (
+      omega arith,
+      omega arith,
+      before-more (ClearAt (a .x) (a .s .now)) (a .at) (v .loop .k) (v .loop .m) _ (c .lesser .ensures) (v .loop .inv .2)
+          (λ h. (omega arith, distance .distance .ensures (place .place .ensures h))),
+    )
 
 returns : tie.Need-returns Inv-loop μ-loop
 returns c =
@@ -52,7 +57,8 @@ part-spec =
     loop-holds
     (λ c. search needs)
     (λ c. search needs)
-    shared-slice-read-place
+    shared-slice-read-distance
+    (λ c κs. search needs)
     place-requires
     (λ c κs. search needs)
     add-k

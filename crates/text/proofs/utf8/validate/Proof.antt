@@ -4,7 +4,7 @@ use mathlib.Core.Path.{_≡_, refl, sym, _∙_}
 use native.Mathlib.Omega.{arith}
 use lib.ListN.{length}
 use borrow.Author.Needs.{needs}
-use Rattle.text.proofs.sequences.ValidateLoop.{valid-on, valid-ascii, valid-stop}
+use Rattle.text.proofs.sequences.ValidateLoop.{valid-on, valid-one, valid-run, valid-stop}
 use Rattle.text.proofs.sequences.Walk.{walk-end}
 use Rattle.text.specs.declared.utf8.Validity.the-variants.{Valid}
 use Rattle.text.specs.Utf8.{lookValid, validityOf}
@@ -36,7 +36,7 @@ loop-again c =
     let v = c .before .before .before .before .loop in
     let h = c .before .before .before .loop-test .taken in
     let x = c .past-ascii .ensures in
-    (omega (arith, x .from, x .to), v .inv .1 ∙ valid-ascii (λ n. Valid) _ (v .at) h (c .before .if1 .taken) x)
+    (omega (arith, x .from, x .to), v .inv .1 ∙ valid-one (λ n. Valid) _ (v .at) h (c .before .if1 .taken) ∙ valid-run (λ n. Valid) _ (v .at + 1) (omega arith) x)
 
 add-at : tie.Need-add-at Inv-loop μ-loop
 add-at c = omega (arith, c .before .is-two .ensures (c .if2 .taken) .1)
