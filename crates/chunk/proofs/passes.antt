@@ -6,3 +6,5 @@ pub mod ChunkByChunk
 pub mod Passes
 -- where each writer's pass begins, its turns, and its end
 pub mod PassTurns
+-- how many octets chunks are formatted as, at most
+pub mod Bounds

@@ -1,16 +1,12 @@
 -- Octets put into lent bytes, each only where it fits. So the code that writes only counts where it is lent no bytes.
 --     Puts              octets put from a place on, and the place after them
---     totalOf, Fills    what a pass over chunks answers, and what it leaves in the lent bytes
+--     Fills             what a pass over chunks answers, and what it leaves in the lent bytes
 -- Assumes nothing.
 use Prim.Native.Nat.{ℕ, _+_, _≤_}
 use mathlib.Core.Path.{_≡_}
-use mathlib.Core.Bool.{cond}
 use mathlib.Core.List.{List}
 use lib.ListN.{length}
 use lib.Seq.{sets}
-use lib.Dec.{leb}
-use Rattle.chunk.specs.declared.answer.Total.{Total}
-use Rattle.chunk.specs.declared.answer.Total.the-variants as total
 
 -- the greatest place, and below it the greatest room: a slice has less than 2 ^ 63 bytes
 abbrev pub lastPlace : ℕ
@@ -25,12 +21,8 @@ pub record Puts (o : List ℕ) (n : ℕ) (w : List ℕ) (r : ℕ) (o′ : List �
   pub end : r ≡ n + length w
   pub bytes : o′ ≡ sets o n w
 
--- the number of octets, or that they are more than the room
-abbrev pub totalOf : List ℕ → ℕ → Total
-totalOf w room = cond (leb (length w) room) (total.Bytes (length w)) total.More
-
--- a pass that puts w from the first byte on. Where w is longer than the room, nothing is said of the lent bytes: only the counting pass,
--- which is lent none, meets this
-pub record Fills (w : List ℕ) (room : ℕ) (o : List ℕ) (r : Total) (o′ : List ℕ) : Type 0 where
-  pub answer : r ≡ totalOf w room
-  pub bytes : length w ≤ room → o′ ≡ sets o 0 w
+-- a pass that puts w from the first byte on answers the place r that it comes to. Where w is longer than the room it may stop past the
+-- room already, and nothing is said of the lent bytes: only the counting pass, which is lent none, meets this
+pub record Fills (w : List ℕ) (room : ℕ) (o : List ℕ) (r : ℕ) (o′ : List ℕ) : Type 0 where
+  pub inside : r ≤ length w
+  pub whole : r ≤ room → (r ≡ length w) × (o′ ≡ sets o 0 w)

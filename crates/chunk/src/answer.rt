@@ -6,9 +6,3 @@ pub enum Checked {
     Passed,
     Refused(Fault),
 }
-
-// What a pass over chunks answers: how many bytes they are written as, or that these are more than the room.
-pub enum Total {
-    Bytes(usize),
-    More,
-}

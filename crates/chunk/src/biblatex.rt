@@ -1,6 +1,5 @@
 // `to_biblatex_string`, after chunk.rs, and `is_escapable`, after resolve.rs.
 use crate::answer::Checked;
-use crate::answer::Total;
 use crate::check;
 use crate::form;
 use crate::form::Kind;
@@ -137,7 +136,7 @@ fn put_closing(extra: bool, out: &mut [u8], at: usize) -> usize
 }
 
 // All chunks, as far as there is room: over no bytes, this counts.
-fn write_all(t: &[u8], rows: &[u32], verb: bool, room: usize, out: &mut [u8]) -> Total
+fn write_all(t: &[u8], rows: &[u32], verb: bool, room: usize, out: &mut [u8]) -> usize
     requires { ⌜ (areChunks (now t) (now rows) ≡ true) × (room ≤ mostRoom) ⌝ }
     ensures { λ r. ⌜ Fills (toBiblatexString verb (chunksOf (now (t .entry)) (now (rows .entry)))) room (now (out .entry)) r (now (out .exit)) ⌝ }
 {
@@ -150,16 +149,12 @@ fn write_all(t: &[u8], rows: &[u32], verb: bool, room: usize, out: &mut [u8]) ->
         let next = put_opening(extra, kind, out, at);
         at = put_body(verb, kind, t, row.from, row.to, out, next);
         if room < at {
-            return Total::More;
+            return at;
         }
         extra = extra_after(extra, kind);
         i += 5;
     }
-    let end = put_closing(extra, out, at);
-    if room < end {
-        return Total::More;
-    }
-    Total::Bytes(end)
+    put_closing(extra, out, at)
 }
 
 // Serializes chunks into a BibLaTeX string, for a field that is verbatim or not: the number of bytes, which then stand in the lent bytes, or the
@@ -175,17 +170,13 @@ pub fn to_biblatex_string(t: &[u8], rows: &[u32], verb: bool, out: &mut [u8]) ->
     }
     let room = out.len();
     let mut none = [0u8; 0];
-    match write_all(t, rows, verb, room, &mut none) {
-        Total::More => {
-            return Outcome::Refused(Fault {
-                reason: Reason::NoRoom,
-                start: 0,
-                end: 0,
-            });
-        }
-        Total::Bytes(n) => {
-            write_all(t, rows, verb, room, out);
-            return Outcome::Count(n);
-        }
+    let end = write_all(t, rows, verb, room, &mut none);
+    if room < end {
+        return Outcome::Refused(Fault {
+            reason: Reason::NoRoom,
+            start: 0,
+            end: 0,
+        });
     }
+    Outcome::Count(write_all(t, rows, verb, room, out))
 }

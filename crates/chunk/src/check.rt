@@ -38,7 +38,7 @@ fn are_chunks(t: &[u8], rows: &[u32]) -> bool
 pub fn check(t: &[u8], rows: &[u32]) -> Checked
     ensures { λ r. ⌜ r ≡ checkedOf (now (t .entry)) (now (rows .entry)) ⌝ }
 {
-    match utf8::validate(t) {
+    match utf8::validate_text(t) {
         Validity::IllFormed(i) => {
             return Checked::Refused(Fault {
                 reason: Reason::NotUtf8,

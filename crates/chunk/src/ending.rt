@@ -1,5 +1,6 @@
 // The last character of a text, and where its lines end.
 use reader;
+use text::block;
 use text::class;
 use text::scanner::Seen;
 use text::utf8;
@@ -45,6 +46,10 @@ pub fn ends_white(t: &[u8], from: usize, to: usize) -> bool
     if to <= from {
         return false;
     }
+    let b = t[to - 1];
+    if b < 0x80 {
+        return (b == 0x20) | ((0x09 <= b) & (b <= 0x0d));
+    }
     let at = last_at(t, from, to);
     let c = code_at(t, at, to);
     class::is_whitespace(c)
@@ -61,7 +66,7 @@ pub fn line_end(t: &[u8], from: usize, to: usize) -> usize
     requires { ⌜ (from ≤ to) × (to ≤ length (now t)) ⌝ }
     ensures { λ r. ⌜ (plain (part (now (t .entry)) from r) ≡ true) × (stops (part (now (t .entry)) r to) ≡ true) × (from ≤ r) × (r ≤ to) ⌝ }
 {
-    let mut i = from;
+    let mut i = block::past_lines(&t[..to], from);
     while i < to {
         if is_line_end(t[i]) {
             return i;

@@ -1,6 +1,5 @@
 // `format_verbatim`, after chunk.rs.
 use crate::answer::Checked;
-use crate::answer::Total;
 use crate::check;
 use crate::ending;
 use crate::form;
@@ -11,12 +10,14 @@ use row::fault::Outcome;
 use row::fault::Reason;
 ghost use mathlib.Core.Path.{_≡_};
 ghost use mathlib.Core.Bool.{true};
-ghost use mathlib.Core.List.{[]};
-ghost use Prim.Native.Nat.{_+_, _≤_, _<_};
+ghost use mathlib.Core.List.{List, []};
+ghost use Prim.Native.Nat.{ℕ, _+_, _≤_, _<_};
+ghost use lib.Dec.{leb};
 ghost use lib.ListN.{length};
 ghost use Rattle.text.specs.Scan.{part};
-ghost use Rattle.chunk.specs.Chunk.{areChunks, chunksOf};
+ghost use Rattle.chunk.specs.Chunk.{chunkRows, areChunks, chunksOf};
 ghost use Rattle.chunk.specs.Format.{lines as linesOf, formatOne, formatVerbatim};
+ghost use Rattle.chunk.specs.Inner.{mostOf};
 ghost use Rattle.chunk.specs.Put.{lastPlace, mostRoom, Puts, Fills};
 ghost use Rattle.chunk.specs.Write.{FormatVerbatim};
 
@@ -86,7 +87,7 @@ fn format_one(
 }
 
 // All chunks, as far as there is room: over no bytes, this counts.
-fn format_all(t: &[u8], rows: &[u32], room: usize, out: &mut [u8]) -> Total
+fn format_all(t: &[u8], rows: &[u32], room: usize, out: &mut [u8]) -> usize
     requires { ⌜ (areChunks (now t) (now rows) ≡ true) × (room ≤ mostRoom) ⌝ }
     ensures { λ r. ⌜ Fills (formatVerbatim (chunksOf (now (t .entry)) (now (rows .entry)))) room (now (out .entry)) r (now (out .exit)) ⌝ }
 {
@@ -98,13 +99,31 @@ fn format_all(t: &[u8], rows: &[u32], room: usize, out: &mut [u8]) -> Total
         let kind = form::kind_from(row.kind);
         let next = format_one(kind, t, row.from, row.to, white, out, at);
         if room < next.at {
-            return Total::More;
+            return next.at;
         }
         at = next.at;
         white = next.white;
         i += 5;
     }
-    Total::Bytes(at)
+    at
+}
+
+// Whether there surely is room: each chunk is written as two bytes more than its text has, at most.
+fn surely_fits(rows: &[u32], room: usize) -> bool
+    requires { ⌜ ((t : List ℕ) × (areChunks t (now rows) ≡ true)) × (room ≤ mostRoom) ⌝ }
+    ensures { λ r. ⌜ r ≡ leb (mostOf (chunkRows (now (rows .entry)))) room ⌝ }
+{
+    let mut n = 0;
+    let mut i = 0;
+    while i < rows.len() {
+        let row = form::row_at(rows, i);
+        n += row.to - row.from + 2;
+        if room < n {
+            return false;
+        }
+        i += 5;
+    }
+    true
 }
 
 // Formats chunks verbatim: the number of bytes, which then stand in the lent bytes, or the refusal, which leaves them as they were.
@@ -118,18 +137,16 @@ pub fn format_verbatim(t: &[u8], rows: &[u32], out: &mut [u8]) -> Outcome
         Checked::Passed => {}
     }
     let room = out.len();
-    let mut none = [0u8; 0];
-    match format_all(t, rows, room, &mut none) {
-        Total::More => {
+    if !surely_fits(rows, room) {
+        let mut none = [0u8; 0];
+        let end = format_all(t, rows, room, &mut none);
+        if room < end {
             return Outcome::Refused(Fault {
                 reason: Reason::NoRoom,
                 start: 0,
                 end: 0,
             });
         }
-        Total::Bytes(n) => {
-            format_all(t, rows, room, out);
-            return Outcome::Count(n);
-        }
     }
+    Outcome::Count(format_all(t, rows, room, out))
 }

@@ -1,4 +1,5 @@
 // Octets into lent bytes, each only where it fits. Over no bytes the same code counts: a writer's first pass is over none.
+use text::block;
 ghost use mathlib.Core.Path.{_≡_};
 ghost use mathlib.Core.List.{[], _∷_};
 ghost use Prim.Native.Nat.{_+_, _≤_, _<_};
@@ -25,14 +26,12 @@ pub fn copy(s: &[u8], from: usize, to: usize, out: &mut [u8], at: usize) -> usiz
     ensures { λ r. ⌜ Puts (now (out .entry)) at (part (now (s .entry)) from to) r (now (out .exit)) ⌝ }
     ensures { λ r. ⌜ r + from ≡ at + to ⌝ }
 {
+    let n = to - from;
     if out.len() <= at {
-        return at + (to - from);
+        return at + n;
     }
-    let mut i = from;
-    let mut j = at;
-    while i < to {
-        j = put(out, j, s[i]);
-        i += 1;
-    }
-    j
+    let room = out.len() - at;
+    let fitting = if room < n { room } else { n };
+    block::copy(s, from, fitting, out, at);
+    at + n
 }

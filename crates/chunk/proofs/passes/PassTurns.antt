@@ -1,24 +1,20 @@
 -- The turns of both writers' passes, whose invariant is `Passing`.
 --     RowRead, row-of                                                  a row as the code reads it
 --     format-start, format-turn, format-more, format-done              `format_all`
---     write-start, write-turn, write-more, close-more, write-done      `write_all`
+--     write-start, write-turn, write-more, write-done                  `write_all`
 -- Assumes nothing.
-use Prim.Native.Nat.{ℕ, _+_, _%_, _≤_, _<_}
+use Prim.Native.Nat.{ℕ, _+_, _≤_, _<_}
 use mathlib.Core.Path.{_≡_, refl, sym, ap, ap₂, _∙_}
 use mathlib.Core.Bool.{Bool, true, false}
 use mathlib.Core.List.{List, [], _∷_, _++_, append-nil}
 use lib.ListN.{length, getD}
-use lib.Dec.{eqb}
-use borrow.Author.Tests.{eqb-true}
 use Rattle.text.specs.Scan.{part}
-use Rattle.text.proofs.general.Tests.{both-true}
-use Rattle.chunk.specs.declared.answer.Total.the-variants as total
 use Rattle.chunk.specs.declared.form.Kind.{Kind}
-use Rattle.chunk.specs.Chunk.{kindFrom, chunkRows, chunksOf, everyChunk, areChunks, Stores}
+use Rattle.chunk.specs.Chunk.{kindFrom, chunksOf, areChunks, Stores}
 use Rattle.chunk.specs.Format.{Written, formatOne, formatFrom, formatVerbatim}
 use Rattle.chunk.specs.Format.{opening, extraAfter, bodyOf, biblatexOne, closing, biblatexFrom, toBiblatexString}
 use Rattle.chunk.specs.Put.{Puts, Fills}
-use Rattle.chunk.proofs.rows.RowCheck.{Checking, checking}
+use Rattle.chunk.proofs.rows.RowCheck.{starts}
 use Rattle.chunk.proofs.texts.Puts.{puts-none, puts-on}
 use Rattle.chunk.proofs.passes.Passes.{rest, Passing, passed, at-end, fills-more, fills-bytes}
 
@@ -36,10 +32,6 @@ row-is : {A : Type 0} {l : List ℕ} {i : ℕ} {kind : Kind} {k f e : ℕ} (g : 
 row-is {l = l} {i} {e = e} g r =
     ap₂ (λ (x : Kind) (y : ℕ). g x y e) (r .known ∙ ap kindFrom (r .stores .kind)) (r .stores .from)
     ∙ ap (g (kindFrom (getD l i 0)) (getD l (i + 1) 0)) (r .stores .to)
-
-starts : (t l : List ℕ) → areChunks t l ≡ true → Checking t l 0
-unfolding areChunks
-starts t l e = checking t l (eqb-true (length l % 5) 0 (both-true (eqb (length l % 5) 0) (everyChunk t (chunkRows l)) e .0))
 
 -- ---- `format_all`
 
@@ -60,12 +52,12 @@ module _ {t l o₀ o : List ℕ} {b : Bool} {n i : ℕ} (g : Formatting t l o₀
       let whole = ap (λ (w : Written). w .text ++ formatFrom (w .white) (rest t l (i + 5))) (sym q) in
       passed g all-chunks h (whole ∙ ap (λ (c : Bool). formatOne b kind (part t f e) .text ++ formatFrom c (rest t l (i + 5))) (sym x)) y z
 
-  pub format-more : {room : ℕ} → room < n → Fills (formatVerbatim (chunksOf t l)) room o₀ total.More o
+  pub format-more : {room : ℕ} → room < n → Fills (formatVerbatim (chunksOf t l)) room o₀ n o
   format-more h = fills-more (formatFrom b (rest t l i)) (g .same) (g .puts) h
 
-  pub format-done : areChunks t l ≡ true → length l ≤ i → {room : ℕ} → n ≤ room → Fills (formatVerbatim (chunksOf t l)) room o₀ (total.Bytes n) o
+  pub format-done : areChunks t l ≡ true → length l ≤ i → {room : ℕ} → Fills (formatVerbatim (chunksOf t l)) room o₀ n o
   unfolding formatFrom
-  format-done all-chunks h k = fills-bytes (sym (append-nil (g .text)) ∙ at-end g all-chunks h) (g .puts) k
+  format-done all-chunks h = fills-bytes (sym (append-nil (g .text)) ∙ at-end g all-chunks h) (g .puts)
 
 -- ---- `write_all`
 
@@ -89,7 +81,7 @@ module _ (verb : Bool) {t l o₀ : List ℕ} {n₀ : ℕ} {o : List ℕ} {b : Bo
       passed g all-chunks h whole (puts-on y u) z
 
   module _ {u : List ℕ} (first : Puts u 0 (0x7B ∷ []) n₀ o₀) where
-    pub write-more : {room : ℕ} → room < n → Fills (toBiblatexString verb (chunksOf t l)) room u total.More o
+    pub write-more : {room : ℕ} → room < n → Fills (toBiblatexString verb (chunksOf t l)) room u n o
     write-more h = fills-more (biblatexFrom verb b (rest t l i)) (ap (λ (w : List ℕ). 0x7B ∷ w) (g .same)) (puts-on first (g .puts)) h
 
     -- after the last row, where the closing braces are put
@@ -101,8 +93,5 @@ module _ (verb : Bool) {t l o₀ : List ℕ} {n₀ : ℕ} {o : List ℕ} {b : Bo
       all : Puts u 0 (0x7B ∷ (g .text ++ closing b)) r o′
       all = puts-on first (puts-on (g .puts) y)
 
-      pub close-more : {room : ℕ} → room < r → Fills (toBiblatexString verb (chunksOf t l)) room u total.More o′
-      close-more k = fills-more [] (append-nil _ ∙ whole) all k
-
-      pub write-done : {room : ℕ} → r ≤ room → Fills (toBiblatexString verb (chunksOf t l)) room u (total.Bytes r) o′
-      write-done k = fills-bytes whole all k
+      pub write-done : {room : ℕ} → Fills (toBiblatexString verb (chunksOf t l)) room u r o′
+      write-done = fills-bytes whole all

@@ -1,22 +1,21 @@
 -- A pass over chunk rows, for both writers: `from b cs` is what a writer makes of the chunks cs where its flag is b.
 --     Passing, passed, at-end      the loop: its invariant, its turn, and its end
---     row-here                     the text of a row that passed the check lies inside the lent text
+--     row-passes, row-here         a row where all pass the check; its text lies inside the lent text
 --     fills-more, fills-bytes      what the pass answers
 -- Assumes nothing.
 use Prim.Native.Nat.{ℕ, _+_, _≤_, _<_}
 use native.Mathlib.Omega.{arith}
-use mathlib.Core.Path.{_≡_, refl, sym, ap, _∙_}
+use mathlib.Core.Path.{_≡_, sym, ap, _∙_}
 use mathlib.Core.Bool.{Bool, true, not}
 use mathlib.Core.List.{List, [], _∷_, _++_, map, append-assoc}
 use lib.ListN.{length, getD, drop, length-append}
 use lib.Seq.{sets}
 use lib.Dec.{leb}
-use borrow.Author.Tests.{leb-true, le-leb, lt-leb}
+use borrow.Author.Tests.{leb-true}
 use Rattle.text.specs.Range.{within}
 use Rattle.text.specs.Utf8.{tail, isBoundary}
 use Rattle.text.proofs.general.Tests.{both-true}
-use Rattle.chunk.specs.declared.answer.Total.the-variants as total
-use Rattle.chunk.specs.Chunk.{Chunk, ChunkRow, chunkRows, chunkOf, isChunk, everyChunk, areChunks, Stores}
+use Rattle.chunk.specs.Chunk.{Chunk, ChunkRow, chunkRows, chunkOf, isChunk, areChunks, Stores}
 use Rattle.chunk.specs.Put.{Puts, Fills}
 use Rattle.chunk.proofs.rows.RowCheck.{rowAt, rows-open, rows-end, Checking, five, opened, check-turn}
 use Rattle.chunk.proofs.texts.Puts.{puts-on}
@@ -46,15 +45,16 @@ pub record Passing (from : Bool → List Chunk → List ℕ) (w t l o₀ : List 
   pub checks : Checking t l i
   pub long : length o ≡ length o₀
 
+module _ {t l : List ℕ} {i : ℕ} (g : Checking t l i) (all-chunks : areChunks t l ≡ true) (h : i < length l) where
+  pub row-passes : isChunk t (rowAt l i) ≡ true
+  row-passes = both-true _ _ (opened g h ∙ all-chunks) .0
+
+  pub row-here : {k f e : ℕ} → Stores l i k f e → (f ≤ e) × (e ≤ length t)
+  row-here s = let y = row-inside t (rowAt l i) row-passes in (omega (arith, y .0, s .from, s .to), omega (arith, y .1, s .to))
+
 module _ {from : Bool → List Chunk → List ℕ} {w t l o₀ : List ℕ} {n₀ : ℕ} {o : List ℕ} {b : Bool} {n i : ℕ}
     (g : Passing from w t l o₀ n₀ o b n i) (all-chunks : areChunks t l ≡ true) where
   module _ (h : i < length l) where
-    both : (isChunk t (rowAt l i) ≡ true) × (everyChunk t (chunkRows (drop (i + 5) l)) ≡ true)
-    both = both-true _ _ (opened (g .checks) h ∙ all-chunks)
-
-    pub row-here : {k f e : ℕ} → Stores l i k f e → (f ≤ e) × (e ≤ length t)
-    row-here s = let y = row-inside t (rowAt l i) (both .0) in (omega (arith, y .0, s .from, s .to), omega (arith, y .1, s .to))
-
     -- the row at i is written as v, and leaves the flag d
     pub passed : {v : List ℕ} {d : Bool} {r : ℕ} {o′ : List ℕ} →
         from b (chunkOf t (rowAt l i) ∷ rest t l (i + 5)) ≡ v ++ from d (rest t l (i + 5)) → Puts o n v r o′ → length o′ ≡ length o →
@@ -67,7 +67,7 @@ module _ {from : Bool → List Chunk → List ℕ} {w t l o₀ : List ℕ} {n₀
           ∙ ap (λ (x : List ℕ). g .text ++ x) (sym e)
           ∙ ap (λ (x : List ChunkRow). g .text ++ from b (map (chunkOf t) x)) (sym (rows-open l i (five (g .checks) h)))
           ∙ g .same;
-      checks = check-turn (g .checks) h (both .0);
+      checks = check-turn (g .checks) h (row-passes (g .checks) all-chunks h);
       long = z ∙ g .long;
     }
 
@@ -77,18 +77,17 @@ module _ {from : Bool → List Chunk → List ℕ} {w t l o₀ : List ℕ} {n₀
 
 -- ---- the answer
 
-pub fills-more : (u : List ℕ) {v w o₀ o : List ℕ} {n room : ℕ} → v ++ u ≡ w → Puts o₀ 0 v n o → room < n → Fills w room o₀ total.More o
-fills-more u {v} {w} {room = room} e y h =
-    record { answer = rw (lt-leb (length w) room long) refl; bytes = λ k. absurd (omega (arith, long, k)) }
-  where
-    long : room < length w
-    long = omega (arith, h, y .end, sym (ap length e), length-append v u)
-
-pub fills-bytes : {v w o₀ o : List ℕ} {n room : ℕ} → v ≡ w → Puts o₀ 0 v n o → n ≤ room → Fills w room o₀ (total.Bytes n) o
-fills-bytes {v} {w} {o₀} {n = n} {room} e y h = record {
-  answer = rw (le-leb (length w) room (omega (arith, h, size))) (ap total.Bytes size);
-  bytes = λ k. y .bytes ∙ ap (sets o₀ 0) e;
+pub fills-more : (u : List ℕ) {v w o₀ o : List ℕ} {n room : ℕ} → v ++ u ≡ w → Puts o₀ 0 v n o → room < n → Fills w room o₀ n o
+fills-more u {v} {w} {n = n} e y h = record {
+  inside = longer (length v) (length u) (length w) (y .end) (sym (length-append v u) ∙ ap length e);
+  whole = λ k. absurd (omega (arith, h, k));
 }
+  where
+    longer : (a b c : ℕ) → n ≡ 0 + a → a + b ≡ c → n ≤ c
+    longer a b c p q = omega arith
+
+pub fills-bytes : {v w o₀ o : List ℕ} {n room : ℕ} → v ≡ w → Puts o₀ 0 v n o → Fills w room o₀ n o
+fills-bytes {v} {w} {o₀} {n = n} e y = record { inside = omega (arith, size); whole = λ k. (size, y .bytes ∙ ap (sets o₀ 0) e) }
   where
     size : n ≡ length w
     size = sum n (length v) (length w) (y .end) (ap length e)

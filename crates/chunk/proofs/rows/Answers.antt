@@ -1,10 +1,11 @@
 -- What the check and the writers answer.
 --     ill-formed, bad-rows, passed    what the check answers
 --     are-chunks                      what is so where the check passes
---     refused, no-room, wrote         what a writer answers, by the check's answer and by what its first pass counts
+--     refused, no-room, wrote         what a writer answers, by the check's answer and by what its passes come to
+--     all-fits                        a text fits where a pass over it comes no farther than the room
 --     written                         what a writer has written
 -- Assumes nothing.
-use Prim.Native.Nat.{ℕ}
+use Prim.Native.Nat.{ℕ, _≤_, _<_}
 use native.Mathlib.Omega.{arith}
 use mathlib.Core.Path.{_≡_, refl, sym, ap, subst, _∙_}
 use mathlib.Core.Bool.{Bool, true, false, cond}
@@ -12,7 +13,7 @@ use mathlib.Core.List.{List, _++_}
 use lib.ListN.{length, take, drop}
 use lib.Seq.{take-at}
 use lib.Dec.{leb}
-use borrow.Author.Tests.{leb-true}
+use borrow.Author.Tests.{le-leb, lt-leb}
 use Rattle.text.specs.Utf8.{validityOf}
 use Rattle.text.specs.declared.utf8.Validity.{Validity}
 use Rattle.text.specs.declared.utf8.Validity.the-variants as validity
@@ -21,11 +22,9 @@ use Rattle.row.specs.declared.fault.Fault.{Fault}
 use Rattle.row.specs.Fault.{faultAt, nowhere}
 use Rattle.chunk.specs.declared.answer.Checked.{Checked}
 use Rattle.chunk.specs.declared.answer.Checked.the-variants as checked
-use Rattle.chunk.specs.declared.answer.Total.{Total}
-use Rattle.chunk.specs.declared.answer.Total.the-variants as total
 use Rattle.row.specs.declared.fault.Outcome.the-variants as outcome
 use Rattle.chunk.specs.Chunk.{areChunks}
-use Rattle.chunk.specs.Put.{totalOf, Fills}
+use Rattle.chunk.specs.Put.{Fills}
 use Rattle.chunk.specs.Write.{rowsChecked, checkedOf, Write}
 use Rattle.chunk.proofs.texts.Puts.{sets-fits}
 
@@ -57,29 +56,27 @@ are-chunks t l e = both-passed t l (validityOf t) (sym e)
 
 -- ---- a writer
 
+-- a pass that comes no farther than the room shows that the whole text fits
+pub all-fits : {w : List ℕ} {room : ℕ} {o : List ℕ} {r : ℕ} {o′ : List ℕ} → Fills w room o r o′ → r ≤ room → length w ≤ room
+all-fits f h = omega (arith, f .whole h .0)
+
 module _ {c : Checked} {w b : List ℕ} where
   pub refused : {f : Fault} → c ≡ checked.Refused f → Write c w b (outcome.Refused f) b
   refused {f} e = subst (λ (x : Checked). Write x w b (outcome.Refused f) b) (sym e) (record { answer = refl; bytes = refl })
 
-  pub no-room : c ≡ checked.Passed → totalOf w (length b) ≡ total.More → Write c w b (outcome.Refused (nowhere NoRoom)) b
-  no-room e q = subst (λ (x : Checked). Write x w b (outcome.Refused (nowhere NoRoom)) b) (sym e) (by (leb (length w) (length b)) refl q)
-    where
-      by : (x : Bool) → leb (length w) (length b) ≡ x → cond x (total.Bytes (length w)) total.More ≡ total.More →
-          Write checked.Passed w b (outcome.Refused (nowhere NoRoom)) b
-      by true p q = let z : _≡_ {A = ℕ} 0 1 = cc in absurd (omega arith)
-      by false p q = record { answer = rw p refl; bytes = rw p refl }
+  -- a pass came past the room
+  pub no-room : {r : ℕ} {o o′ : List ℕ} → c ≡ checked.Passed → Fills w (length b) o r o′ → length b < r →
+      Write c w b (outcome.Refused (nowhere NoRoom)) b
+  no-room e f h =
+      let few = lt-leb (length w) (length b) (omega (arith, f .inside)) in
+      subst (λ (x : Checked). Write x w b (outcome.Refused (nowhere NoRoom)) b) (sym e) (record { answer = rw few refl; bytes = rw few refl })
 
-  pub wrote : {n : ℕ} {r : Total} {b′ : List ℕ} → c ≡ checked.Passed → totalOf w (length b) ≡ total.Bytes n → Fills w (length b) b r b′ →
-      Write c w b (outcome.Count n) b′
-  wrote {n} {b′ = b′} e q f = subst (λ (x : Checked). Write x w b (outcome.Count n) b′) (sym e) (by (leb (length w) (length b)) refl q)
-    where
-      by : (x : Bool) → leb (length w) (length b) ≡ x → cond x (total.Bytes (length w)) total.More ≡ total.Bytes n →
-          Write checked.Passed w b (outcome.Count n) b′
-      by true p q =
-          let m : length w ≡ n = cc in
-          let l = leb-true (length w) (length b) p in
-          record { answer = rw p (ap outcome.Count (sym m)); bytes = f .bytes l ∙ sets-fits w b l ∙ rw p refl }
-      by false p q = let z : _≡_ {A = ℕ} 0 1 = cc in absurd (omega arith)
+  pub wrote : {r : ℕ} {b′ : List ℕ} → c ≡ checked.Passed → length w ≤ length b → Fills w (length b) b r b′ → Write c w b (outcome.Count r) b′
+  wrote {r} {b′} e l f =
+      let full = f .whole (omega (arith, f .inside)) in
+      let enough = le-leb (length w) (length b) l in
+      subst (λ (x : Checked). Write x w b (outcome.Count r) b′) (sym e)
+      (record { answer = rw enough (ap outcome.Count (full .0)); bytes = full .1 ∙ sets-fits w b l ∙ rw enough refl })
 
 pub written : (c : Checked) {w b b′ : List ℕ} {n : ℕ} → Write c w b (outcome.Count n) b′ → (c ≡ checked.Passed) × (take n b′ ≡ w)
 written (checked.Refused f) h = let e = h .answer in let z : _≡_ {A = ℕ} 0 1 = cc in absurd (omega arith)

@@ -1,6 +1,7 @@
 -- The check of chunk rows.
 --     rows-open, rows-end          the rows from a number on: the next and those behind it, or none
 --     told                         the test of a row, by the numbers that the code reads
+--     starts                       where the loop begins, over rows that all pass
 --     check-turn, check-stop       the loop goes on at a row that passes the test, and stops at one that does not
 --     check-count, check-done      the answer where the numbers are no whole count of rows; the answer behind the last row
 -- Assumes nothing.
@@ -10,7 +11,9 @@ use mathlib.Core.Path.{_≡_, refl, sym, ap, ap₂, _∙_}
 use mathlib.Core.Bool.{Bool, true, false, _&&_}
 use mathlib.Core.List.{List, [], _∷_}
 use lib.ListN.{length, getD, drop, drop-of-length-le}
-use borrow.Author.Tests.{eq-eqb, ne-eqb}
+use lib.Dec.{eqb}
+use borrow.Author.Tests.{eqb-true, eq-eqb, ne-eqb}
+use Rattle.text.proofs.general.Tests.{both-true}
 use Rattle.text.proofs.general.Places.{drop-next, drop-more}
 use Rattle.text.specs.Every.{every}
 use Rattle.chunk.specs.Chunk.{ChunkRow, chunkRow, chunkRows, Stores, isChunk, everyChunk, areChunks}
@@ -47,6 +50,10 @@ pub record Checking (t l : List ℕ) (i : ℕ) : Type 0 where
 pub checking : (t l : List ℕ) → length l % 5 ≡ 0 → Checking t l 0
 unfolding areChunks
 checking t l h = record { same = rw (eq-eqb (length l % 5) 0 h) refl; whole = omega arith; inside = omega arith }
+
+pub starts : (t l : List ℕ) → areChunks t l ≡ true → Checking t l 0
+unfolding areChunks
+starts t l e = checking t l (eqb-true (length l % 5) 0 (both-true (eqb (length l % 5) 0) (everyChunk t (chunkRows l)) e .0))
 
 module _ {t l : List ℕ} {i : ℕ} (g : Checking t l i) where
   module _ (h : i < length l) where

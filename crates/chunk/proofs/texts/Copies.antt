@@ -1,26 +1,45 @@
--- Bytes of a text copied over lent bytes, one by one.
---     copy-start, copy-on, copied    where the loop begins, its turn, and its end
---     copy-past                      copying past the end of the lent bytes changes nothing
+-- Bytes of a text copied over lent bytes, as far as they fit.
+--     copied       as many as there is room for
+--     copy-past    copying past the end of the lent bytes changes nothing
 -- Assumes nothing.
 use Prim.Native.Nat.{ℕ, _+_, _-_, _≤_, _<_}
-use mathlib.Core.Path.{_≡_, sym, ap}
-use mathlib.Core.List.{List, [], _∷_}
-use lib.ListN.{length, getD}
+use native.Mathlib.Omega.{arith}
+use mathlib.Core.Path.{_≡_, refl, sym, ap, subst, _∙_}
+use mathlib.Core.Bool.{Bool, true, false}
+use mathlib.Core.List.{List}
+use lib.ListN.{length}
+use lib.Dec.{ltb}
+use lib.Seq.{sets, length-sets}
+use borrow.Author.Tests.{ltb-true, ltb-false}
 use Rattle.text.specs.Scan.{part}
 use Rattle.chunk.specs.Put.{Puts}
-use Rattle.text.proofs.general.Parts.{part-none, part-more, length-part}
-use Rattle.chunk.proofs.texts.Puts.{puts-none, puts-past, puts-on, puts-as}
+use Rattle.text.proofs.general.Parts.{part-join, length-part}
+use Rattle.chunk.proofs.texts.Puts.{puts-past, puts-on, puts-as}
 
-module _ (s : List ℕ) (a : ℕ) where
-  pub copy-start : (o : List ℕ) (n : ℕ) → Puts o n (part s a a) n o
-  copy-start o n = puts-as (sym (part-none s a)) (puts-none o n)
+module _ (s : List ℕ) (a e : ℕ) {o : List ℕ} {n : ℕ} (h : a ≤ e) (l : e ≤ length s) where
+  pub copy-past : length o ≤ n → Puts o n (part s a e) (n + (e - a)) o
+  copy-past k = puts-past (part s a e) k (ap (λ (m : ℕ). n + m) (sym (length-part s a e h l)))
 
-  pub copy-on : {o₀ o o′ : List ℕ} {n i j r : ℕ} → a ≤ i → i < length s → Puts o₀ n (part s a i) j o → Puts o j (getD s i 0 ∷ []) r o′ →
-      Puts o₀ n (part s a (i + 1)) r o′
-  copy-on {i = i} h l p q = puts-as (sym (part-more s a i h l)) (puts-on p q)
+  -- the first m bytes, which are all, or fill what is lent
+  pub copied : (m : ℕ) {o′ : List ℕ} → m ≤ e - a → (m < e - a → length o ≤ n + m) → o′ ≡ sets o n (part s a (a + m)) →
+      Puts o n (part s a e) (n + (e - a)) o′
+  copied m {o′} k full q = by (ltb m (e - a)) refl
+    where
+      first : Puts o n (part s a (a + m)) (n + m) o′
+      first = record { end = ap (λ (k : ℕ). n + k) (size (length-part s a (a + m) (omega arith) (omega arith))); bytes = q }
+        where
+          size : {k : ℕ} → k ≡ a + m - a → m ≡ k
+          size p = omega arith
 
-  pub copied : {o₀ o : List ℕ} {e n i j : ℕ} → i ≡ e → Puts o₀ n (part s a i) j o → Puts o₀ n (part s a e) j o
-  copied q p = puts-as (ap (part s a) q) p
-
-  pub copy-past : (e : ℕ) {o : List ℕ} {n : ℕ} → a ≤ e → e ≤ length s → length o ≤ n → Puts o n (part s a e) (n + (e - a)) o
-  copy-past e {n = n} h l k = puts-past (part s a e) k (ap (λ (m : ℕ). n + m) (sym (length-part s a e h l)))
+      by : (t : Bool) → ltb m (e - a) ≡ t → Puts o n (part s a e) (n + (e - a)) o′
+      by true x =
+          let less = ltb-true m (e - a) x in
+          let long : length o′ ≤ n + m = omega (arith, full less, ap length q ∙ length-sets o n (part s a (a + m))) in
+          let end : n + (e - a) ≡ n + m + length (part s (a + m) e) = omega (arith, length-part s (a + m) e (omega arith) l) in
+          puts-as (sym (part-join s a (a + m) e (omega arith) (omega arith) l)) (puts-on first (puts-past (part s (a + m) e) long end))
+      by false x =
+          let all : m ≡ e - a = omega (arith, ltb-false m (e - a) x) in
+          puts-as (ap (part s a) (back h)) (subst (λ (k : ℕ). Puts o n (part s a (a + k)) (n + k) o′) all first)
+        where
+          back : a ≤ e → a + (e - a) ≡ e
+          back h = omega arith

@@ -3,23 +3,28 @@
 --     last-less                             the last character of a text that is not empty begins inside it
 --     last-char                             behind any octets, the last character is the last sequence
 --     code-seen                             the code point of the character at a place
---     white-none, white-last                whether a text ends in white space
+--     white-none, white-last, white-ascii   whether a text ends in white space: an empty one, by its last character, by a last octet of ASCII
 -- Assumes nothing.
-use Prim.Native.Nat.{ℕ, suc, _+_, _-_, _≤_, _<_}
+use Prim.Native.Nat.{ℕ, suc, _+_, _-_, _%_, _≤_, _<_}
 use native.Mathlib.Omega.{arith}
 use mathlib.Core.Path.{_≡_, refl, sym, ap, _∙_}
-use mathlib.Core.Bool.{Bool, true, false, cond}
+use mathlib.Core.Bool.{Bool, true, false, cond, _&&_, _||_, Bool·beq}
 use mathlib.Core.List.{List, [], _∷_, _++_}
-use lib.ListN.{length, getD, take, drop}
+use lib.ListN.{length, getD, take, drop, length-append}
+use lib.Seq.{drop-append-seam}
+use lib.Dec.{eqb, leb}
 use borrow.Author.Tests.{not-true, not-false}
 use Rattle.text.specs.Range.{within}
-use Rattle.text.specs.Utf8.{tail, isChar, isBoundary}
-use Rattle.text.specs.Class.{isWhitespace}
+use Rattle.text.specs.Utf8.{tail, isChar, isBoundary, value, gather}
+use Rattle.text.specs.Class.{isWhitespace, whiteSpace}
 use Rattle.text.specs.Scan.{part, code, seeFrom}
 use Rattle.text.specs.declared.scanner.Seen.{Seen}
 use Rattle.text.specs.declared.scanner.Seen.the-variants.{End, Char}
 use Rattle.text.proofs.general.Places.{boundary-in}
+use Rattle.text.specs.Shapes.{one}
 use Rattle.text.proofs.Shapes.{shapes}
+use Rattle.text.proofs.general.Tests.{beq-eq}
+use Rattle.text.proofs.general.Below.{each}
 use Rattle.chunk.specs.Format.{lastFrom, lastAt, lastCode, endsWhite}
 use Rattle.text.proofs.general.Parts.{part-none, part-more, length-part, drop-part, part-drop}
 use Rattle.text.proofs.general.Lists.{add-over}
@@ -130,12 +135,45 @@ white-none t a e h l = sym (ap endsWhite (ap (λ (n : ℕ). part t n e) same ∙
     same : a ≡ e
     same = omega arith
 
+some-white : (t : List ℕ) → 0 < length t → isWhitespace (lastCode t) ≡ endsWhite t
+some-white [] h = absurd (omega arith)
+some-white (b ∷ t) h = refl
+
 pub white-last : (t : List ℕ) (a e at c : ℕ) → a < e → e ≤ length t → at ≡ a + lastAt (part t a e) → c ≡ code (part t at e) →
     isWhitespace c ≡ endsWhite (part t a e)
 white-last t a e at c l n p q =
     ap isWhitespace (q ∙ ap (λ (n : ℕ). code (part t n e)) p ∙ sym (ap code (drop-part t a e (lastAt (part t a e)))))
-    ∙ by (part t a e) (omega (arith, l, length-part t a e (omega arith) n))
+    ∙ some-white (part t a e) (omega (arith, l, length-part t a e (omega arith) n))
+
+-- white space of ASCII, as the code tests it
+abbrev narrow : ℕ → Bool
+narrow b = eqb b 0x20 || (leb 0x09 b && leb b 0x0D)
+
+narrow-white : (b : ℕ) → b < 0x80 → narrow b ≡ isWhitespace b
+unfolding isWhitespace whiteSpace
+narrow-white b h = beq-eq (narrow b) (isWhitespace b) (each (λ n. Bool·beq (narrow n) (isWhitespace n)) 128 tt b h)
+
+-- an octet of ASCII at the end is the last character
+ends-ascii : (u : List ℕ) (b : ℕ) → b < 0x80 → lastCode (u ++ b ∷ []) ≡ b
+unfolding value gather
+ends-ascii u b k =
+    let char = shapes .shape-char (one {a = b} (omega arith)) in
+    ap (λ (n : ℕ). code (drop n (u ++ b ∷ []))) (last-char u (b ∷ []) char)
+    ∙ ap code (drop-append-seam u (b ∷ []))
+    ∙ shapes .code-char (b ∷ []) [] char
+    ∙ low b k
   where
-    by : (t : List ℕ) → 0 < length t → isWhitespace (lastCode t) ≡ endsWhite t
-    by [] h = absurd (omega arith)
-    by (b ∷ t) h = refl
+    low : (b : ℕ) → b < 0x80 → b % 128 ≡ b
+    low b k = omega arith
+
+pub white-ascii : (t : List ℕ) (a e : ℕ) → a < e → e ≤ length t → getD t (e - 1) 0 < 0x80 → narrow (getD t (e - 1) 0) ≡ endsWhite (part t a e)
+white-ascii t a e h l k =
+    let b = getD t (e - 1) 0 in
+    let u = part t a (e - 1) in
+    narrow-white b k
+    ∙ ap isWhitespace (sym (ends-ascii u b k))
+    ∙ some-white (u ++ b ∷ []) (omega (arith, length-append u (b ∷ [])))
+    ∙ ap endsWhite (sym (part-more t a (e - 1) (omega arith) (omega arith)) ∙ ap (part t a) (again h))
+  where
+    again : a < e → e - 1 + 1 ≡ e
+    again h = omega arith

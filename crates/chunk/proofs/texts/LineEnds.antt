@@ -1,14 +1,20 @@
 -- A Normal text, run by run between its line ends.
---     plain-start, plain-on, stops-at, stops-end    how far a run goes
+--     plain-start, plain-on, plain-clear            a run: the empty one, with one octet more, a stretch without bytes below 0x0E
+--     stops-at, stops-end                           how far a run goes
 --     Lining, lining, runs, passes, blanks          the loop that writes the text: its invariant, where it begins, and its three turns
 --     finished                                      where the loop ends
 -- Assumes nothing.
-use Prim.Native.Nat.{ℕ, _+_, _-_, _≤_, _<_}
+use Prim.Native.Nat.{ℕ, zero, suc, _+_, _-_, _≤_, _<_}
 use native.Mathlib.Omega.{arith}
-use mathlib.Core.Path.{_≡_, refl, sym, ap, ap₂, _∙_}
+use mathlib.Core.Path.{_≡_, refl, sym, ap, ap₂, subst, _∙_}
 use mathlib.Core.Bool.{Bool, true, false, cond, not, _&&_}
 use mathlib.Core.List.{List, [], _∷_, _++_, append-assoc, append-nil}
-use lib.ListN.{length, getD}
+use lib.ListN.{length, getD, take}
+use lib.Seq.{length-take-le, getD-take}
+use native.Mathlib.Nat.{add-zero}
+use borrow.Author.Tests.{ne-eqb}
+use Rattle.text.specs.Block.{inSet, lines as lineBytes, Clear}
+use Rattle.text.proofs.general.Tests.{told-apart}
 use Rattle.text.specs.Scan.{part}
 use Rattle.chunk.specs.Format.{Written, written, before, endsWhite, isLineEnd, lines}
 use Rattle.chunk.specs.Inner.{plain, stops}
@@ -31,9 +37,37 @@ pub plain-start : (t : List ℕ) (a : ℕ) → plain (part t a a) ≡ true
 unfolding plain
 plain-start t a = ap plain (part-none t a)
 
+-- a byte that is not below 0x0E is no line end
+high-bytes : (b : ℕ) → inSet lineBytes b ≡ false → isLineEnd b ≡ false
+unfolding inSet
+high-bytes b h = rw (ne-eqb b 0x0A (told-apart (inSet lineBytes) 0x0A refl h), ne-eqb b 0x0D (told-apart (inSet lineBytes) 0x0D refl h))
+
 pub plain-on : (t : List ℕ) (a i : ℕ) → a ≤ i → i < length t → plain (part t a i) ≡ true → isLineEnd (getD t i 0) ≡ false →
     plain (part t a (i + 1)) ≡ true
 plain-on t a i l n h e = ap plain (part-more t a i l n) ∙ plain-snoc (part t a i) (getD t i 0) h e
+
+-- a stretch of the text that ends at e, without a byte below 0x0E
+pub plain-clear : (t : List ℕ) (a e : ℕ) {r : ℕ} → a ≤ e → e ≤ length t → Clear lineBytes (take e t) a r →
+    (a ≤ r) × (r ≤ e) × (plain (part t a r) ≡ true)
+plain-clear t a e {r} h l x =
+    (x .from, end, subst (λ (k : ℕ). plain (part t a k) ≡ true) (back (x .from)) (on (r - a) (omega (arith, end, x .from)) (λ k p q. x .clear k p (omega arith) .1)))
+  where
+    end : r ≤ e
+    end = omega (arith, x .to, length-take-le e t l)
+
+    back : a ≤ r → a + (r - a) ≡ r
+    back h = omega arith
+
+    next : (n : ℕ) → a + n + 1 ≡ a + suc n
+    next n = omega arith
+
+    on : (n : ℕ) → a + n ≤ e → ((k : ℕ) → a ≤ k → k < a + n → inSet lineBytes (getD (take e t) k 0) ≡ false) → plain (part t a (a + n)) ≡ true
+    on zero h c = subst (λ (k : ℕ). plain (part t a k) ≡ true) (sym (add-zero a)) (plain-start t a)
+    on (suc n) h c =
+        let other = high-bytes (getD (take e t) (a + n) 0) (c (a + n) (omega arith) (omega arith)) in
+        let here = sym (ap isLineEnd (getD-take e t (a + n) 0 (omega arith))) ∙ other in
+        subst (λ (k : ℕ). plain (part t a k) ≡ true) (next n)
+        (plain-on t a (a + n) (omega arith) (omega arith) (on n (omega arith) (λ k p q. c k p (omega arith))) here)
 
 pub stops-at : (t : List ℕ) (i e : ℕ) → i < e → e ≤ length t → isLineEnd (getD t i 0) ≡ true → stops (part t i e) ≡ true
 stops-at t i e h l q = ap stops (part-head t i e h l) ∙ q

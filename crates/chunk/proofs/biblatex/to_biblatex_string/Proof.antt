@@ -20,14 +20,14 @@ write-all-requires c κs =
 
 returns-2 : tie.Need-returns-2
 returns-2 c =
-    let write-all = c .before .before .before in
-    let told = write-all .before .before in
+    let counted = c .before .before in
+    let told = counted .before .before in
     let passed = sym (told .before .before .check .ensures) ∙ told .enum-told .given .1 in
-    laws.no-room passed (sym (write-all .write-all .ensures .answer) ∙ c .enum-told2 .given .1)
+    laws.no-room passed (counted .write-all .ensures) (c .if1 .taken)
 
 write-all-requires-2 : tie.Need-write-all-requires-2
 write-all-requires-2 c κs =
-    let told = c .before .before .before .before .before .before .before in
+    let told = c .before .before .before .before .before in
     let entry = told .before .before .before .before .before .before in
     let a = entry .args in
     let passed = laws.are-chunks (a .t .now) (a .rows .now) (sym (told .before .before .check .ensures) ∙ told .enum-told .given .1) in
@@ -35,12 +35,12 @@ write-all-requires-2 c κs =
 
 returns-3 : tie.Need-returns-3
 returns-3 c =
-    let write-all2 = c .before .before in
-    let first = write-all2 .before .before .before in
-    let told = first .before .before .before .before .before in
+    let written = c .before .before in
+    let fit = written .before .before in
+    let counted = fit .before .before in
+    let told = counted .before .before in
     let passed = sym (told .before .before .check .ensures) ∙ told .enum-told .given .1 in
-    let count = sym (first .before .before .before .write-all .ensures .answer) ∙ first .n .given .1 in
-    laws.wrote passed count (write-all2 .write-all2 .ensures)
+    laws.wrote passed (laws.all-fits (counted .write-all .ensures) (fit .if1 .left)) (written .write-all2 .ensures)
 
 pub to-biblatex-string-spec : {M : Type 1} → statement M
 to-biblatex-string-spec =
@@ -52,9 +52,7 @@ to-biblatex-string-spec =
     (λ c. search needs)
     (λ c. search needs)
     write-all-requires
-    (λ c. search needs)
     returns-2
-    (λ c. search needs)
     write-all-requires-2
     (λ c. search needs)
     returns-3)

@@ -39,7 +39,7 @@ put-body-requires c κs =
     let p = turn .before .before .before .before .before .before .before .before .pre in
     let g = turn .loop .inv in
     let row = read .row-at .ensures in
-    let fit = row-here (g .0) (p .0) (read .before .loop-test .taken) row in
+    let fit = row-here (g .0 .checks) (p .0) (read .before .loop-test .taken) row in
     (fit .0, fit .1, omega (arith, row .small, g .1, p .1, opened .put-opening .ensures .1))
 
 same-length : tie.Need-same-length Inv-loop μ-loop
@@ -92,34 +92,18 @@ put-closing-requires c κs =
 
 same-length-2 : tie.Need-same-length-2 Inv-loop μ-loop
 same-length-2 c =
-    let put-closing = c .before .before .before in
+    let put-closing = c .before .before in
     let turn = put-closing .before .before .before in
     put-closing .put-closing .kept .1 .0 ∙ (turn .loop .inv .0 .long ∙ turn .before .before .before .put .kept .0)
 
 returns-2 : tie.Need-returns-2 Inv-loop μ-loop
 returns-2 c =
-    let y = c .before .before .before in
+    let y = c .before .before in
     let last = y .before .before in
     let turn = last .before in
     let entry = turn .before .before .before .before .before .before .before .before in
     let first = turn .before .before .before .put .ensures .0 in
-    laws.close-more (entry .args .verb) (turn .loop .inv .0) first (entry .pre .0) (last .loop-test .left) (y .put-closing .ensures .0)
-    (c .if2 .taken)
-
-same-length-3 : tie.Need-same-length-3 Inv-loop μ-loop
-same-length-3 c =
-    let put-closing = c .before .before .before in
-    let turn = put-closing .before .before .before in
-    put-closing .put-closing .kept .1 .0 ∙ (turn .loop .inv .0 .long ∙ turn .before .before .before .put .kept .0)
-
-returns-3 : tie.Need-returns-3 Inv-loop μ-loop
-returns-3 c =
-    let y = c .before .before .before in
-    let last = y .before .before in
-    let turn = last .before in
-    let entry = turn .before .before .before .before .before .before .before .before in
-    let first = turn .before .before .before .put .ensures .0 in
-    laws.write-done (entry .args .verb) (turn .loop .inv .0) first (entry .pre .0) (last .loop-test .left) (y .put-closing .ensures .0) (c .if2 .left)
+    laws.write-done (entry .args .verb) (turn .loop .inv .0) first (entry .pre .0) (last .loop-test .left) (y .put-closing .ensures .0)
 
 pub write-all-spec : {M : Type 1} → statement M
 write-all-spec =
@@ -141,6 +125,4 @@ write-all-spec =
     loop-again
     put-closing-requires
     same-length-2
-    returns-2
-    same-length-3
-    returns-3)
+    returns-2)

@@ -30,7 +30,7 @@ format-one-requires c κs =
     let p = turn .before .before .before .before .pre in
     let g = turn .loop .inv in
     let row = c .before .before .row-at .ensures in
-    let fit = row-here (g .0) (p .0) (c .before .before .before .loop-test .taken) row in
+    let fit = row-here (g .0 .checks) (p .0) (c .before .before .before .loop-test .taken) row in
     (fit .0, fit .1, omega (arith, row .small, g .1, p .1))
 
 same-length : tie.Need-same-length Inv-loop μ-loop
@@ -71,7 +71,7 @@ returns-2 : tie.Need-returns-2 Inv-loop μ-loop
 returns-2 c =
     let g = c .before in
     let begin = g .before .before .before .before in
-    laws.format-done (g .loop .inv .0) (begin .pre .0) (c .loop-test .left) (g .loop .inv .1)
+    laws.format-done (g .loop .inv .0) (begin .pre .0) (c .loop-test .left)
 
 pub format-all-spec : {M : Type 1} → statement M
 format-all-spec =

@@ -1,33 +1,47 @@
 -- `chunk::format::format_verbatim` meets its contract. Assumes nothing.
+use Prim.Native.Nat.{_≤_}
 use native.Mathlib.Omega.{arith}
 use mathlib.Core.Path.{sym, _∙_}
+use mathlib.Core.Logic.{⊎-elim}
+use lib.ListN.{length}
 use borrow.Author.Needs.{needs}
+use borrow.Author.Tests.{not-false}
+use Rattle.chunk.specs.Chunk.{chunksOf}
+use Rattle.chunk.specs.Format.{formatVerbatim}
 use Rattle.chunk.proofs.rows.Answers as laws
+use Rattle.chunk.proofs.passes.Bounds.{surely}
 use Rattle.chunk.proofs.format.format_verbatim.Statement.{statement}
 use Rattle.chunk.proofs.format.format_verbatim.Tie as tie
 
 returns : tie.Need-returns
 returns c = laws.refused (sym (c .before .before .before .check .ensures) ∙ c .before .f .given .1)
 
-format-all-requires : tie.Need-format-all-requires
-format-all-requires c κs =
-    let enum-told = c .before in
-    let check = enum-told .before .before in
+surely-fits-requires : tie.Need-surely-fits-requires
+surely-fits-requires c κs =
+    let check = c .before .before in
     let entry = check .before .before .before .before in
     let a = entry .args in
-    let passed = laws.are-chunks (a .t .now) (a .rows .now) (sym (check .check .ensures) ∙ enum-told .enum-told .given .1) in
+    let passed = laws.are-chunks (a .t .now) (a .rows .now) (sym (check .check .ensures) ∙ c .enum-told .given .1) in
+    ((a .t .now, passed .1), omega (arith, entry .good .1 .1 .0 .1))
+
+format-all-requires : tie.Need-format-all-requires
+format-all-requires c κs =
+    let told = c .before .before .before in
+    let entry = told .before .before .before .before .before .before in
+    let a = entry .args in
+    let passed = laws.are-chunks (a .t .now) (a .rows .now) (sym (told .before .before .check .ensures) ∙ told .enum-told .given .1) in
     (passed .1, omega (arith, entry .good .1 .1 .0 .1))
 
 returns-2 : tie.Need-returns-2
 returns-2 c =
-    let format-all = c .before .before .before in
-    let told = format-all .before .before in
+    let counted = c .before .before in
+    let told = counted .before .before .before .before in
     let passed = sym (told .before .before .check .ensures) ∙ told .enum-told .given .1 in
-    laws.no-room passed (sym (format-all .format-all .ensures .answer) ∙ c .enum-told2 .given .1)
+    laws.no-room passed (counted .format-all .ensures) (c .if2 .taken)
 
 format-all-requires-2 : tie.Need-format-all-requires-2
 format-all-requires-2 c κs =
-    let told = c .before .before .before .before .before .before .before in
+    let told = c .before .before .before in
     let entry = told .before .before .before .before .before .before in
     let a = entry .args in
     let passed = laws.are-chunks (a .t .now) (a .rows .now) (sym (told .before .before .check .ensures) ∙ told .enum-told .given .1) in
@@ -35,12 +49,18 @@ format-all-requires-2 c κs =
 
 returns-3 : tie.Need-returns-3
 returns-3 c =
-    let format-all2 = c .before .before in
-    let first = format-all2 .before .before .before in
-    let told = first .before .before .before .before .before in
+    let written = c .before .before in
+    let joined = written .before .before in
+    let asked = joined .before in
+    let told = asked .before in
+    let entry = told .before .before .before .before .before .before in
+    let a = entry .args in
     let passed = sym (told .before .before .check .ensures) ∙ told .enum-told .given .1 in
-    let count = sym (first .before .before .before .format-all .ensures .answer) ∙ first .n .given .1 in
-    laws.wrote passed count (format-all2 .format-all2 .ensures)
+    let fits : length (formatVerbatim (chunksOf (a .t .now) (a .rows .now))) ≤ length (a .out .now) =
+    ⊎-elim (λ w. laws.all-fits (w .2 .ensures) (w .4 .left))
+    (λ w. surely (a .t .now) (a .rows .now) (sym (asked .surely-fits .ensures) ∙ not-false _ (w .left)))
+    (joined .if1 .came) in
+    laws.wrote passed fits (written .format-all2 .ensures)
 
 pub format-verbatim-spec : {M : Type 1} → statement M
 format-verbatim-spec =
@@ -50,11 +70,10 @@ format-verbatim-spec =
     (λ c. search needs)
     returns
     (λ c. search needs)
+    surely-fits-requires
     (λ c. search needs)
     format-all-requires
-    (λ c. search needs)
     returns-2
-    (λ c. search needs)
     format-all-requires-2
     (λ c. search needs)
     returns-3)
