@@ -1,5 +1,6 @@
 // Text under construction, in lent bytes. Functions are given the place where the text ends so far, write behind it, and return the new end.
 // An argument's text is made behind that of its parent. What lies past the end has no meaning, and `wipe` clears it before a call returns.
+use text::block;
 use text::utf8;
 use text::utf8::Encoded;
 ghost use mathlib.Core.Path.{_≡_};
@@ -17,14 +18,9 @@ pub fn copy(s: &[u8], from: usize, to: usize, out: &mut [u8], at: usize) -> usiz
     ensures { λ r. ⌜ Lays at (part (now (s .entry)) from to) (now (out .entry)) r (now (out .exit)) ⌝ }
     ensures { λ r. ⌜ r + from ≡ at + to ⌝ }
 {
-    let mut i = from;
-    let mut j = at;
-    while i < to {
-        out[j] = s[i];
-        i += 1;
-        j += 1;
-    }
-    j
+    let n = to - from;
+    block::copy(s, from, n, out, at);
+    at + n
 }
 
 // One byte.

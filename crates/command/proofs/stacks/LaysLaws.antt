@@ -1,6 +1,7 @@
 -- Laws of `Lays`, and of the functions of src/stack.rt.
 --     lays-none, lays-on, lays-as, lays-still       laying nothing; one text after another; an equal text; a text that stands there already
---     copy-on, copied, pushed, coded, wipe-on       for `copy`, `push`, `put_code`, `wipe`
+--     lays-sets                                     a text that is stored
+--     copied, pushed, coded, wipe-on                for `copy`, `push`, `put_code`, `wipe`
 --     octets-few, octets-one, ..                    how many octets a character has
 -- Assumes nothing.
 use Prim.Native.Nat.{ℕ, suc, _+_, _-_, _/_, _≤_, _<_, min}
@@ -9,15 +10,15 @@ use native.Mathlib.Numerals.{add-one}
 use mathlib.Core.Path.{_≡_, refl, sym, ap, subst, _∙_}
 use mathlib.Core.Bool.{Bool, true, false, cond}
 use mathlib.Core.List.{List, [], _∷_, _++_, append-assoc, append-nil}
-use lib.ListN.{length, getD, take, drop, set, replicate, length-append, length-drop, length-take, replicate-append-replicate}
-use lib.Seq.{take-suc-set, take-length, take-all, take-take, length-take-le, take-append-add, take-at, drop-append-seam}
+use lib.ListN.{length, take, drop, set, replicate, length-append, length-drop, length-take, replicate-append-replicate}
+use lib.Seq.{sets, sets-eq, take-suc-set, take-length, take-all, take-take, length-take-le, take-append-add, take-at, drop-append-seam}
 use lib.Dec.{leb}
 use borrow.Author.Tests.{le-leb}
 use Rattle.text.specs.Utf8.{isScalar, octets, further, fits, Encode}
 use Rattle.text.specs.declared.utf8.Encoded.{Encoded}
 use Rattle.text.specs.declared.utf8.Encoded.the-variants as encoded
 use Rattle.text.specs.Scan.{part}
-use Rattle.text.proofs.general.Parts.{part-more, length-part, part-drop}
+use Rattle.text.proofs.general.Parts.{length-part, part-drop}
 use Rattle.command.specs.Stack.{Lays}
 use Rattle.command.proofs.stacks.MoreParts.{take-part}
 
@@ -55,29 +56,29 @@ lays-still o a e h l = record {
 
 -- ---- `copy` and `push`
 
--- `copy` after one octet more
-pub copy-on : (s o₀ o : List ℕ) (a i j n x : ℕ) → a ≤ i → i < length s → j < length o → x ≡ getD s i 0
-    → take j o ≡ take n o₀ ++ part s a i → take (j + 1) (set o j x) ≡ take n o₀ ++ part s a (i + 1)
-copy-on s o₀ o a i j n x h l k e q =
-    ap (λ (m : ℕ). take m (set o j x)) (add-one j)
-    ∙ take-suc-set o j x k
-    ∙ ap (λ (t : List ℕ). t ++ (x ∷ [])) q
-    ∙ append-assoc (take n o₀) (part s a i) (x ∷ [])
-    ∙ ap (λ (b : ℕ). take n o₀ ++ (part s a i ++ (b ∷ []))) e
-    ∙ ap (λ (t : List ℕ). take n o₀ ++ t) (sym (part-more s a i h l))
-
-pub copied : (s o₀ o : List ℕ) (a e i j n : ℕ) → a ≤ e → e ≤ length s → i ≡ e → j + a ≡ n + e
-    → take j o ≡ take n o₀ ++ part s a i → Lays n (part s a e) o₀ j o
-copied s o₀ o a e i j n h l q k t = record {
-  end = sum a e j n (length (part s a e)) (length-part s a e h l) h k;
-  text = t ∙ ap (λ (m : ℕ). take n o₀ ++ part s a m) q;
+pub lays-sets : (o w : List ℕ) (n : ℕ) → n + length w ≤ length o → Lays n w o (n + length w) (sets o n w)
+lays-sets o w n h = record {
+  end = refl;
+  text = ap (take (n + length w)) (sets-eq w o n h)
+      ∙ take-at (take n o ++ w) (drop (n + length w) o) (n + length w) (size (length-append (take n o) w) (length-take-le n o (omega arith)));
 }
   where
-    sum : (a e j n k : ℕ) → k ≡ e - a → a ≤ e → j + a ≡ n + e → j ≡ n + k
-    sum a e j n k p q r = omega arith
+    size : {k m : ℕ} → k ≡ m + length w → m ≡ n → k ≡ n + length w
+    size p q = omega arith
+
+pub copied : (s o : List ℕ) (a e n : ℕ) {o′ : List ℕ} → a ≤ e → e ≤ length s → n + (e - a) ≤ length o → o′ ≡ sets o n (part s a (a + (e - a))) →
+    Lays n (part s a e) o (n + (e - a)) o′
+copied s o a e n h l k q =
+    let size = length-part s a e h l in
+    let laid = lays-sets o (part s a e) n (subst (λ (m : ℕ). n + m ≤ length o) (sym size) k) in
+    subst (λ (x : List ℕ). Lays n (part s a e) o (n + (e - a)) x) (sym (q ∙ ap (λ (m : ℕ). sets o n (part s a m)) (back h)))
+    (subst (λ (m : ℕ). Lays n (part s a e) o (n + m) (sets o n (part s a e))) size laid)
+  where
+    back : a ≤ e → a + (e - a) ≡ e
+    back h = omega arith
 
 pub pushed : (o : List ℕ) (at b : ℕ) → at < length o → Lays at (b ∷ []) o (at + 1) (set o at b)
-pushed o at b h = record { end = refl; text = ap (λ (n : ℕ). take n (set o at b)) (add-one at) ∙ take-suc-set o at b h }
+pushed o at b h = lays-sets o (b ∷ []) at (omega arith)
 
 -- ---- `wipe`
 
