@@ -4,6 +4,8 @@
 pub mod SingleCharTests
 -- the list of commands and its rows of bytes: src/meaning.rt
 pub mod MeaningRows
+-- between which bytes the names of so many octets stand: `span_of`
+pub mod SpanRows
 -- a mark put onto the last character of an argument: `last_char_combine`
 pub mod LastCharacterWays
 -- what a command writes: src/execute.rt

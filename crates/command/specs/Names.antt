@@ -2,11 +2,13 @@
 -- Names of one octet are left out: `meaning_one` of src/meaning.rt knows them.
 --     names               the bytes of the constant. For src/names.rt.
 --     codeOf, decoded     the number of a row's three bytes, and the meaning that it stands for. For src/meaning.rt.
+--     SpanOf              between which bytes a name of so many octets is to be looked for. For src/meaning.rt.
 -- Assumes nothing.
-use Prim.Native.Nat.{ℕ, _+_, _*_, _/_, _%_}
+use Prim.Native.Nat.{ℕ, _+_, _*_, _/_, _%_, _≤_}
+use mathlib.Core.Path.{_≡_}
 use mathlib.Core.Bool.{cond}
 use mathlib.Core.List.{List, [], _∷_, _++_}
-use lib.ListN.{length}
+use lib.ListN.{length, drop}
 use lib.Dec.{eqb}
 use Rattle.command.specs.declared.meaning.Meaning.{Meaning}
 use Rattle.command.specs.declared.meaning.Meaning.the-variants.{Itself, Letter, Accent, Slash, Copyright, Hyphenation, Unknown}
@@ -71,3 +73,11 @@ names = flat (rowsOf (long commands))
 unfoldable pub meaningBy : List NameRow → List ℕ → Meaning
 meaningBy [] name = Unknown
 meaningBy (r ∷ rs) name = cond (sameBytes (r .key) name) (decoded (codeOf (r .x) (r .y) (r .z))) (meaningBy rs name)
+
+-- rows begin at two bytes of the constant, and those between them say of every name of n octets what all rows say
+pub record SpanOf (n from to : ℕ) : Type 0 where
+  pub rows : List NameRow
+  pub order : from ≤ to
+  pub inside : to ≤ length names
+  pub here : drop from names ≡ flat rows ++ drop to names
+  pub says : (name : List ℕ) → length name ≡ n → meaningBy rows name ≡ meaningBy (rowsOf (long commands)) name

@@ -6,7 +6,7 @@ ghost use lib.ListN.{length};
 ghost use Rattle.text.specs.Scan.{part};
 ghost use Rattle.text.specs.SameBytes.{sameBytes};
 ghost use Rattle.command.specs.Commands.{meaningOf};
-ghost use Rattle.command.specs.Names.{codeOf, decoded, names as allNames};
+ghost use Rattle.command.specs.Names.{codeOf, decoded, names as allNames, SpanOf};
 
 pub enum Meaning {
     // The name itself is written.
@@ -109,6 +109,32 @@ fn meaning_at(x: u8, y: u8, z: u8) -> Meaning
     }
 }
 
+// Two places among the names, at which rows begin.
+struct Span(usize, usize);
+
+// Between which two places a name of n bytes is to be looked for: outside of them no name has n bytes. None has more than 24, and those of more
+// than eleven bytes share a span.
+fn span_of(n: usize) -> Span
+    ensures { λ r. ⌜ SpanOf n (r .0) (r .1) ⌝ }
+{
+    if 24 < n {
+        return Span(0, 0);
+    }
+    match n {
+        2 => Span(727, 901),
+        3 => Span(9, 16),
+        4 => Span(853, 869),
+        5 => Span(0, 9),
+        6 => Span(885, 895),
+        7 => Span(338, 349),
+        8 => Span(443, 455),
+        9 => Span(840, 853),
+        10 => Span(16, 443),
+        11 => Span(455, 619),
+        _ => Span(44, 885),
+    }
+}
+
 // What the name from one place to another means.
 pub fn meaning_of(names: &[u8], s: &[u8], a: usize, e: usize) -> Meaning
     requires { ⌜ (now names ≡ allNames) × (a ≤ e) × (e ≤ length (now s)) ⌝ }
@@ -118,8 +144,10 @@ pub fn meaning_of(names: &[u8], s: &[u8], a: usize, e: usize) -> Meaning
     if n == 1 {
         return meaning_one(s[a]);
     }
-    let mut i = 0;
-    while i < names.len() {
+    let span = span_of(n);
+    let mut i = span.0;
+    let to = span.1;
+    while i < to {
         let m = wide(names[i]);
         if equals(names, i + 4, m, s, a, n) {
             return meaning_at(names[i + 1], names[i + 2], names[i + 3]);

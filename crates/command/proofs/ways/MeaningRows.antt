@@ -7,7 +7,7 @@ use Prim.Native.Nat.{ℕ, suc, _+_, _-_, _≤_, _<_, min}
 use native.Mathlib.Omega.{arith}
 use mathlib.Core.Path.{_≡_, refl, sym, ap, ap₂, _∙_}
 use mathlib.Core.Bool.{Bool, true, false, cond}
-use mathlib.Core.List.{List, [], _∷_, _++_}
+use mathlib.Core.List.{List, [], _∷_, _++_, append-assoc}
 use lib.ListN.{length, getD, take, drop, length-drop, length-append}
 use lib.Seq.{getD-drop, drop-drop, take-append-seam, drop-append-seam}
 use lib.Dec.{eqb}
@@ -23,7 +23,7 @@ use Rattle.text.specs.SameBytes.{sameBytes}
 use Rattle.text.proofs.general.SameBytes.{same-length}
 use Rattle.text.proofs.general.Tests.{both-false}
 use Rattle.command.specs.Commands.{CommandRow, commands, meaningIn, meaningOf}
-use Rattle.command.specs.Names.{NameRow, codeOf, decoded, flat, meaningBy, rowOf, rowsOf, long, names}
+use Rattle.command.specs.Names.{NameRow, codeOf, decoded, flat, meaningBy, rowOf, rowsOf, long, names, SpanOf}
 use Rattle.command.proofs.stacks.MoreParts.{part-empty}
 
 -- ---- names of one octet
@@ -119,9 +119,6 @@ name-one s a e b h l q =
     ap (λ (c : ℕ). c ∷ []) q
     ∙ sym (part-head s a e (omega arith) l ∙ ap (λ (t : List ℕ). getD s a 0 ∷ t) (part-empty s (a + 1) e (omega arith)))
 
-pub name-long : (s : List ℕ) (a e : ℕ) → a ≤ e → e ≤ length s → (e - a ≡ 1 → ⊥) → length (part s a e) ≡ 1 → ⊥
-name-long s a e h l n q = n (sym (length-part s a e h l) ∙ q)
-
 -- ---- the rows of bytes say what the list says
 
 abbrev head : List Meaning → Meaning
@@ -165,42 +162,52 @@ names-say name h = rows-say (long commands) name all-told ∙ long-says commands
 
 -- ---- the search
 
--- the rows from byte i on say of the name what the list says
-pub record Going (t name : List ℕ) (i : ℕ) : Type 0 where
+-- the rows from byte i up to byte `to` say of the name what the list says
+pub record Going (t name : List ℕ) (to i : ℕ) : Type 0 where
   pub rows : List NameRow
-  pub here : drop i t ≡ flat rows
-  pub inside : i ≤ length t
+  pub order : i ≤ to
+  pub inside : to ≤ length t
+  pub here : drop i t ≡ flat rows ++ drop to t
   pub says : meaningBy rows name ≡ meaningOf name
 
-pub going : (t name : List ℕ) → t ≡ names → (length name ≡ 1 → ⊥) → Going t name 0
-unfolding names
-going t name e h = record { rows = rowsOf (long commands); here = e; inside = omega arith; says = names-say name h }
+pub going : (t name : List ℕ) (n from to : ℕ) → t ≡ names → length name ≡ n → (n ≡ 1 → ⊥) → SpanOf n from to → Going t name to from
+going t name n from to e l h s = rw e (record {
+  rows = s .rows;
+  order = s .order;
+  inside = s .inside;
+  here = s .here;
+  says = s .says name l ∙ names-say name (λ k. h (sym l ∙ k));
+})
 
 -- the row at i, and those behind it
-pub record Here (t name : List ℕ) (i : ℕ) : Type 0 where
+pub record Here (t name : List ℕ) (to i : ℕ) : Type 0 where
   pub row : NameRow
   pub rows : List NameRow
-  pub here : drop i t ≡ flat (row ∷ rows)
+  pub inside : to ≤ length t
+  pub here : drop i t ≡ flat (row ∷ rows) ++ drop to t
   pub says : meaningBy (row ∷ rows) name ≡ meaningOf name
 
-pub is-here : (t name : List ℕ) (i : ℕ) → Going t name i → i < length t → Here t name i
+pub is-here : (t name : List ℕ) (to i : ℕ) → Going t name to i → i < to → Here t name to i
 unfolding flat
-is-here t name i g l = by (g .rows) (g .here) (g .says)
+is-here t name to i g l = by (g .rows) (g .here) (g .says)
   where
-    by : (rs : List NameRow) → drop i t ≡ flat rs → meaningBy rs name ≡ meaningOf name → Here t name i
-    by [] h s = absurd (omega (arith, ap length h, length-drop i t, l))
-    by (r ∷ rs) h s = record { row = r; rows = rs; here = h; says = s }
+    by : (rs : List NameRow) → drop i t ≡ flat rs ++ drop to t → meaningBy rs name ≡ meaningOf name → Here t name to i
+    by [] h s = absurd (omega (arith, ap length h, length-drop i t, length-drop to t, l, g .inside))
+    by (r ∷ rs) h s = record { row = r; rows = rs; inside = g .inside; here = h; says = s }
 
-module _ (t name : List ℕ) (i : ℕ) (l : i < length t) (g : Here t name i) where
+module _ (t name : List ℕ) (to i : ℕ) (l : i < to) (g : Here t name to i) where
   abbrev k : ℕ
   k = length (g .row .key)
 
+  abbrev behind : List ℕ
+  behind = flat (g .rows) ++ drop to t
+
   abbrev bytes : List ℕ
-  bytes = k ∷ g .row .x ∷ g .row .y ∷ g .row .z ∷ g .row .key ++ flat (g .rows)
+  bytes = k ∷ g .row .x ∷ g .row .y ∷ g .row .z ∷ g .row .key ++ behind
 
   spelled : drop i t ≡ bytes
   unfolding flat
-  spelled = g .here
+  spelled = g .here ∙ ap (λ (s : List ℕ). k ∷ g .row .x ∷ g .row .y ∷ g .row .z ∷ s) (append-assoc (g .row .key) (flat (g .rows)) (drop to t))
 
   at : (j : ℕ) → getD t (i + j) 0 ≡ getD bytes j 0
   at j = sym (getD-drop i t j 0) ∙ ap (λ (s : List ℕ). getD s j 0) spelled
@@ -217,30 +224,30 @@ module _ (t name : List ℕ) (i : ℕ) (l : i < length t) (g : Here t name i) wh
   row-z : getD t (i + 3) 0 ≡ g .row .z
   row-z = at 3
 
-  fits : i + 4 + k ≤ length t
+  fits : i + 4 + k ≤ to
   fits =
-      sum (length t) i (length (drop i t)) k (length (flat (g .rows))) (length (g .row .key ++ flat (g .rows))) l
-      (length-drop i t) (ap length spelled) (length-append (g .row .key) (flat (g .rows)))
+      sum (length t) i to (length (drop i t)) k _ _ _ (length (drop to t)) l (g .inside) (length-drop i t) (length-drop to t) (ap length spelled)
+      (length-append (g .row .key) behind) (length-append (flat (g .rows)) (drop to t))
     where
-      sum : (n i d k f a : ℕ) → i < n → d ≡ n - i → d ≡ suc (suc (suc (suc a))) → a ≡ k + f → i + 4 + k ≤ n
-      sum n i d k f a p q r s = omega arith
+      sum : (n i to d k a b f r : ℕ) → i < to → to ≤ n → d ≡ n - i → r ≡ n - to → d ≡ suc (suc (suc (suc a))) → a ≡ k + b → b ≡ f + r → i + 4 + k ≤ to
+      sum n i to d k a b f r o w p q u v x = omega arith
 
-  behind : drop (i + 4) t ≡ g .row .key ++ flat (g .rows)
-  behind = sym (drop-drop 4 i t) ∙ ap (drop 4) spelled
+  named : drop (i + 4) t ≡ g .row .key ++ behind
+  named = sym (drop-drop 4 i t) ∙ ap (drop 4) spelled
 
   key-at : part t (i + 4) (i + 4 + k) ≡ g .row .key
-  key-at = ap (λ (n : ℕ). take n (drop (i + 4) t)) (least i k (length t) fits) ∙ ap (take k) behind ∙ take-append-seam (g .row .key) (flat (g .rows))
+  key-at = ap (λ (n : ℕ). take n (drop (i + 4) t)) (least i k to (length t) fits (g .inside)) ∙ ap (take k) named ∙ take-append-seam (g .row .key) behind
     where
-      least : (i k n : ℕ) → i + 4 + k ≤ n → min (i + 4 + k) n - (i + 4) ≡ k
-      least i k n h = omega arith
+      least : (i k to n : ℕ) → i + 4 + k ≤ to → to ≤ n → min (i + 4 + k) n - (i + 4) ≡ k
+      least i k to n h l = omega arith
 
-  miss : sameBytes (g .row .key) name ≡ false → Going t name (i + (4 + k))
+  miss : sameBytes (g .row .key) name ≡ false → Going t name to (i + (4 + k))
   unfolding meaningBy
   miss e = record {
     rows = g .rows;
-    here = ap (λ (n : ℕ). drop n t) (regroup i k) ∙ sym (drop-drop k (i + 4) t) ∙ ap (drop k) behind
-        ∙ drop-append-seam (g .row .key) (flat (g .rows));
-    inside = omega (arith, fits);
+    order = omega (arith, fits);
+    inside = g .inside;
+    here = ap (λ (n : ℕ). drop n t) (regroup i k) ∙ sym (drop-drop k (i + 4) t) ∙ ap (drop k) named ∙ drop-append-seam (g .row .key) behind;
     says = sym (rw e refl) ∙ g .says;
   }
     where
@@ -254,20 +261,21 @@ module _ (t name : List ℕ) (i : ℕ) (l : i < length t) (g : Here t name i) wh
         sym (h ∙ ap₂ (λ (p : ℕ) (w : List ℕ). sameBytes (part t (i + 4) (i + 4 + p)) w) (e ∙ first) v
         ∙ ap (λ (p : List ℕ). sameBytes p name) key-at)
 
-    pub missed : b ≡ false → Going t name (i + (4 + m))
+    pub missed : b ≡ false → Going t name to (i + (4 + m))
     missed f = rw (e ∙ first) (miss (key-same ∙ f))
 
     pub found : b ≡ true → decoded (codeOf (getD t (i + 1) 0) (getD t (i + 2) 0) (getD t (i + 3) 0)) ≡ meaningOf name
     unfolding meaningBy
     found f = rw (row-x, row-y, row-z) (sym (rw (key-same ∙ f) refl) ∙ g .says)
 
-pub ended : (t name : List ℕ) (i : ℕ) → Going t name i → length t ≤ i → Unknown ≡ meaningOf name
+pub ended : (t name : List ℕ) (to i : ℕ) → Going t name to i → to ≤ i → Unknown ≡ meaningOf name
 unfolding flat meaningBy
-ended t name i g l = by (g .rows) (g .here) (g .says)
+ended t name to i g l = by (g .rows) (g .here) (g .says)
   where
-    by : (rs : List NameRow) → drop i t ≡ flat rs → meaningBy rs name ≡ meaningOf name → Unknown ≡ meaningOf name
+    by : (rs : List NameRow) → drop i t ≡ flat rs ++ drop to t → meaningBy rs name ≡ meaningOf name → Unknown ≡ meaningOf name
     by [] h s = s
-    by (r ∷ rs) h s = absurd (omega (arith, ap length h, length-drop i t, l))
+    by (r ∷ rs) h s =
+        absurd (omega (arith, ap length h, length-drop i t, length-drop to t, length-append (r .key ++ flat rs) (drop to t), l, g .inside))
 
-pub room : (t name : List ℕ) (i m : ℕ) → Going t name i → i < length t → m ≡ getD t i 0 → i + 4 + m ≤ length t
-room t name i m g l e = let h = is-here t name i g l in omega (arith, fits t name i l h, e, first t name i l h)
+pub room : (t name : List ℕ) (to i m : ℕ) → Going t name to i → i < to → m ≡ getD t i 0 → i + 4 + m ≤ length t
+room t name to i m g l e = let h = is-here t name to i g l in omega (arith, fits t name to i l h, e, first t name to i l h, h .inside)
