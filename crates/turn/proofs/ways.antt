@@ -2,6 +2,8 @@
 
 -- chains of tests, as the code joins them and as the definitions do
 pub mod TestChains
+-- simple bytes in a row: `past_simple` and `words`
+pub mod SimpleBytes
 -- turns that write text, as the functions of src/turn.rt answer them
 pub mod TextTurns
 -- the ways through the functions of src/turn.rt

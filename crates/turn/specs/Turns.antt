@@ -1,6 +1,7 @@
 -- Definitions for the contracts of src/turn.rt: turns that write text, as specs/Content.antt has them.
---     isPlain, isSign, endsText, Ordinary      bytes, and what a turn does at them
+--     isSign, endsText, Ordinary               bytes, and what a turn does at them
 --     turns, CopiesOne, CopiesAll, Wrote       content from a place on; turns that copy, and turns that write text
+--     WordRun                                  bytes that turns copy one by one
 --     Behind, Command, Took                    what stands behind a backslash; a command that is written
 --     endOf, ArgumentEnds, EndInside           where an argument ends
 --     SaysText                                 what a function answers whose turns write text
@@ -11,8 +12,8 @@ use mathlib.Core.Path.{_≡_}
 use mathlib.Core.Bool.{Bool, true, false, not, _&&_, _||_}
 use mathlib.Core.List.{List, [], _∷_, _++_, map}
 use lib.ListN.{length, take, getD}
-use lib.Dec.{eqb, ltb}
-use Rattle.text.specs.Class.{mark}
+use lib.Dec.{eqb}
+use Rattle.text.specs.Block.{isSimple}
 use Rattle.text.specs.Scan.{part, see}
 use Rattle.text.specs.declared.scanner.Seen.the-variants.{Char}
 use Rattle.row.specs.declared.fault.Fault.{Fault}
@@ -30,10 +31,6 @@ use Rattle.turn.specs.declared.turn.Text.the-variants as text
 use Rattle.turn.specs.Content.{Part, put, Reader, contentTurn, ran, isEscape}
 
 -- ---- a turn
-
--- a byte that stands for itself, whatever follows it: printable ASCII but $ - \ { }
-unfoldable pub isPlain : ℕ → Bool
-isPlain b = ltb 0x20 b && ltb b 0x7F && not (mark (0x24 ∷ 0x2D ∷ 0x5C ∷ 0x7B ∷ 0x7D ∷ []) b)
 
 -- a byte before which a chunk ends: a brace, or a dollar sign unless the field is verbatim
 abbrev pub isSign : Bool → ℕ → Bool
@@ -88,6 +85,13 @@ pub record CopiesAll (s : List ℕ) (p r : ℕ) : Type 0 where
   pub texts : List (List ℕ)
   pub same : concat texts ≡ part s p r
   pub leads : (argument : Reader) (verb : Bool) (d : ℕ) → turns argument verb d s p ≡ more (map put texts) (turns argument verb d s r)
+
+-- every byte from p to r is simple, and behind each blank among them stands another that is no blank
+pub record WordRun (s : List ℕ) (p r : ℕ) : Type 0 where
+  pub from : p ≤ r
+  pub to : r ≤ max p (length s)
+  pub simple : (k : ℕ) → p ≤ k → k < r → isSimple (getD s k 0) ≡ true
+  pub single : (k : ℕ) → p ≤ k → k < r → getD s k 0 ≡ 0x20 → (k + 1 < r) × (getD s (k + 1) 0 ≡ 0x20 → ⊥)
 
 -- where an argument ends, or why it is refused, as the code says it
 abbrev pub endOf : OutOf Part → Step

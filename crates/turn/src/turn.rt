@@ -7,6 +7,7 @@ use command::stack;
 use raw::answer::Step;
 use row::fault::Fault;
 use row::fault::Reason;
+use text::block;
 use text::class;
 use text::class::Test;
 use text::scanner;
@@ -15,11 +16,12 @@ ghost use mathlib.Core.Path.{_≡_};
 ghost use mathlib.Core.Bool.{true, false};
 ghost use Prim.Native.Nat.{_+_, _*_, _≤_, _<_};
 ghost use lib.ListN.{length, getD};
+ghost use Rattle.text.specs.Block.{isSimple, PlainRun};
 ghost use Rattle.text.specs.Class.{isWhitespace, isControl};
 ghost use Rattle.text.specs.Scan.{see, nextOf, part, Ahead};
 ghost use Rattle.command.specs.Execute.{given, absent};
 ghost use Rattle.turn.specs.Content.{isEscape, begins, argumentEnd, nameEnd, opensAt, takesOne};
-ghost use Rattle.turn.specs.Turns.{isPlain, isSign, endsText, Ordinary, Behind, Command, CopiesOne, CopiesAll, Wrote};
+ghost use Rattle.turn.specs.Turns.{WordRun, isSign, endsText, Ordinary, Behind, Command, CopiesOne, CopiesAll, Wrote};
 ghost use Rattle.turn.specs.Turns.{Grows, Took, SaysText, GrowsText, ReadyText, endOf, EndInside};
 
 // What came of a turn: the content has ended; text was written, up to a place of the content and a new end of the text; the content is refused;
@@ -50,13 +52,6 @@ fn is_escape(c: u32, verb: bool) -> bool
     ensures { λ r. ⌜ r ≡ isEscape verb c ⌝ }
 {
     (c != 0x5e) & (c != 0x7e) & biblatex::is_escapable(c, verb, true)
-}
-
-// The bytes that stand for themselves, whatever follows them.
-fn is_plain(b: u8) -> bool
-    ensures { λ r. ⌜ r ≡ isPlain b ⌝ }
-{
-    (0x20 < b) & (b < 0x7f) & (b != 0x24) & (b != 0x2d) & (b != 0x5c) & (b != 0x7b) & (b != 0x7d)
 }
 
 // Whether a character is white space. Most characters beyond ASCII are settled by their number: none is white space between 0xA0 and 0x1680, nor
@@ -96,23 +91,76 @@ fn past_rare(s: &[u8], at: usize) -> usize
     }
 }
 
+// The bytes that stand for themselves, whatever follows them, and the blank.
+fn is_simple(b: u8) -> bool
+    ensures { λ r. ⌜ r ≡ isSimple b ⌝ }
+{
+    (0x1f < b) & (b < 0x7f) & (b != 0x24) & (b != 0x2d) & (b != 0x5c) & (b != 0x7b) & (b != 0x7d)
+}
+
+// Goes over simple bytes by blocks, unless the first byte is none: there the blocks would not pay.
+fn by_blocks(s: &[u8], at: usize) -> usize
+    requires { ⌜ 0 < at ⌝ }
+    ensures { λ r. ⌜ PlainRun (now (s .entry)) at r ⌝ }
+{
+    if at < s.len() {
+        if is_simple(s[at]) {
+            return block::past_plain(s, at);
+        }
+    }
+    at
+}
+
+// The place after the simple bytes from a place on, none of them a blank behind a blank.
+fn past_simple(s: &[u8], at: usize) -> usize
+    requires { ⌜ 0 < at ⌝ }
+    ensures { λ r. ⌜ PlainRun (now (s .entry)) at r ⌝ }
+{
+    let mut i = by_blocks(s, at);
+    while i < s.len() {
+        if !is_simple(s[i]) {
+            return i;
+        }
+        if (s[i - 1] == 0x20) & (s[i] == 0x20) {
+            return i;
+        }
+        i += 1;
+    }
+    i
+}
+
+// The place after the simple bytes from a place on, with single blanks between them: a blank at their end is left to `past_rare`.
+fn words(s: &[u8], at: usize) -> usize
+    ensures { λ r. ⌜ WordRun (now (s .entry)) at r ⌝ }
+{
+    if s.len() <= at {
+        return at;
+    }
+    if !is_simple(s[at]) {
+        return at;
+    }
+    let end = past_simple(s, at + 1);
+    if s[end - 1] == 0x20 {
+        return end - 1;
+    }
+    end
+}
+
 // The place after the characters from a place on that stand for themselves, and single blanks between them.
 fn run(s: &[u8], at: usize) -> usize
     ensures { λ r. ⌜ CopiesAll (now (s .entry)) at r ⌝ }
 {
     let mut i = at;
-    while i < s.len() {
-        if is_plain(s[i]) {
-            i += 1;
-        } else {
-            let next = past_rare(s, i);
-            if next <= i {
-                return i;
-            }
-            i = next;
+    loop {
+        let end = words(s, i);
+        if s.len() <= end {
+            return end;
+        }
+        i = past_rare(s, end);
+        if i <= end {
+            return end;
         }
     }
-    i
 }
 
 // One to three hyphens.

@@ -4,14 +4,15 @@
 --     runs-.., wrote-.., grows-on                  many turns, one behind the other
 --     says-.., grows-..                            what a function's answer says, and its bounds
 -- Assumes nothing.
-use Prim.Native.Nat.{ℕ, _+_, _-_, _≤_, _<_, max}
+use Prim.Native.Nat.{ℕ, zero, suc, _+_, _-_, _≤_, _<_, max}
 use native.Mathlib.Omega.{arith}
 use mathlib.Core.Path.{_≡_, refl, sym, ap, subst, _∙_}
-use mathlib.Core.Bool.{Bool, true, false, cond, not, _&&_}
+use mathlib.Core.Bool.{Bool, true, false, cond, not, _&&_, _||_}
 use mathlib.Core.List.{List, [], _∷_, _++_, map, append-assoc, append-nil, map-append}
 use lib.ListN.{length, take, drop, getD}
 use lib.Dec.{T, eqb, ltb}
-use borrow.Author.Tests.{ltb-true, not-true}
+use borrow.Author.Tests.{ltb-true, not-true, eqb-true, eqb-false, ne-eqb}
+use Rattle.text.specs.Block.{isSimple}
 use Rattle.text.specs.Class.{isWhitespace, whiteSpace}
 use Rattle.text.specs.Scan.{see, skip, part, code, rest}
 use Rattle.text.specs.declared.scanner.Seen.the-variants.{Char}
@@ -26,7 +27,7 @@ use Rattle.command.proofs.stacks.LaysLaws.{lays-as, lays-on}
 use Rattle.turn.specs.declared.turn.Text.{Text}
 use Rattle.turn.specs.declared.turn.Text.the-variants as text
 use Rattle.turn.specs.Content.{Part, put, Reader, contentTurn}
-use Rattle.turn.specs.Turns.{turns, concat, Copies, CopiesOne, CopiesAll, Wrote, SaysText, isPlain, GrowsText, Grows}
+use Rattle.turn.specs.Turns.{turns, concat, Copies, CopiesOne, CopiesAll, WordRun, Wrote, SaysText, GrowsText, Grows}
 use Rattle.turn.proofs.contents.TurnsSeen.{leads, Itself, turn-copy, turn-blank}
 
 pub more-more : (xs ys : List Part) (o : OutOf Part) → more xs (more ys o) ≡ more (xs ++ ys) o
@@ -66,11 +67,11 @@ abbrev all : ℕ → Bool
 all b = not (eqb b 0x5C) && (not (eqb b 0x24) && (not (eqb b 0x7B) && (not (eqb b 0x7D) && (not (eqb b 0x2D) && not (isWhitespace b)))))
 
 abbrev fine : ℕ → Bool
-fine b = cond (isPlain b) (all b) true
+fine b = cond (isSimple b) (eqb b 0x20 || all b) true
 
-plain-ascii : (b : ℕ) → isPlain b ≡ true → b < 0x7F
-unfolding isPlain
-plain-ascii b h = ltb-true b 0x7F (both-true (ltb 0x20 b) (ltb b 0x7F) (both-true (ltb 0x20 b && ltb b 0x7F) _ h .0) .1)
+simple-ascii : (b : ℕ) → isSimple b ≡ true → b < 0x7F
+unfolding isSimple
+simple-ascii b h = ltb-true b 0x7F (both-true (ltb 0x1F b) (ltb b 0x7F) (both-true (ltb 0x1F b && ltb b 0x7F) _ h .0) .1)
 
 is-true : (a : Bool) → T a → a ≡ true
 is-true true t = refl
@@ -79,11 +80,13 @@ is-true false t = absurd t
 nor : (a b : Bool) → a ≡ false → (a && b) ≡ false
 nor a b h = rw h refl
 
-pub plain-itself : (verb : Bool) (b : ℕ) → isPlain b ≡ true → Itself verb b
-unfolding isPlain isWhitespace whiteSpace
-plain-itself verb b h =
-    let t = is-true (fine b) (each fine 0x7F tt b (plain-ascii b h)) in
-    let a = both-true (not (eqb b 0x5C)) _ (sym (ap (λ (w : Bool). cond w (all b) true) h) ∙ t) in
+-- a byte that is simple, and no blank
+pub plain-itself : (verb : Bool) (b : ℕ) → isSimple b ≡ true → (b ≡ 0x20 → ⊥) → Itself verb b
+unfolding isSimple isWhitespace whiteSpace
+plain-itself verb b h n =
+    let t = is-true (fine b) (each fine 0x7F tt b (simple-ascii b h)) in
+    let u = sym (ap (λ (w : Bool). cond w (eqb b 0x20 || all b) true) h) ∙ t in
+    let a = both-true (not (eqb b 0x5C)) _ (sym (ap (λ (w : Bool). w || all b) (ne-eqb b 0x20 n)) ∙ u) in
     let e = both-true (not (eqb b 0x24)) _ (a .1) in
     let i = both-true (not (eqb b 0x7B)) _ (e .1) in
     let o = both-true (not (eqb b 0x7D)) _ (i .1) in
@@ -109,10 +112,10 @@ wide-itself verb c h w = record {
 }
 
 -- the turns that copy what stands there
-pub plain-copies : (s : List ℕ) (p : ℕ) → p < length s → isPlain (getD s p 0) ≡ true → Copies s p (p + 1)
-plain-copies s p l h argument verb d =
+pub plain-copies : (s : List ℕ) (p : ℕ) → p < length s → isSimple (getD s p 0) ≡ true → (getD s p 0 ≡ 0x20 → ⊥) → Copies s p (p + 1)
+plain-copies s p l h n argument verb d =
     let b = getD s p 0 in
-    turn-copy argument verb d s p b (p + 1) (seeing .at-byte s p b l refl (omega (arith, plain-ascii b h))) (plain-itself verb b h)
+    turn-copy argument verb d s p b (p + 1) (seeing .at-byte s p b l refl (omega (arith, simple-ascii b h))) (plain-itself verb b h n)
 
 pub wide-copies : (s : List ℕ) (p c n : ℕ) → 0x80 ≤ getD s p 0 → see s p ≡ Char c n → isWhitespace c ≡ false → Copies s p n
 wide-copies s p c n h e w argument verb d = turn-copy argument verb d s p c n e (wide-itself verb c wide w)
@@ -132,6 +135,23 @@ blank-copies s p q l b h e argument verb d =
   where
     same : 0x20 ∷ [] ≡ part s p q
     same = sym (ap (part s p) e ∙ part-head s p (p + 1) (omega arith) (omega (arith, l)) ∙ rw (b, part-none s (p + 1)) refl)
+
+-- a blank before a byte that is simple and no blank
+single-copies : (s : List ℕ) (p : ℕ) → p + 1 < length s → getD s p 0 ≡ 0x20 → isSimple (getD s (p + 1) 0) ≡ true
+    → (getD s (p + 1) 0 ≡ 0x20 → ⊥) → Copies s p (p + 1)
+unfolding isWhitespace whiteSpace
+single-copies s p l b h n =
+    blank-copies s p (p + 1) (omega (arith, l)) b
+    (sym (seeing .white-on s p 0x20 (p + 1) (seeing .at-byte s p 0x20 (omega (arith, l)) b (omega arith)) refl ∙ stop)) refl
+  where
+    next : ℕ
+    next = getD s (p + 1) 0
+
+    seen : (p + 1 < length s) × (next ≡ code (drop (p + 1) s)) × (p + 1 + 1 ≡ p + 1 + 1 + rest (drop (p + 1) s))
+    seen = seeing .char-parts s (p + 1) next (p + 1 + 1) (seeing .at-byte s (p + 1) next l refl (omega (arith, simple-ascii next h)))
+
+    stop : skip isWhitespace s (p + 1) ≡ p + 1
+    stop = seeing .skip-stop isWhitespace s (p + 1) l (ap isWhitespace (sym (seen .1)) ∙ plain-itself false next h n .white)
 
 pub steps-none : (s : List ℕ) (p : ℕ) → p < length s → CopiesOne s p p
 steps-none s p l = record { from = omega arith; to = omega (arith, l); copies = λ h. absurd (omega (arith, h)) }
@@ -186,6 +206,25 @@ runs-on s p i r h a l t = record {
       ∙ ap (more (map put (h .texts))) (leads argument verb d s i r (put (part s i r) ∷ []) d (t argument verb d))
       ∙ puts-on (h .texts) (part s i r ∷ []) (turns argument verb d s r);
 }
+
+-- words behind turns that copied
+pub runs-words : (s : List ℕ) (p i r : ℕ) → CopiesAll s p i → WordRun s i r → CopiesAll s p r
+runs-words s p i r h w = subst (λ (k : ℕ). CopiesAll s p k) (omega (arith, w .from)) (go (r - i) (omega (arith, w .from)))
+  where
+    one : (k : ℕ) → i ≤ k → k < r → Copies s k (k + 1)
+    one k a b = by (eqb (getD s k 0) 0x20) refl
+      where
+        by : (t : Bool) → eqb (getD s k 0) 0x20 ≡ t → Copies s k (k + 1)
+        by true e =
+            let n = w .single k a b (eqb-true _ _ e) in
+            single-copies s k (omega (arith, n .0, w .to)) (eqb-true _ _ e) (w .simple (k + 1) (omega (arith, a)) (n .0)) (n .1)
+        by false e = plain-copies s k (omega (arith, a, b, w .to)) (w .simple k a b) (eqb-false _ _ e)
+
+    go : (n : ℕ) → i + n ≤ r → CopiesAll s p (i + n)
+    go zero l = subst (CopiesAll s p) (omega arith) h
+    go (suc n) l =
+        runs-on s p (i + n) (i + suc n) (go n (omega (arith, l))) (omega arith) (omega (arith, l, w .to))
+        (subst (Copies s (i + n)) (omega arith) (one (i + n) (omega arith) (omega (arith, l))))
 
 pub wrote-none : (verb : Bool) (s : List ℕ) (p n : ℕ) (o : List ℕ) → Wrote verb s p n o p n o
 unfolding concat

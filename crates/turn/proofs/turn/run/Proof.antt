@@ -1,11 +1,10 @@
 -- `turn::turn::run` meets its contract. The invariant: every turn before `i` copies what stands there. Assumes nothing.
-use Prim.Native.Nat.{_+_, _-_}
+use Prim.Native.Nat.{_-_}
 use native.Mathlib.Omega.{arith}
-use mathlib.Core.Path.{sym, _∙_}
 use lib.ListN.{length}
 use borrow.Author.Needs.{needs}
 use Rattle.turn.specs.Turns.{CopiesAll}
-use Rattle.turn.proofs.ways.TextTurns.{runs-none, runs-on, plain-copies}
+use Rattle.turn.proofs.ways.TextTurns.{runs-none, runs-on, runs-words}
 use Rattle.turn.proofs.turn.run.Statement.{statement}
 use Rattle.turn.proofs.turn.run.Tie as tie
 
@@ -18,33 +17,28 @@ abbrev μ-loop : tie.MeasureT-loop
 loop-holds : tie.Need-loop-holds Inv-loop μ-loop
 loop-holds c = runs-none (c .before .args .s .now) (c .before .args .at)
 
-loop-again : tie.Need-loop-again Inv-loop μ-loop
-loop-again c =
-    let head = c .before .before .before .before in
-    let a = head .before .before .args in
-    let inside = c .before .before .before .loop-test .taken in
-    runs-on (a .s .now) (a .at) (head .loop .i) (head .loop .i + 1) (head .loop .inv) (omega arith) (omega (arith, inside))
-    (plain-copies (a .s .now) (head .loop .i) inside (sym (c .before .is-plain .ensures) ∙ c .if1 .taken))
-
 returns : tie.Need-returns Inv-loop μ-loop
-returns c = c .before .before .before .before .before .before .loop .inv
-
-loop-less-2 : tie.Need-loop-less-2 Inv-loop μ-loop
-loop-less-2 c =
-    let past-rare = c .before in
-    let inside = past-rare .before .before .before .before in
-    omega (arith, c .if2 .left, past-rare .past-rare .ensures .to, inside .loop-test .taken)
-
-loop-again-2 : tie.Need-loop-again-2 Inv-loop μ-loop
-loop-again-2 c =
-    let next = c .before in
-    let head = next .before .before .before .before .before in
-    let a = head .before .before .args in
-    runs-on (a .s .now) (a .at) (head .loop .i) (next .past-rare .result) (head .loop .inv) (c .if2 .left) (next .past-rare .ensures .to)
-    (next .past-rare .ensures .copies (c .if2 .left))
+returns c =
+    let words = c .before in
+    runs-words _ _ _ _ (words .before .loop .inv) (words .words .ensures)
 
 returns-2 : tie.Need-returns-2 Inv-loop μ-loop
-returns-2 c = c .before .loop .inv
+returns-2 c =
+    let words = c .before .before .before in
+    runs-words _ _ _ _ (words .before .loop .inv) (words .words .ensures)
+
+loop-less : tie.Need-loop-less Inv-loop μ-loop
+loop-less c =
+    let rare = c .before in
+    let words = rare .before .before in
+    omega (arith, c .if2 .left, rare .past-rare .ensures .to, words .words .ensures .from)
+
+loop-again : tie.Need-loop-again Inv-loop μ-loop
+loop-again c =
+    let rare = c .before in
+    let words = rare .before .before in
+    let next = rare .past-rare .ensures in
+    runs-on _ _ _ _ (runs-words _ _ _ _ (words .before .loop .inv) (words .words .ensures)) (c .if2 .left) (next .to) (next .copies (c .if2 .left))
 
 pub run-spec : {M : Type 1} → statement M
 run-spec =
@@ -53,13 +47,9 @@ run-spec =
     Inv-loop
     μ-loop
     loop-holds
-    (λ c. search needs)
-    (λ c κs. search needs)
-    (λ c. search needs)
-    (λ c. search needs)
-    loop-again
     (λ c κs. search needs)
     returns
-    loop-less-2
-    loop-again-2
-    returns-2)
+    (λ c κs. search needs)
+    returns-2
+    loop-less
+    loop-again)
