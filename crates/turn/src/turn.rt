@@ -42,9 +42,9 @@ pub enum Text {
 }
 
 // A place of the content, and the end of the text there.
-struct Grown {
-    at: usize,
-    len: usize,
+pub struct Grown {
+    pub at: usize,
+    pub len: usize,
 }
 
 // The characters that stand for themselves behind a backslash.
@@ -243,7 +243,7 @@ fn ends_text(b: u8, verb: bool) -> bool
 }
 
 // Text from a place on, up to the end, a backslash, a brace, or a dollar sign unless the field is verbatim.
-fn texts(s: &[u8], verb: bool, at: usize, out: &mut [u8], len: usize) -> Grown
+pub fn texts(s: &[u8], verb: bool, at: usize, out: &mut [u8], len: usize) -> Grown
     requires { ⌜ (at ≤ length (now s)) × (len + 2 * length (now s) ≤ length (now out) + 2 * at) ⌝ }
     ensures { λ r. ⌜ Wrote verb (now (s .entry)) at len (now (out .entry)) (r .at) (r .len) (now (out .exit)) ⌝ }
     ensures { λ r. ⌜ Grows (length (now (s .entry))) 0 at len (r .at) (r .len) ⌝ }
