@@ -12,5 +12,5 @@ pub mod ArgumentWays
 pub mod ContentWays
 -- the content of a command's argument: `argument`
 pub mod NestedWays
--- a whole literal: `close` and `parse`
+-- a whole literal: `close`, `begin`, `rest` and `parse`
 pub mod LiteralWays

@@ -3,7 +3,8 @@
 --     SaysSign                             a turn that ends a chunk. Turns that write text are in the crate `turn`
 --     ArgumentBegun, ArgumentFinished      how a command's argument begins and ends
 --     SaysContent, SaysArgument            content, and a command with its argument, which call each other
---     SaysParsed                           a literal. For `parse`, which the crates above call
+--     SaysBegun                            the text that a literal begins with. For `begin`, which the crates above call
+--     SaysParsed                           a literal. For `parse` and `rest`, which the crates above call
 --     AheadState, ReadyContent             bounds: the text grows by at most two bytes for each byte read
 -- Nothing is said of the text and the rows after a refusal: a literal is resolved over a small room first, and its bytes are wiped at the end.
 -- Assumes nothing.
@@ -15,7 +16,8 @@ use lib.ListN.{length, take}
 use Rattle.text.specs.Scan.{part}
 use Rattle.row.specs.Limits.{mostBytes, mostLiteral, leastScratch, mostWritten}
 use Rattle.raw.specs.Reader.{OutOf, ok, again, bad, more}
-use Rattle.chunk.specs.Chunk.{Chunk}
+use Rattle.chunk.specs.declared.form.Kind.the-variants.{Normal}
+use Rattle.chunk.specs.Chunk.{Chunk, chunk}
 use Rattle.chunk.specs.Format.{formatVerbatim, whiteFrom}
 use Rattle.compose.specs.Lookup.{numbers}
 use Rattle.compose.specs.Composites.{composites}
@@ -28,12 +30,14 @@ use Rattle.literal.specs.declared.making.Making.{Making}
 use Rattle.literal.specs.declared.making.Place.{Place}
 use Rattle.literal.specs.declared.content.Made.{Made}
 use Rattle.literal.specs.declared.content.Made.the-variants as made
+use Rattle.literal.specs.declared.parse.Begun.{Begun}
+use Rattle.literal.specs.declared.parse.Begun.the-variants as begun
 use Rattle.literal.specs.declared.parse.Parsed.{Parsed}
 use Rattle.literal.specs.declared.parse.Parsed.the-variants as parsed
 use Rattle.turn.specs.Content.{Part, cut, math, Reader, State, beginning, steps, chunksOf, flatten}
-use Rattle.turn.specs.Turns.{turns, Placed, Grows, ReadyText}
+use Rattle.turn.specs.Turns.{turns, Wrote, Placed, Grows, ReadyText}
 use Rattle.literal.specs.Rows.{RowsHold, textsOf}
-use Rattle.literal.specs.Literal.{Resolved, chunks, refused, chunkUp}
+use Rattle.literal.specs.Literal.{Resolved, chunks, refused, chunkUp, resolveLiteral}
 
 -- ---- content under construction
 
@@ -186,6 +190,21 @@ SaysArgument (bad g) name p e m o (made.Done m′) o′ = ⊥
 SaysArgument (bad g) name p e m o (made.Refused f) o′ = f ≡ g
 
 -- ---- a literal
+
+-- the content of the literal s is read up to p: it has only written text, which has n bytes and stands in o
+pub record ReadTo (verb : Bool) (s : List ℕ) (p n : ℕ) (o : List ℕ) : Type 0 where
+  pub wrote : Wrote verb s 0 0 [] p n o
+  pub grows : Grows (length s) 0 0 0 p n
+
+-- the literal s is one chunk, wherever it stands, and its text is the first n bytes of o
+pub record OneChunk (verb : Bool) (s : List ℕ) (n : ℕ) (o : List ℕ) : Type 0 where
+  pub is : (base : ℕ) → resolveLiteral verb s base ≡ chunks (chunk Normal (take n o) base (base + length s) ∷ [])
+  pub few : n ≤ leastScratch
+
+-- what `begin` answers for a literal: all of it is text, or its text up to a place
+abbrev pub SaysBegun : Bool → List ℕ → Begun → List ℕ → Type 0
+SaysBegun verb s (begun.Whole n) o = OneChunk verb s n o
+SaysBegun verb s (begun.Part p n) o = ReadTo verb s p n o
 
 -- the chunks cs of a literal behind the chunks ps that the value has before it: their text stands in the bytes o′, and their rows behind those
 -- of ps

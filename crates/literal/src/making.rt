@@ -33,7 +33,7 @@ pub struct Place {
     pub argument: bool,
 }
 
-fn default_chunk(braces: usize) -> Kind
+pub fn default_chunk(braces: usize) -> Kind
     ensures { λ r. ⌜ r ≡ kindAt braces ⌝ }
 {
     if braces == 0 {
@@ -42,7 +42,7 @@ fn default_chunk(braces: usize) -> Kind
     Kind::Verbatim
 }
 
-fn narrow(n: usize) -> u32
+pub fn narrow(n: usize) -> u32
     requires { ⌜ n ≤ 4294967295 ⌝ }
     ensures { λ r. ⌜ r ≡ n ⌝ }
 {

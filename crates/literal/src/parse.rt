@@ -4,7 +4,9 @@ use crate::content::Made;
 use crate::making;
 use crate::making::Making;
 use crate::making::Place;
+use crate::rows;
 use crate::rows::Rows;
+use chunk::form::Kind;
 use command::meaning::Meaning;
 use row::fault::Fault;
 use row::fault::Reason;
@@ -17,18 +19,28 @@ ghost use mathlib.Core.Bool.{false};
 ghost use Prim.Native.Nat.{_+_, _≤_, _<_};
 ghost use lib.ListN.{length, take};
 ghost use Rattle.text.specs.Scan.{part};
-ghost use Rattle.row.specs.Limits.{mostBytes};
+ghost use Rattle.row.specs.Limits.{mostBytes, mostWritten, leastScratch};
 ghost use Rattle.raw.specs.Strict.{faultUp};
+ghost use Rattle.chunk.specs.declared.form.Kind.the-variants.{Normal};
 ghost use Rattle.command.specs.Commands.{meaningOf};
 ghost use Rattle.turn.specs.Content.{inside};
 ghost use Rattle.literal.specs.Literal.{resolveLiteral};
-ghost use Rattle.literal.specs.Inner.{from, ReadyContent, inArgument, Fits, LastChunkDone, SaysContent, SaysArgument, AheadMade, ReadyLiteral, SaysParsed, GrowsParsed};
+ghost use Rattle.literal.specs.Rows.{Pushes};
+ghost use Rattle.literal.specs.Inner.{from, ReadyContent, inArgument, Fits, LastChunkDone, SaysContent, SaysArgument, AheadMade};
+ghost use Rattle.literal.specs.Inner.{ReadTo, SaysBegun, ReadyLiteral, SaysParsed, GrowsParsed};
 ghost use Rattle.turn.specs.Turns.{CommandSpans};
 
 // What a literal came to: the rows of the value so far, and the bytes of the literal's text.
 pub enum Parsed {
     Chunks { rows: Rows, len: usize },
     Refused(Fault),
+}
+
+// The text that a literal begins with: all of it, so that the literal is one Normal chunk of so many bytes; or the text up to a place of the
+// content, and how many bytes it has.
+pub enum Begun {
+    Whole(usize),
+    Part { at: usize, len: usize },
 }
 
 // The content of s from a state on, with `depth` arguments left to open.
@@ -151,32 +163,75 @@ fn up(f: Fault, base: usize) -> Fault
 }
 
 // The end of a literal's content: the last chunk is done too if it has text, or if there is no other.
-fn close(t: Making, place: Place, out: &mut [u8], numbers: &mut [u32]) -> Rows
+fn close(t: Making, place: Place, out: &[u8], numbers: &mut [u32]) -> Rows
     requires { ⌜ Fits place t (length (now out)) × (place .base + t .at ≤ 4294967295) × (place .argument ≡ false) ⌝ }
-    ensures { λ r. ⌜ LastChunkDone place t (now (out .entry)) (now (numbers .entry)) r (now (out .exit)) (now (numbers .exit)) ⌝ }
+    ensures { λ r. ⌜ LastChunkDone place t (now (out .entry)) (now (numbers .entry)) r (now (out .entry)) (now (numbers .exit)) ⌝ }
 {
+    let have = t.rows;
     if (t.from < t.len) | !t.pushed {
-        let at = t.at;
-        let m = making::turnaround(t, place, at, 0, at, out, numbers);
-        return m.rows;
+        let kind = making::default_chunk(t.braces);
+        let from = making::narrow(place.text + t.from);
+        let to = making::narrow(place.text + t.len);
+        let first = making::narrow(place.base + t.start);
+        let last = making::narrow(place.base + t.at);
+        return rows::push(numbers, have, kind, from, to, first, last);
     }
-    t.rows
+    have
 }
 
-// A literal s that stands at `base` in its file. The value's text before it has `before` bytes, and its rows so far are `have`. The literal's text
-// is written to `out`, and its rows behind the others.
-pub fn parse(
+// The row of a literal that is one Normal chunk, whose text has `len` bytes, behind the other rows.
+pub fn whole(
+    base: usize,
+    end: usize,
+    before: usize,
+    len: usize,
+    have: Rows,
+    numbers: &mut [u32],
+) -> Rows
+    requires { ⌜ (base ≤ mostBytes) × (end ≤ mostBytes) × (before ≤ mostWritten) × (len ≤ leastScratch) × (have .n ≤ 1000000000000) ⌝ }
+    ensures { λ r. ⌜ Pushes Normal before (before + len) base end have (now (numbers .entry)) r (now (numbers .exit)) ⌝ }
+    ensures { λ r. ⌜ r .n ≤ have .n + 1 ⌝ }
+{
+    let from = making::narrow(before);
+    let to = making::narrow(before + len);
+    let first = making::narrow(base);
+    let last = making::narrow(end);
+    rows::push(numbers, have, Kind::Normal, from, to, first, last)
+}
+
+// Writes the text that a literal begins with to `out`. Of a literal that is too long nothing is written.
+pub fn begin(s: &[u8], verb: bool, out: &mut [u8]) -> Begun
+    requires { ⌜ leastScratch ≤ length (now out) ⌝ }
+    ensures { λ r. ⌜ SaysBegun verb (now (s .entry)) r (now (out .exit)) ⌝ }
+{
+    if MOST_LITERAL < s.len() {
+        return Begun::Part { at: 0, len: 0 };
+    }
+    let t = turns::texts(s, verb, 0, out, 0);
+    if s.len() <= t.at {
+        return Begun::Whole(t.len);
+    }
+    Begun::Part {
+        at: t.at,
+        len: t.len,
+    }
+}
+
+// `parse` of a literal whose content is read up to `at`: it has only written text, which has `len` bytes and stands in `out`.
+pub fn rest(
     s: &[u8],
     base: usize,
     verb: bool,
     before: usize,
     have: Rows,
+    at: usize,
+    len: usize,
     out: &mut [u8],
     numbers: &mut [u32],
     names: &[u8],
     marks: &[u32],
 ) -> Parsed
-    requires { ⌜ ReadyLiteral (now s) base before have (now out) (now names) (now marks) ⌝ }
+    requires { ⌜ ReadyLiteral (now s) base before have (now out) (now names) (now marks) × ReadTo verb (now s) at len (now out) ⌝ }
     ensures { λ r. ⌜ SaysParsed (resolveLiteral verb (now (s .entry)) base) before have (now (numbers .entry)) r (now (out .exit))
         (now (numbers .exit)) ⌝ }
     ensures { λ r. ⌜ GrowsParsed have r ⌝ }
@@ -189,12 +244,12 @@ pub fn parse(
         });
     }
     let first = Making {
-        at: 0,
+        at,
         braces: 0,
         pushed: false,
         start: 0,
         from: 0,
-        len: 0,
+        len,
         white: false,
         rows: have,
     };
@@ -220,5 +275,44 @@ pub fn parse(
             let rows = close(t, place, out, numbers);
             Parsed::Chunks { rows, len }
         }
+    }
+}
+
+// A literal s that stands at `base` in its file. The value's text before it has `before` bytes, and its rows so far are `have`. The literal's text
+// is written to `out`, and its rows behind the others.
+pub fn parse(
+    s: &[u8],
+    base: usize,
+    verb: bool,
+    before: usize,
+    have: Rows,
+    out: &mut [u8],
+    numbers: &mut [u32],
+    names: &[u8],
+    marks: &[u32],
+) -> Parsed
+    requires { ⌜ ReadyLiteral (now s) base before have (now out) (now names) (now marks) ⌝ }
+    ensures { λ r. ⌜ SaysParsed (resolveLiteral verb (now (s .entry)) base) before have (now (numbers .entry)) r (now (out .exit))
+        (now (numbers .exit)) ⌝ }
+    ensures { λ r. ⌜ GrowsParsed have r ⌝ }
+{
+    match begin(s, verb, out) {
+        Begun::Whole(len) => {
+            let rows = whole(base, base + s.len(), before, len, have, numbers);
+            Parsed::Chunks { rows, len }
+        }
+        Begun::Part { at, len } => rest(
+            s,
+            base,
+            verb,
+            before,
+            have,
+            at,
+            len,
+            out,
+            numbers,
+            names,
+            marks,
+        ),
     }
 }

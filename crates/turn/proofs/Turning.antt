@@ -11,6 +11,7 @@ turning = record {
   end-inside = advance.end-inside;
   leads = seen.leads;
   stopped = seen.stopped;
+  ended = seen.ended;
   turn-open = seen.turn-open;
   turn-close = seen.turn-close;
   turn-math = seen.turn-math;

@@ -7,7 +7,7 @@ use mathlib.Core.List.{List, [], _∷_}
 use lib.ListN.{length, getD}
 use Rattle.text.specs.Scan.{see}
 use Rattle.row.specs.declared.fault.Fault.{Fault}
-use Rattle.raw.specs.Reader.{again, bad, more, andThen, turn}
+use Rattle.raw.specs.Reader.{ok, again, bad, more, andThen, turn}
 use Rattle.turn.specs.Content.{Part, cut, Reader, argumentEnd, opensAt, maths, closing, contentTurn}
 use Rattle.turn.specs.Turns.{isSign, Ordinary, turns, ArgumentEnds}
 
@@ -20,6 +20,8 @@ pub record Turning : Type 0 where
       → contentTurn argument verb d s p ≡ again q xs a → turns argument verb d s p ≡ more xs (turns argument verb a s q)
   pub stopped : (argument : Reader) (verb : Bool) (d : ℕ) (s : List ℕ) (p : ℕ) (f : Fault) → contentTurn argument verb d s p ≡ bad f
       → turns argument verb d s p ≡ bad f
+  -- at the end of the text the content ends
+  pub ended : (argument : Reader) (verb : Bool) (d : ℕ) (s : List ℕ) (p : ℕ) → length s ≤ p → turns argument verb d s p ≡ ok p []
   -- the turns that end a chunk
   pub turn-open : (argument : Reader) (verb : Bool) (d : ℕ) (s : List ℕ) (p : ℕ) → p < length s → getD s p 0 ≡ 0x7B
       → contentTurn argument verb d s p ≡ again (p + 1) (cut (suc d) p (p + 1) ∷ []) (suc d)

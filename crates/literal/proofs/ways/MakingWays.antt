@@ -1,7 +1,7 @@
 -- A chunk is done: for `turnaround` and `put_math` of src/making.rt.
 --     texts-append, no-text                the text of chunks and one more; a text of no length
 --     held-text, held-below                what stands in the bytes
---     argument-holds, literal-holds        the two ways through `turnaround`
+--     argument-holds, literal-done         the two ways through `turnaround`
 --     math-argument, math-literal          the two ways through `put_math`
 -- Assumes nothing.
 use Prim.Native.Nat.{ℕ, zero, suc, _+_, _-_, _≤_}
@@ -27,7 +27,7 @@ use Rattle.literal.specs.declared.making.Place.{Place}
 use Rattle.turn.specs.Content.{cut, math, State, steps, flatten}
 use Rattle.literal.specs.Literal.{chunkUp}
 use Rattle.literal.specs.Rows.{RowsHold, textsOf, onto, Pushes}
-use Rattle.literal.specs.Inner.{HoldsState, RowsHeld, standing, some}
+use Rattle.literal.specs.Inner.{HoldsState, RowsHeld, ChunkDone, standing, some}
 use Rattle.literal.proofs.Joining.{joining}
 use Rattle.literal.proofs.Flattening.{flattening}
 
@@ -166,7 +166,7 @@ module _ (place : Place) (t₀ : List ℕ) (ps : List Chunk) (b₀ : List ℕ) (
           subst (λ (l : List Chunk). RowsHold l b₀ k′ b′) (ap (onto (flatten all)) lifted ∙ sym flat-more)
           (z (flatten all) (σ .text) b₀ (u ∙ sym texts-all) (omega (arith, u, v, h .len)) (held .0))
 
-      pub literal-holds : HoldsState place t₀ ps b₀ (steps σ (cut d e p ∷ []))
+      literal-holds : HoldsState place t₀ ps b₀ (steps σ (cut d e p ∷ []))
           (record { at = p; braces = d; pushed = true; start = p; from = m .len; len = m .len; white = m .white; rows = k′ }) o b′
       unfolding steps
       literal-holds = record {
@@ -180,6 +180,22 @@ module _ (place : Place) (t₀ : List ℕ) (ps : List Chunk) (b₀ : List ℕ) (
         pushed = some-snoc (σ .done) c₁;
         rows = subst (λ (x : Bool). RowsHeld x place t₀ ps b₀ (σ .done ++ c₁ ∷ []) k′ b′) (sym a) (now-held, held .1, held .2);
       }
+
+-- in a literal the chunk becomes a row
+pub literal-done : (place : Place) (m : Making) (o b : List ℕ) (e d p : ℕ) → m .from ≤ m .len → m .len ≤ length o → place .argument ≡ false → (kind : Kind)
+    (from to first last : ℕ) (k′ : Rows) (b′ : List ℕ) → kind ≡ defaultChunk (m .braces) → from ≡ place .text + m .from → to ≡ place .text + m .len
+    → first ≡ place .base + m .start → last ≡ place .base + e → Pushes kind from to first last (m .rows) b k′ b′ → k′ .n ≤ m .rows .n + 1
+    → ChunkDone place m e d p o b (record { at = p; braces = d; pushed = true; start = p; from = m .len; len = m .len; white = m .white; rows = k′ })
+    o b′
+literal-done place m o b e d p l k a kind from to first last k′ b′ i u v x y z few = record {
+  goes = λ t₀ ps b₀ σ h. literal-holds place t₀ ps b₀ σ m o b h l k e d p a kind from to first last k′ b′ i u v x y z;
+  at = refl;
+  braces = refl;
+  start = refl;
+  from = refl;
+  len = omega arith;
+  rows = few;
+}
 
 -- ---- a chunk of math, behind a chunk that is done
 

@@ -1,7 +1,7 @@
 -- The ways through the functions of src/content.rt that take one turn, and what a turn of text leaves.
 --     math-refused, math-again                  a dollar sign: the formula does not end, or is a chunk
 --     open-again, close-refused, close-again    a brace opens; a brace closes that none opened, or one that is open
---     goes-puts, text-put                       text that is written leads from one state to the next
+--     puts-state, goes-puts, text-put           text that is written leads from one state to the next
 --     ahead-further, ahead-cut                  the bounds of the state after text, and after a brace
 --     sign-as                                   what holds of a field that is not verbatim holds of this one, which is not
 -- Assumes nothing.
@@ -109,7 +109,7 @@ rows-at : (x : Bool) (place : Place) (t₀ : List ℕ) (ps : List Chunk) (b₀ :
 rows-at x place t₀ ps b₀ cs k k′ b e h = subst (λ (k : Rows). RowsHeld x place t₀ ps b₀ cs k b) e h
 
 -- texts put one after another are one text
-puts-state : (ws : List (List ℕ)) (σ : State) → steps σ (map put ws) ≡ step σ (put (concat ws))
+pub puts-state : (ws : List (List ℕ)) (σ : State) → steps σ (map put ws) ≡ step σ (put (concat ws))
 unfolding steps concat
 puts-state [] σ = ap (λ (t : List ℕ). record { done = σ .done; kind = σ .kind; text = t; start = σ .start }) (sym (append-nil (σ .text)))
 puts-state (w ∷ ws) σ =

@@ -2,7 +2,7 @@
 use native.Mathlib.Omega.{arith}
 use mathlib.Core.Path.{refl}
 use borrow.Author.Needs.{needs}
-use Rattle.literal.proofs.ways.MakingWays.{argument-holds, literal-holds}
+use Rattle.literal.proofs.ways.MakingWays.{argument-holds, literal-done}
 use Rattle.literal.proofs.making.turnaround.Statement.{statement}
 use Rattle.literal.proofs.making.turnaround.Tie as tie
 
@@ -41,19 +41,10 @@ returns-2 c =
     let begin = if1 .before .before .before .before in
     let a = begin .args in
     let p = begin .pre in
-    record {
-      goes = λ t₀ ps b₀ σ h.
-          literal-holds (a .place) t₀ ps b₀ σ (a .st) (a .out .now) (a .numbers .now) h (p .0 .from) (p .0 .to) (a .end) (a .braces) (a .start)
-          (if1 .if1 .left) (kind .default-chunk .result) (from .narrow .result) (to .narrow2 .result) (first .narrow3 .result) (last .narrow4 .result)
-          (push .push .result) _ (kind .default-chunk .ensures)
-          (from .narrow .ensures) (to .narrow2 .ensures) (first .narrow3 .ensures) (last .narrow4 .ensures) (push .push .ensures .0);
-      at = refl;
-      braces = refl;
-      start = refl;
-      from = refl;
-      len = omega arith;
-      rows = push .push .ensures .1 .1;
-    }
+    literal-done (a .place) (a .st) (a .out .now) (a .numbers .now) (a .end) (a .braces) (a .start) (p .0 .from) (p .0 .to) (if1 .if1 .left)
+    (kind .default-chunk .result) (from .narrow .result) (to .narrow2 .result) (first .narrow3 .result) (last .narrow4 .result) (push .push .result) _
+    (kind .default-chunk .ensures) (from .narrow .ensures) (to .narrow2 .ensures) (first .narrow3 .ensures) (last .narrow4 .ensures)
+    (push .push .ensures .0) (push .push .ensures .1 .1)
 
 pub turnaround-spec : {M : Type 1} → statement M
 turnaround-spec =
