@@ -1,6 +1,7 @@
 -- What the public contracts settle: any two outcomes that one allows are the same. Stated of each contract as the check reads it off the
 -- source, so that a contract which said less would fail here.
 --     the same answer                                         `check_file`, `is_span`, `are_lent`, `is_value`, `place`, `progress::answer`
+--     the same answer, chunk rows and text                    `single`
 --     the same answer, scratch, chunk rows and text           `resolve_literal`
 -- Assumes nothing.
 use mathlib.Core.Path.{_≡_, sym, _∙_}
@@ -14,6 +15,8 @@ use Rattle.resolve.proofs.lent.is_value.Kinds as is-value-kinds
 use Rattle.resolve.proofs.lent.is_value.Reads as is-value
 use Rattle.resolve.proofs.one_literal.is_span.Kinds as is-span-kinds
 use Rattle.resolve.proofs.one_literal.is_span.Reads as is-span
+use Rattle.resolve.proofs.one_literal.single.Kinds as single-kinds
+use Rattle.resolve.proofs.one_literal.single.Reads as single
 use Rattle.resolve.proofs.one_literal.resolve_literal.Kinds as resolve-literal-kinds
 use Rattle.resolve.proofs.one_literal.resolve_literal.Reads as resolve-literal
 use Rattle.resolve.proofs.lent.place.Kinds as place-kinds
@@ -32,6 +35,11 @@ one-are-lent κs a x y s t p q = p ∙ sym q
 
 pub one-is-value : One 1 is-value-kinds.ps is-value-kinds.r is-value.Post
 one-is-value κs a x y s t p q = p ∙ sym q
+
+pub one-single : Both 6 single-kinds.ps single-kinds.r single.Post
+    (λ κs x s y t.
+    (x ≡ y) × (now (s .1 .1 .1 .1 .0) ≡ now (t .1 .1 .1 .1 .0)) × (now (s .1 .1 .1 .1 .1 .0) ≡ now (t .1 .1 .1 .1 .1 .0)))
+one-single κs a x y s t p q = (p .0 .answer ∙ sym (q .0 .answer), p .0 .rows ∙ sym (q .0 .rows), p .0 .text ∙ sym (q .0 .text))
 
 pub one-resolve-literal : Both 4 resolve-literal-kinds.ps resolve-literal-kinds.r resolve-literal.Post
     (λ κs x s y t.

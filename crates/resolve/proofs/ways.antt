@@ -2,5 +2,5 @@
 
 -- the checks that every call makes first: `check_file`, and what a call refuses
 pub mod AskedWays
--- a literal over a small room, and then over what is lent: `write` of src/one_literal.rt
+-- a literal over a small room, and then over what is lent: `write`, `one_chunk` and `single` of src/one_literal.rt
 pub mod WriteWays

@@ -46,7 +46,7 @@ fn narrow(n: usize) -> u32
 }
 
 // No row so far.
-fn none() -> Rows
+pub fn none() -> Rows
     ensures { λ r. ⌜ ((b : List ℕ) → RowsHold [] b r b) ⌝ }
     ensures { λ r. ⌜ r .n ≡ 0 ⌝ }
 {

@@ -40,32 +40,30 @@ returns-3 c =
     (check .check-file .result) (check .check-file .ensures) (passed .enum-told .given .1) (span .is-span .result) (span .is-span .ensures)
     (good .if1 .left) (c .if2 .taken)
 
-sub-write : tie.Need-sub-write
-sub-write c =
-    let good = c .before .before .before in
+sub-with-tables : tie.Need-sub-with-tables
+sub-with-tables c =
+    let good = c .before in
     let span = good .before in
     let a = span .before .before .before .before .before .before .before .before .args in
     span-good (a .file .now) (a .start) (a .end) (span .is-span .result) (span .is-span .ensures) (good .if1 .left) .0
 
-part-write-start : tie.Need-part-write-start
-part-write-start c =
-    let good = c .before .before .before in
+part-with-tables-start : tie.Need-part-with-tables-start
+part-with-tables-start c =
+    let good = c .before in
     let span = good .before in
     let a = span .before .before .before .before .before .before .before .before .args in
     span-good (a .file .now) (a .start) (a .end) (span .is-span .result) (span .is-span .ensures) (good .if1 .left) .0
 
-part-write-end : tie.Need-part-write-end
-part-write-end c =
-    let good = c .before .before .before in
+part-with-tables-end : tie.Need-part-with-tables-end
+part-with-tables-end c =
+    let good = c .before in
     let span = good .before in
     let a = span .before .before .before .before .before .before .before .before .args in
     span-good (a .file .now) (a .start) (a .end) (span .is-span .result) (span .is-span .ensures) (good .if1 .left) .1
 
-write-requires : tie.Need-write-requires
-write-requires c κs =
-    let table = c .before .before .before .before .before .before in
-    let names = table .before in
-    let room = names .before in
+with-tables-requires : tie.Need-with-tables-requires
+with-tables-requires c κs =
+    let room = c .before .before .before .before in
     let good = room .before in
     let span = good .before in
     let passed = span .before in
@@ -74,14 +72,12 @@ write-requires c κs =
       span-room (a .file .now) (a .start) (a .end) (span .is-span .result) (span .is-span .ensures) (good .if1 .left) (check .check-file .result)
           (check .check-file .ensures) (passed .enum-told .given .1),
       room .if2 .left,
-      names .names .ensures,
-      table .table .ensures,
     )
 
 returns-4 : tie.Need-returns-4
 returns-4 c =
     let write = c .before .before .before .before .before .before in
-    let room = write .before .before .before .before .before .before .before .before .before in
+    let room = write .before .before .before .before .before in
     let good = room .before in
     let span = good .before in
     let passed = span .before in
@@ -90,9 +86,9 @@ returns-4 c =
     asked-all (a .file .now) (isSpan (a .file .now) (a .start) (a .end)) (length (a .scratch .now))
     (valueOf (resolveLiteral (a .verbatim) (part (a .file .now) (a .start) (a .end)) (a .start))) (a .chunks .now) (a .text .now)
     (check .check-file .result) (check .check-file .ensures) (passed .enum-told .given .1) (span .is-span .result) (span .is-span .ensures)
-    (good .if1 .left) (room .if2 .left) (write .write .result) _ _
+    (good .if1 .left) (room .if2 .left) (write .with-tables .result) _ _
     (span-writes (a .file .now) (a .start) (a .end) (span .is-span .result) (span .is-span .ensures) (good .if1 .left) (a .verbatim) (a .chunks .now)
-    (a .text .now) (write .write .result) _ _ (write .write .ensures))
+    (a .text .now) (write .with-tables .result) _ _ (write .with-tables .ensures))
 
 pub literal-spec : {M : Type 1} → statement M
 literal-spec =
@@ -105,14 +101,10 @@ literal-spec =
     (λ c κs. search needs)
     returns-2
     returns-3
-    (λ c κs. search needs)
-    (λ c κs. search needs)
-    sub-write
-    part-write-start
-    part-write-end
-    (λ c. search needs)
-    (λ c. search needs)
-    write-requires
+    sub-with-tables
+    part-with-tables-start
+    part-with-tables-end
+    with-tables-requires
     (λ c. search needs)
     (λ c. search needs)
     (λ c. search needs)

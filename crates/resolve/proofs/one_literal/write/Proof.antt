@@ -6,47 +6,35 @@ use Rattle.resolve.proofs.ways.WriteWays.{write-few, write-room, write-
 use Rattle.resolve.proofs.one_literal.write.Statement.{statement}
 use Rattle.resolve.proofs.one_literal.write.Tie as tie
 
-parse-requires : tie.Need-parse-requires
-parse-requires c κs =
-    let p = c .before .before .before .before .before .before .before .before .pre in
-    record {
-      file = p .0;
-      scratch = p .1;
-      value = omega arith;
-      rows = omega arith;
-      names = p .2;
-      marks = p .3;
-    }
-
 returns : tie.Need-returns
 returns c =
     let told = c .before .before in
-    let parse = told .before .before .before .before .before in
-    let a = parse .before .before .before .before .before .before .before .before .before .args in
-    write-full (resolveLiteral (a .verbatim) (a .s .now) (a .base)) _ (parse .parse .result) _ _ (parse .parse .ensures .0) (a .chunks .now)
-    (a .text .now) (told .rows .given .0 .0) (told .rows .given .0 .1 .0) (told .rows .given .1) (parse .parse .ensures .1) (c .if1 .taken)
+    let rest = told .before .before .before .before .before in
+    let a = rest .before .before .before .before .before .before .before .before .before .args in
+    write-full (resolveLiteral (a .verbatim) (a .s .now) (a .base)) _ (rest .rest .result) _ _ (rest .rest .ensures .0) (a .chunks .now)
+    (a .text .now) (told .rows .given .0 .0) (told .rows .given .0 .1 .0) (told .rows .given .1) (rest .rest .ensures .1) (c .if1 .taken)
 
 copy-requires : tie.Need-copy-requires
 copy-requires c κs =
     let told = c .before .before .before .before in
-    let parse = told .before .before .before .before .before in
-    let begin = parse .before .before .before .before .before .before .before .before .before in
+    let rest = told .before .before .before .before .before in
+    let begin = rest .before .before .before .before .before .before .before .before .before in
     let a = begin .args in
-    let few = write-few (resolveLiteral (a .verbatim) (a .s .now) (a .base)) _ (parse .parse .result) _ _ (parse .parse .ensures .0)
+    let few = write-few (resolveLiteral (a .verbatim) (a .s .now) (a .base)) _ (rest .rest .result) _ _ (rest .rest .ensures .0)
     (a .chunks .now)
-    (a .text .now) (told .rows .given .0 .0) (told .rows .given .0 .1 .0) (told .rows .given .1) (parse .parse .ensures .1) in
-    (omega arith, omega (arith, few .0, begin .pre .1, parse .parse .kept .1 .1 .1 .1 .1 .0), omega (arith, few .0))
+    (a .text .now) (told .rows .given .0 .0) (told .rows .given .0 .1 .0) (told .rows .given .1) (rest .rest .ensures .1) in
+    (omega arith, omega (arith, few .0, begin .pre .1 .scratch, rest .rest .kept .1 .1 .1 .1 .1 .1 .1 .0), omega (arith, few .0))
 
 copy-numbers-requires : tie.Need-copy-numbers-requires
 copy-numbers-requires c κs =
     let small = c .before .before in
     let room = small .before .before .before .before .before .before in
     let told = room .before .before in
-    let parse = told .before .before .before .before .before in
-    let a = parse .before .before .before .before .before .before .before .before .before .args in
-    let enough = write-room (resolveLiteral (a .verbatim) (a .s .now) (a .base)) _ (parse .parse .result) _ _ (parse .parse .ensures .0) (a .chunks .now)
-    (a .text .now) (told .rows .given .0 .0) (told .rows .given .0 .1 .0) (told .rows .given .1) (parse .parse .ensures .1) (room .if1 .left) in
-    (omega (arith, small .if2 .taken, parse .parse .kept .1 .1 .1 .1 .1 .1 .0), omega (arith, enough .0))
+    let rest = told .before .before .before .before .before in
+    let a = rest .before .before .before .before .before .before .before .before .before .args in
+    let enough = write-room (resolveLiteral (a .verbatim) (a .s .now) (a .base)) _ (rest .rest .result) _ _ (rest .rest .ensures .0) (a .chunks .now)
+    (a .text .now) (told .rows .given .0 .0) (told .rows .given .0 .1 .0) (told .rows .given .1) (rest .rest .ensures .1) (room .if1 .left) in
+    (omega (arith, small .if2 .taken, rest .rest .kept .1 .1 .1 .1 .1 .1 .1 .1 .0), omega (arith, enough .0))
 
 returns-2 : tie.Need-returns-2
 returns-2 c =
@@ -55,35 +43,35 @@ returns-2 c =
     let copy = small .before .before .before in
     let room = copy .before .before .before in
     let told = room .before .before in
-    let parse = told .before .before .before .before .before in
-    let begin = parse .before .before .before .before .before .before .before .before .before in
+    let rest = told .before .before .before .before .before in
+    let begin = rest .before .before .before .before .before .before .before .before .before in
     let a = begin .args in
-    let few = write-few (resolveLiteral (a .verbatim) (a .s .now) (a .base)) _ (parse .parse .result) _ _ (parse .parse .ensures .0) (a .chunks .now)
-    (a .text .now) (told .rows .given .0 .0) (told .rows .given .0 .1 .0) (told .rows .given .1) (parse .parse .ensures .1) in
-    write-held (resolveLiteral (a .verbatim) (a .s .now) (a .base)) _ (parse .parse .result) _ _ (parse .parse .ensures .0) (a .chunks .now)
-    (a .text .now) (told .rows .given .0 .0) (told .rows .given .0 .1 .0) (told .rows .given .1) (parse .parse .ensures .1) (room .if1 .left)
-    (omega (arith, few .0, begin .pre .1, parse .parse .kept .1 .1 .1 .1 .1 .0)) (copy .copy .result) _ (copy .copy .ensures .0)
+    let few = write-few (resolveLiteral (a .verbatim) (a .s .now) (a .base)) _ (rest .rest .result) _ _ (rest .rest .ensures .0) (a .chunks .now)
+    (a .text .now) (told .rows .given .0 .0) (told .rows .given .0 .1 .0) (told .rows .given .1) (rest .rest .ensures .1) in
+    write-held (resolveLiteral (a .verbatim) (a .s .now) (a .base)) _ (rest .rest .result) _ _ (rest .rest .ensures .0) (a .chunks .now)
+    (a .text .now) (told .rows .given .0 .0) (told .rows .given .0 .1 .0) (told .rows .given .1) (rest .rest .ensures .1) (room .if1 .left)
+    (omega (arith, few .0, begin .pre .1 .scratch, rest .rest .kept .1 .1 .1 .1 .1 .1 .1 .0)) (copy .copy .result) _ (copy .copy .ensures .0)
     (omega (arith, small .if2 .taken)) _ (rows .copy-numbers .ensures)
 
-parse-requires-2 : tie.Need-parse-requires-2
-parse-requires-2 c κs =
-    let parse = c .before .before .before .before .before .before .before .before .before .before .before .before .before .before .before in
-    let p = parse .before .before .before .before .before .before .before .before .before .pre in
+parse-requires : tie.Need-parse-requires
+parse-requires c κs =
+    let rest = c .before .before .before .before .before .before .before .before .before .before .before .before .before .before .before in
+    let p = rest .before .before .before .before .before .before .before .before .before .pre in
     record {
       file = p .0;
-      scratch = omega (arith, p .1, parse .parse .kept .1 .1 .1 .1 .1 .0);
+      scratch = omega (arith, p .1 .scratch, rest .rest .kept .1 .1 .1 .1 .1 .1 .1 .0);
       value = omega arith;
       rows = omega arith;
-      names = p .2;
-      marks = p .3;
+      names = p .1 .names;
+      marks = p .1 .marks;
     }
 
 returns-3 : tie.Need-returns-3
 returns-3 c =
     let bad = c .before in
-    let parse = bad .before .before .before .before .before in
-    let a = parse .before .before .before .before .before .before .before .before .before .args in
-    write-refused (resolveLiteral (a .verbatim) (a .s .now) (a .base)) _ (parse .parse .result) _ _ (parse .parse .ensures .0) (a .chunks .now)
+    let rest = bad .before .before .before .before .before in
+    let a = rest .before .before .before .before .before .before .before .before .before .args in
+    write-refused (resolveLiteral (a .verbatim) (a .s .now) (a .base)) _ (rest .rest .result) _ _ (rest .rest .ensures .0) (a .chunks .now)
     (a .text .now) (bad .f .given .0 .0) (bad .f .given .1)
 
 returns-4 : tie.Need-returns-4
@@ -92,22 +80,22 @@ returns-4 c =
     let copy = again .before .before .before .before .before .before in
     let room = copy .before .before .before in
     let told = room .before .before in
-    let parse = told .before .before .before .before .before in
-    let begin = parse .before .before .before .before .before .before .before .before .before in
+    let rest = told .before .before .before .before .before in
+    let begin = rest .before .before .before .before .before .before .before .before .before in
     let a = begin .args in
-    let few = write-few (resolveLiteral (a .verbatim) (a .s .now) (a .base)) _ (parse .parse .result) _ _ (parse .parse .ensures .0) (a .chunks .now)
-    (a .text .now) (told .rows .given .0 .0) (told .rows .given .0 .1 .0) (told .rows .given .1) (parse .parse .ensures .1) in
-    write-done (resolveLiteral (a .verbatim) (a .s .now) (a .base)) _ (parse .parse .result) _ _ (parse .parse .ensures .0) (a .chunks .now)
-    (a .text .now) (told .rows .given .0 .0) (told .rows .given .0 .1 .0) (told .rows .given .1) (parse .parse .ensures .1) (room .if1 .left)
-    (omega (arith, few .0, begin .pre .1, parse .parse .kept .1 .1 .1 .1 .1 .0)) (copy .copy .result) _ (copy .copy .ensures .0)
-    (again .parse2 .result) _ _ (again .parse2 .ensures .0)
+    let few = write-few (resolveLiteral (a .verbatim) (a .s .now) (a .base)) _ (rest .rest .result) _ _ (rest .rest .ensures .0) (a .chunks .now)
+    (a .text .now) (told .rows .given .0 .0) (told .rows .given .0 .1 .0) (told .rows .given .1) (rest .rest .ensures .1) in
+    write-done (resolveLiteral (a .verbatim) (a .s .now) (a .base)) _ (rest .rest .result) _ _ (rest .rest .ensures .0) (a .chunks .now)
+    (a .text .now) (told .rows .given .0 .0) (told .rows .given .0 .1 .0) (told .rows .given .1) (rest .rest .ensures .1) (room .if1 .left)
+    (omega (arith, few .0, begin .pre .1 .scratch, rest .rest .kept .1 .1 .1 .1 .1 .1 .1 .0)) (copy .copy .result) _ (copy .copy .ensures .0)
+    (again .parse .result) _ _ (again .parse .ensures .0)
 
 pub write-spec : {M : Type 1} → statement M
 write-spec =
     tie.close
     (tie.spec
     (λ c. search needs)
-    parse-requires
+    (λ c κs. search needs)
     (λ c. search needs)
     (λ c. search needs)
     (λ c. search needs)
@@ -120,7 +108,7 @@ write-spec =
     (λ c. search needs)
     (λ c. search needs)
     returns-2
-    parse-requires-2
+    parse-requires
     (λ c. search needs)
     returns-3
     (λ c. search needs)
