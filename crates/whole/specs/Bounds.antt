@@ -1,14 +1,16 @@
 -- What values come to at most: src/bound.rt, and the functions of src/file.rt that add it up. Only how fast the call is depends on how near a
 -- bound is, so the contracts say that it is one, and not which.
 --     AtMost, MostOf                        what the elements of a value come to at most, whatever file they stand in
+--     Wider, Either                         bounds that are wider than others
+--     TextMost, MonthsMost, UseAtMost       what a month word, and any name, comes to at most
 --     CoversAll, CoversTo, CoversCounted    values that come to no more than was counted
 --     Covered                               the values of the rows before a row come to no more than was counted
 -- Assumes nothing.
-use Prim.Native.Nat.{ℕ, _≤_}
+use Prim.Native.Nat.{ℕ, _+_, _-_, _*_, _/_, _≤_, _<_}
 use mathlib.Core.Path.{_≡_}
 use mathlib.Core.Bool.{Bool, false, not}
 use mathlib.Core.List.{List, [], _∷_, _++_}
-use lib.ListN.{length}
+use lib.ListN.{length, getD}
 use Rattle.row.specs.Row.{Row}
 use Rattle.row.specs.Limits.{mostWritten}
 use Rattle.literal.specs.Rows.{textsOf}
@@ -17,7 +19,7 @@ use Rattle.resolve.specs.declared.progress.Went.the-variants as went
 use Rattle.resolve.specs.Resolves.{Value}
 use Rattle.resolve.specs.Checks.{Lent}
 use Rattle.resolve.specs.Runs.{Run, done, stop}
-use Rattle.values.specs.Field.{walk, elements, element}
+use Rattle.values.specs.Field.{walk, elements, element, name}
 use Rattle.whole.specs.declared.bound.Most.{Most}
 use Rattle.whole.specs.declared.bound.Most.the-variants as most
 use Rattle.whole.specs.declared.file.Totals.{Totals}
@@ -31,14 +33,51 @@ abbrev pub RunAtMost : Run → ℕ → ℕ → Type 0
 RunAtMost (done cs k) n m = (length cs ≤ n) × (length (textsOf cs) ≤ m)
 RunAtMost (stop f) n m = Unit {0}
 
--- the elements in front of rs come to at most n chunks and m bytes of text, whatever the file is and whatever names come to
-abbrev pub AtMost : List Row → ℕ → ℕ → Type 0
-AtMost rs n m = (l : Lent) (verb : Bool) (name : Row → ℕ → Run) (k : ℕ) → RunAtMost (walk (element l verb name) (elements rs) k) n m
+-- a name comes to at most u, if that is known
+abbrev pub NameAtMost : Most → (Row → ℕ → Run) → Type 0
+NameAtMost (most.Literals n m) name = (r : Row) (k : ℕ) → RunAtMost (name r k) n m
+NameAtMost most.Unknown name = Unit {0}
+
+-- the elements in front of rs come to at most n chunks and m bytes of text, whatever the file is, where names come to at most u
+abbrev pub AtMost : Most → List Row → ℕ → ℕ → Type 0
+AtMost u rs n m =
+    (l : Lent) (verb : Bool) (name : Row → ℕ → Run) → NameAtMost u name → (k : ℕ) → RunAtMost (walk (element l verb name) (elements rs) k) n m
 
 -- what `most_of` answers is a bound, or nothing is known
-abbrev pub MostOf : List Row → Most → Type 0
-MostOf rs (most.Literals n m) = (n ≤ mostWritten) × (m ≤ mostWritten) × AtMost rs n m
-MostOf rs most.Unknown = Unit {0}
+abbrev pub MostOf : Most → List Row → Most → Type 0
+MostOf u rs (most.Literals n m) = AtMost u rs n m
+MostOf u rs most.Unknown = Unit {0}
+
+-- no more than can be written, so that no sum overflows
+abbrev pub SmallMost : Most → Type 0
+SmallMost (most.Literals n m) = (n ≤ mostWritten) × (m ≤ mostWritten)
+SmallMost most.Unknown = Unit {0}
+
+-- ---- names
+
+-- what is within a is within r
+abbrev pub Wider : Most → Most → Type 0
+Wider most.Unknown a = Unit {0}
+Wider (most.Literals p q) (most.Literals n m) = (n ≤ p) × (m ≤ q)
+Wider (most.Literals p q) most.Unknown = ⊥
+
+pub record Either (a b r : Most) : Type 0 where
+  pub one : Wider r a
+  pub other : Wider r b
+  pub small : SmallMost a → SmallMost b → SmallMost r
+
+-- one chunk with k bytes of text is within u
+abbrev pub TextMost : ℕ → Most → Type 0
+TextMost k (most.Literals n m) = (1 ≤ n) × (k ≤ m)
+TextMost k most.Unknown = Unit {0}
+
+-- the text of each month word, of which there are four numbers, is within u
+abbrev pub MonthsMost : List ℕ → Most → Type 0
+MonthsMost months u = (j : ℕ) → j < length months / 4 → TextMost (getD months (j * 4 + 3) 0 - getD months (j * 4 + 2) 0) u
+
+-- the use of any name comes to at most u
+abbrev pub UseAtMost : Lent → Most → Type 0
+UseAtMost l u = SmallMost u × ((verb : Bool) (left : ℕ) (path : List ℕ) → NameAtMost u (name l verb left path))
 
 -- ---- values
 

@@ -37,7 +37,7 @@ ghost use Rattle.resolve.specs.Progress.{BoundedWent, BoundedAnswer};
 ghost use Rattle.whole.specs.declared.file.Filed.the-variants as filed;
 ghost use Rattle.whole.specs.WholeFile.{isValueRow, flag, values as valuesOf, results, fitsAll, all, WritesAll, allOf, ResolvesFile};
 ghost use Rattle.whole.specs.Filing.{Filing, BoundedTotals, CountsAll, AddsTo, AddsCounted, AddsAnswer, FitsBehind, sixOf, WroteAll, CountedTo, WroteTo};
-ghost use Rattle.whole.specs.Bounds.{CoversAll, CoversTo, CoversCounted, Covered};
+ghost use Rattle.whole.specs.Bounds.{UseAtMost, CoversAll, CoversTo, CoversCounted, Covered};
 
 // The values, chunk rows and bytes of text that were written; or a refusal of the whole call.
 pub enum Filed {
@@ -143,8 +143,20 @@ fn none() -> Totals
     }
 }
 
-// Counts every value over no room.
-fn count(
+// Whether there is room for all that was counted; or, where a bound was counted, whether there surely is.
+fn fits(t: Totals, answers: &[u32], chunks: &[u32], text: &[u8]) -> bool
+    requires { ⌜ BoundedTotals t ⌝ }
+    ensures { λ r. ⌜ ((vs : List Value) → CountsAll vs t → r ≡ fitsAll vs (now (answers .entry)) (now (chunks .entry)) (now (text .entry))) ×
+        ((vs : List Value) → CoversAll vs t → r ≡ true → fitsAll vs (now (answers .entry)) (now (chunks .entry)) (now (text .entry)) ≡ true) ⌝ }
+{
+    !t.over
+        & (t.values <= answers.len() / 6)
+        & (t.rows <= chunks.len() / 5)
+        & (t.bytes <= text.len())
+}
+
+// Whether there is room for all values, which are counted over no room, until there is more than is lent.
+fn counted_fits(
     file: &[u8],
     rows: &[u32],
     flags: &[u8],
@@ -155,10 +167,13 @@ fn count(
     known: &[u8],
     marks: &[u32],
     scratch: &mut [u8],
-) -> Totals
+    answers: &[u32],
+    chunks: &[u32],
+    text: &[u8],
+) -> bool
     requires { ⌜ Filing (now file) (now rows) (now flags) (now months) (now words) (now heads) (now next) (now scratch) (now known) (now marks) ⌝ }
-    ensures { λ r. ⌜ CountsAll (results (lentOf (now (file .entry)) (now (rows .entry)) (now (months .entry)) (now (words .entry)))
-        (now (flags .entry))) r × BoundedTotals r ⌝ }
+    ensures { λ r. ⌜ r ≡ fitsAll (results (lentOf (now (file .entry)) (now (rows .entry)) (now (months .entry)) (now (words .entry))) (now (flags .entry)))
+        (now (answers .entry)) (now (chunks .entry)) (now (text .entry)) ⌝ }
 {
     let mut t = none();
     let mut i = 0;
@@ -181,12 +196,16 @@ fn count(
                 scratch,
             );
             t = add_counted(t, w);
+            if !fits(t, answers, chunks, text) {
+                return false;
+            }
         }
     }
-    t
+    fits(t, answers, chunks, text)
 }
 
-// Adds what row i comes to at most, if it is a value, to what the rows before it come to at most.
+// Adds what row i comes to at most, if it is a value, to what the rows before it come to at most. A use of a name comes to at most `name`. A value
+// of which nothing is known is counted.
 fn bound_row(
     file: &[u8],
     rows: &[u32],
@@ -199,17 +218,19 @@ fn bound_row(
     marks: &[u32],
     i: usize,
     t: Totals,
+    name: Most,
     scratch: &mut [u8],
 ) -> Totals
     requires { ⌜ Filing (now file) (now rows) (now flags) (now months) (now words) (now heads) (now next) (now scratch) (now known) (now marks) ×
-        (i < length (now rows) / 4) × BoundedTotals t × Covered (lentOf (now file) (now rows) (now months) (now words)) (now flags) i t ⌝ }
+        (i < length (now rows) / 4) × BoundedTotals t × Covered (lentOf (now file) (now rows) (now months) (now words)) (now flags) i t ×
+        UseAtMost (lentOf (now file) (now rows) (now months) (now words)) name ⌝ }
     ensures { λ r. ⌜ Covered (lentOf (now (file .entry)) (now (rows .entry)) (now (months .entry)) (now (words .entry))) (now (flags .entry)) (i + 1) r
         × BoundedTotals r ⌝ }
 {
     if !is_value(rows, i) {
         return t;
     }
-    match bound::most_of(rows, i) {
+    match bound::most_of(rows, i, name) {
         Most::Literals { rows: n, bytes: m } => add(t, n, m, false),
         Most::Unknown => {
             let flag = flag_at(flags, t.values);
@@ -231,8 +252,9 @@ fn bound_row(
     }
 }
 
-// What all values come to at most. A value that uses names is counted.
-fn most_of_all(
+// Whether there surely is room for all values, told from what they come to at most, where a use of a name comes to at most `name`. It goes no
+// further than where there is more than is lent.
+fn surely_fits(
     file: &[u8],
     rows: &[u32],
     flags: &[u8],
@@ -242,11 +264,16 @@ fn most_of_all(
     next: &[u32],
     known: &[u8],
     marks: &[u32],
+    name: Most,
     scratch: &mut [u8],
-) -> Totals
-    requires { ⌜ Filing (now file) (now rows) (now flags) (now months) (now words) (now heads) (now next) (now scratch) (now known) (now marks) ⌝ }
-    ensures { λ r. ⌜ CoversAll (results (lentOf (now (file .entry)) (now (rows .entry)) (now (months .entry)) (now (words .entry)))
-        (now (flags .entry))) r × BoundedTotals r ⌝ }
+    answers: &[u32],
+    chunks: &[u32],
+    text: &[u8],
+) -> bool
+    requires { ⌜ Filing (now file) (now rows) (now flags) (now months) (now words) (now heads) (now next) (now scratch) (now known) (now marks) ×
+        UseAtMost (lentOf (now file) (now rows) (now months) (now words)) name ⌝ }
+    ensures { λ r. ⌜ (r ≡ true → fitsAll (results (lentOf (now (file .entry)) (now (rows .entry)) (now (months .entry)) (now (words .entry))) (now (flags .entry)))
+        (now (answers .entry)) (now (chunks .entry)) (now (text .entry)) ≡ true) ⌝ }
 {
     let mut t = none();
     let mut i = 0;
@@ -263,26 +290,18 @@ fn most_of_all(
             marks,
             i,
             t,
+            name,
             scratch,
         );
+        if !fits(t, answers, chunks, text) {
+            return false;
+        }
         i += 1;
     }
-    t
+    fits(t, answers, chunks, text)
 }
 
-// Whether there is room for all that was counted; or, where a bound was counted, whether there surely is.
-fn fits(t: Totals, answers: &[u32], chunks: &[u32], text: &[u8]) -> bool
-    requires { ⌜ BoundedTotals t ⌝ }
-    ensures { λ r. ⌜ ((vs : List Value) → CountsAll vs t → r ≡ fitsAll vs (now (answers .entry)) (now (chunks .entry)) (now (text .entry))) ×
-        ((vs : List Value) → CoversAll vs t → r ≡ true → fitsAll vs (now (answers .entry)) (now (chunks .entry)) (now (text .entry)) ≡ true) ⌝ }
-{
-    !t.over
-        & (t.values <= answers.len() / 6)
-        & (t.rows <= chunks.len() / 5)
-        & (t.bytes <= text.len())
-}
-
-// Whether there is room for all values.
+// Whether there is room for all values. Where the bound of names does not tell, values with names are counted; and then all.
 fn has_room(
     file: &[u8],
     rows: &[u32],
@@ -302,7 +321,8 @@ fn has_room(
     ensures { λ r. ⌜ r ≡ fitsAll (results (lentOf (now (file .entry)) (now (rows .entry)) (now (months .entry)) (now (words .entry))) (now (flags .entry)))
         (now (answers .entry)) (now (chunks .entry)) (now (text .entry)) ⌝ }
 {
-    let most = most_of_all(
+    let name = bound::most_of_names(rows, months);
+    if surely_fits(
         file,
         rows,
         flags,
@@ -312,12 +332,38 @@ fn has_room(
         next,
         known,
         marks,
+        name,
         scratch,
-    );
-    if fits(most, answers, chunks, text) {
+        answers,
+        chunks,
+        text,
+    ) {
         return true;
     }
-    let t = count(
+    match name {
+        Most::Unknown => {}
+        Most::Literals { rows: _, bytes: _ } => {
+            if surely_fits(
+                file,
+                rows,
+                flags,
+                months,
+                words,
+                heads,
+                next,
+                known,
+                marks,
+                Most::Unknown,
+                scratch,
+                answers,
+                chunks,
+                text,
+            ) {
+                return true;
+            }
+        }
+    }
+    counted_fits(
         file,
         rows,
         flags,
@@ -328,8 +374,10 @@ fn has_room(
         known,
         marks,
         scratch,
-    );
-    fits(t, answers, chunks, text)
+        answers,
+        chunks,
+        text,
+    )
 }
 
 // Writes the answer row of value k.

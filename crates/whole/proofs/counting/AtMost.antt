@@ -1,9 +1,8 @@
--- What the literals of a value come to at most.
---     few-flat                                 flattened chunks are no more than they were
---     none-most, literal-most                  no element more, and a literal
---     row-there                                a literal is a whole row
+-- What the elements of a value come to at most.
+--     flat-within                              flattened chunks are no more than they were
+--     none-most, literal-most, name-most       no element more, a literal, and a name
 --     spans, sums                              the tests of `most_of`
---     summed-none, summed-on, summed-end       `most_of`: the beginning, one literal more, and the end
+--     summed-none, summed-literal, summed-name, summed-end       `most_of`: the beginning, one element more, and the end
 --     field-under                              a value comes to no more than its elements
 -- Assumes nothing.
 use Prim.Native.Nat.{ℕ, suc, _+_, _-_, _*_, _≤_}
@@ -39,7 +38,9 @@ use Rattle.values.specs.declared.elements.Element.the-variants as element
 use Rattle.values.specs.Field.{behind, onward, walk, elements, ofRun, flattened, name, fieldOf}
 use Rattle.values.specs.Field as field
 use Rattle.values.specs.Uses.{firstElement}
-use Rattle.whole.specs.Bounds.{RunAtMost, AtMost, Under}
+use Rattle.whole.specs.declared.bound.Most.{Most}
+use Rattle.whole.specs.declared.bound.Most.the-variants as most
+use Rattle.whole.specs.Bounds.{RunAtMost, NameAtMost, AtMost, UseAtMost, Under}
 
 -- ---- chunks
 
@@ -53,7 +54,7 @@ few-from (d ∷ cs) c = by (joins (c .kind) (d .kind)) (few-from cs (join c d)) 
     by true h k = omega arith
     by false h k = omega arith
 
-pub few-flat : (cs : List Chunk) → length (flatten cs) ≤ length cs
+few-flat : (cs : List Chunk) → length (flatten cs) ≤ length cs
 few-flat [] = omega arith
 few-flat (c ∷ cs) = few-from cs c
 
@@ -81,6 +82,10 @@ literal-within verb file a e k =
     by (chunks cs) f t = (omega (arith, f cs refl, part-size file a e), omega (arith, t cs refl, part-size file a e))
     by (literal.refused g) f t = tt
 
+pub flat-within : (x : Run) (n m : ℕ) → RunAtMost x n m → RunAtMost (flattened x) n m
+flat-within (done cs k) n m h = (omega (arith, few-flat cs, h .0), omega (arith, ap length (flattening .texts-flat cs), h .1))
+flat-within (stop f) n m h = tt
+
 -- ---- the first of the rows
 
 module _ (r : Row) (ss : List Row) where
@@ -93,6 +98,15 @@ module _ (r : Row) (ss : List Row) where
       by false true h = let z : _≡_ {A = ℕ} 0 1 = cc in absurd (omega arith)
       by false false h = let z : _≡_ {A = ℕ} 0 1 = cc in absurd (omega arith)
 
+  name-row : (a e : ℕ) → firstElement (r ∷ ss) ≡ element.Name a e → (isKind Literal (r .kind) ≡ false) × (isKind Name (r .kind) ≡ true)
+  name-row a e = by (isKind Literal (r .kind)) (isKind Name (r .kind))
+    where
+      by : (x y : Bool) → cond x (element.Literal (r .start) (r .end)) (cond y (element.Name (r .start) (r .end)) element.Nothing) ≡ element.Name a e
+          → (x ≡ false) × (y ≡ true)
+      by true y h = let z : _≡_ {A = ℕ} 0 1 = cc in absurd (omega arith)
+      by false true h = (refl, refl)
+      by false false h = let z : _≡_ {A = ℕ} 0 1 = cc in absurd (omega arith)
+
   no-row : firstElement (r ∷ ss) ≡ element.Nothing → (isKind Literal (r .kind) || isKind Name (r .kind)) ≡ false
   no-row = by (isKind Literal (r .kind)) (isKind Name (r .kind))
     where
@@ -102,33 +116,40 @@ module _ (r : Row) (ss : List Row) where
       by false true h = let z : _≡_ {A = ℕ} 0 1 = cc in absurd (omega arith)
       by false false h = refl
 
-pub none-most : (rs : List Row) → firstElement rs ≡ element.Nothing → AtMost rs 0 0
+pub none-most : (u : Most) (rs : List Row) → firstElement rs ≡ element.Nothing → AtMost u rs 0 0
 unfolding walk elements textsOf
-none-most [] h l verb name k = (omega arith, omega arith)
-none-most (r ∷ rs) h l verb name k =
+none-most u [] h l verb name b k = (omega arith, omega arith)
+none-most u (r ∷ rs) h l verb name b k =
     subst (λ (b : Bool). RunAtMost (walk (field.element l verb name) (cond b (r ∷ elements rs) []) k) 0 0) (sym (no-row r rs h)) (omega arith, omega arith)
 
-pub literal-most : (r : Row) (ss : List Row) (a e n m : ℕ) → firstElement (r ∷ ss) ≡ element.Literal a e → AtMost ss n m
-    → AtMost (r ∷ ss) (e - a + 1 + n) (2 * (e - a) + m)
-unfolding walk elements
-literal-most r ss a e n m h f l verb name k =
-    let t = literal-row r ss a e h in
-    let one = field.element l verb name in
-    let first = ofLiteral (resolveLiteral verb (part (l .file) a e) a) k in
-    let is : walk one (elements (r ∷ ss)) k ≡ onward first (walk one (elements ss)) = (rw (t .0, t .0, t .1, t .2)) in
-    subst (λ (x : Run). RunAtMost x (e - a + 1 + n) (2 * (e - a) + m)) (sym is)
-    (onward-within first (walk one (elements ss)) (e - a + 1) (2 * (e - a)) n m (literal-within verb (l .file) a e k) (f l verb name))
+module _ (u : Most) (r : Row) (ss : List Row) (a e n m : ℕ) where
+  pub literal-most : firstElement (r ∷ ss) ≡ element.Literal a e → AtMost u ss n m → AtMost u (r ∷ ss) (e - a + 1 + n) (2 * (e - a) + m)
+  unfolding walk elements
+  literal-most h f l verb name b k =
+      let t = literal-row r ss a e h in
+      let one = field.element l verb name in
+      let first = ofLiteral (resolveLiteral verb (part (l .file) a e) a) k in
+      let is : walk one (elements (r ∷ ss)) k ≡ onward first (walk one (elements ss)) = (rw (t .0, t .0, t .1, t .2)) in
+      subst (λ (x : Run). RunAtMost x (e - a + 1 + n) (2 * (e - a) + m)) (sym is)
+      (onward-within first (walk one (elements ss)) (e - a + 1) (2 * (e - a)) n m (literal-within verb (l .file) a e k) (f l verb name b))
+
+  pub name-most : (x y : ℕ) → u ≡ most.Literals x y → firstElement (r ∷ ss) ≡ element.Name a e → AtMost u ss n m → AtMost u (r ∷ ss) (x + n) (y + m)
+  unfolding walk elements
+  name-most x y w h f l verb name b k =
+      let t = name-row r ss a e h in
+      let one = field.element l verb name in
+      let is : walk one (elements (r ∷ ss)) k ≡ onward (name r k) (walk one (elements ss)) = (rw (t .0, t .1, t .0)) in
+      subst (λ (z : Run). RunAtMost z (x + n) (y + m)) (sym is)
+      (onward-within (name r k) (walk one (elements ss)) x y n m (subst (λ (v : Most). NameAtMost v name) w b r k) (f l verb name b))
 
 -- ---- the loop
 
-pub row-there : (rows : List ℕ) (i a e : ℕ) → firstElement (rowsOf (drop i rows)) ≡ element.Literal a e → i + 4 ≤ length rows
-row-there rows i a e h = by (leb (i + 4) (length rows)) refl
+there : (rows : List ℕ) (i : ℕ) → (firstElement (rowsOf (drop i rows)) ≡ element.Nothing → ⊥) → i + 4 ≤ length rows
+there rows i h = by (leb (i + 4) (length rows)) refl
   where
     by : (w : Bool) → leb (i + 4) (length rows) ≡ w → i + 4 ≤ length rows
     by true p = leb-true (i + 4) (length rows) p
-    by false p =
-        let q = sym (ap firstElement (laid .rows-end rows i (leb-false (i + 4) (length rows) p))) ∙ h in
-        let z : _≡_ {A = ℕ} 0 1 = cc in absurd (omega arith)
+    by false p = absurd (h (ap firstElement (laid .rows-end rows i (leb-false (i + 4) (length rows) p))))
 
 -- the tests of the code
 pub spans : (a e : ℕ) → (ltb e a || ltb mostWritten e) ≡ false → (a ≤ e) × (e ≤ mostWritten)
@@ -137,45 +158,70 @@ spans a e h = let t = both-false (ltb e a) (ltb mostWritten e) h in (ltb-false e
 pub sums : (n m : ℕ) → (ltb mostWritten n || ltb mostWritten m) ≡ false → (n ≤ mostWritten) × (m ≤ mostWritten)
 sums n m h = let t = both-false (ltb mostWritten n) (ltb mostWritten m) h in (ltb-false mostWritten n (t .0), ltb-false mostWritten m (t .1))
 
--- the literals from number i to number j add at most n chunks and m bytes to what the elements from j on come to
-abbrev pub Summed : List ℕ → ℕ → ℕ → ℕ → ℕ → Type 0
-Summed rows i n m j = (p q : ℕ) → AtMost (rowsOf (drop j rows)) p q → AtMost (rowsOf (drop i rows)) (n + p) (m + q)
+-- the elements from number i to number j add at most n chunks and m bytes to what the elements from j on come to
+abbrev pub Summed : Most → List ℕ → ℕ → ℕ → ℕ → ℕ → Type 0
+Summed u rows i n m j = (p q : ℕ) → AtMost u (rowsOf (drop j rows)) p q → AtMost u (rowsOf (drop i rows)) (n + p) (m + q)
 
-most-as : (rs : List Row) {n m p q : ℕ} → n ≡ p → m ≡ q → AtMost rs n m → AtMost rs p q
-most-as rs {n} {m} {p} {q} e f h = subst (λ (x : ℕ). AtMost rs p x) f (subst (λ (x : ℕ). AtMost rs x m) e h)
+most-as : (u : Most) (rs : List Row) {n m p q : ℕ} → n ≡ p → m ≡ q → AtMost u rs n m → AtMost u rs p q
+most-as u rs {n} {m} {p} {q} e f h = subst (λ (x : ℕ). AtMost u rs p x) f (subst (λ (x : ℕ). AtMost u rs x m) e h)
 
-pub summed-none : (rows : List ℕ) (i : ℕ) → Summed rows i 0 0 i
-summed-none rows i p q h = most-as (rowsOf (drop i rows)) (omega arith) (omega arith) h
+pub summed-none : (u : Most) (rows : List ℕ) (i : ℕ) → Summed u rows i 0 0 i
+summed-none u rows i p q h = most-as u (rowsOf (drop i rows)) (omega arith) (omega arith) h
 
-pub summed-on : (rows : List ℕ) (i n m j : ℕ) → Summed rows i n m j → (v : Element) → v ≡ firstElement (rowsOf (drop j rows)) → (a e : ℕ)
-    → v ≡ element.Literal a e → Summed rows i (n + (e - a + 1)) (m + 2 * (e - a)) (j + 4)
-summed-on rows i n m j s v w a e x p q h =
-    let is : firstElement (rowsOf (drop j rows)) ≡ element.Literal a e = sym w ∙ x in
-    let next = laid .rows-next rows j (row-there rows j a e is) in
-    let first = literal-most (rowAt rows j) (rowsOf (drop (j + 4) rows)) a e p q (sym (ap firstElement next) ∙ is) h in
-    most-as (rowsOf (drop i rows)) (omega arith) (omega arith)
-    (s (e - a + 1 + p) (2 * (e - a) + q) (subst (λ (rs : List Row). AtMost rs (e - a + 1 + p) (2 * (e - a) + q)) (sym next) first))
+module _ (u : Most) (rows : List ℕ) (i n m j : ℕ) where
+  -- one element more, which comes to at most x chunks and y bytes
+  summed-on : Summed u rows i n m j → j + 4 ≤ length rows → (x y n′ m′ : ℕ) → n′ ≡ n + x → m′ ≡ m + y
+      → ((p q : ℕ) → AtMost u (rowsOf (drop (j + 4) rows)) p q → AtMost u (rowAt rows j ∷ rowsOf (drop (j + 4) rows)) (x + p) (y + q))
+      → Summed u rows i n′ m′ (j + 4)
+  summed-on s t x y n′ m′ e f one p q h =
+      most-as u (rowsOf (drop i rows)) (omega arith) (omega arith)
+      (s (x + p) (y + q) (subst (λ (rs : List Row). AtMost u rs (x + p) (y + q)) (sym (laid .rows-next rows j t)) (one p q h)))
+
+  module _ (s : Summed u rows i n m j) (v : Element) (w : v ≡ firstElement (rowsOf (drop j rows))) (a e : ℕ) where
+    first : j + 4 ≤ length rows → (d : Element) → v ≡ d → firstElement (rowAt rows j ∷ rowsOf (drop (j + 4) rows)) ≡ d
+    first t d h = sym (ap firstElement (laid .rows-next rows j t)) ∙ sym w ∙ h
+
+    module _ (n′ m′ : ℕ) where
+      pub summed-literal : v ≡ element.Literal a e → n′ ≡ n + (e - a + 1) → m′ ≡ m + 2 * (e - a)
+          → Summed u rows i n′ m′ (j + 4) × (j + 4 ≤ length rows)
+      summed-literal h p q =
+          let t = there rows j (λ n. let z : _≡_ {A = ℕ} 0 1 = cc in omega arith) in (
+            summed-on s t (e - a + 1) (2 * (e - a)) n′ m′ p q
+                (λ p q. literal-most u (rowAt rows j) (rowsOf (drop (j + 4) rows)) a e p q (first t (element.Literal a e) h)),
+            t,
+          )
+
+      pub summed-name : (x y : ℕ) → u ≡ most.Literals x y → v ≡ element.Name a e → n′ ≡ n + x → m′ ≡ m + y
+          → Summed u rows i n′ m′ (j + 4) × (j + 4 ≤ length rows)
+      summed-name x y k h p q =
+          let t = there rows j (λ n. let z : _≡_ {A = ℕ} 0 1 = cc in omega arith) in (
+            summed-on s t x y n′ m′ p q
+                (λ p q. name-most u (rowAt rows j) (rowsOf (drop (j + 4) rows)) a e p q x y k (first t (element.Name a e) h)),
+            t,
+          )
 
 -- the elements of the value of row i stand behind its row
-pub summed-end : (rows : List ℕ) (i n m j : ℕ) → Summed rows (i * 4 + 4) n m j → (v : Element) → v ≡ firstElement (rowsOf (drop j rows))
-    → v ≡ element.Nothing → AtMost (drop (i + 1) (rowsOf rows)) n m
-summed-end rows i n m j s v w x =
+pub summed-end : (u : Most) (rows : List ℕ) (i n m j : ℕ) → Summed u rows (i * 4 + 4) n m j → (v : Element)
+    → v ≡ firstElement (rowsOf (drop j rows)) → v ≡ element.Nothing → AtMost u (drop (i + 1) (rowsOf rows)) n m
+summed-end u rows i n m j s v w x =
     let at : drop (i + 1) (rowsOf rows) ≡ rowsOf (drop (i * 4 + 4) rows) = laid .rows-by (i + 1) rows ∙ ap (λ (n : ℕ). rowsOf (drop n rows)) (next i) in
-    subst (λ (rs : List Row). AtMost rs n m) (sym at)
-    (most-as (rowsOf (drop (i * 4 + 4) rows)) (omega arith) (omega arith) (s 0 0 (none-most (rowsOf (drop j rows)) (sym w ∙ x))))
+    subst (λ (rs : List Row). AtMost u rs n m) (sym at)
+    (most-as u (rowsOf (drop (i * 4 + 4) rows)) (omega arith) (omega arith) (s 0 0 (none-most u (rowsOf (drop j rows)) (sym w ∙ x))))
   where
     next : (i : ℕ) → (i + 1) * 4 ≡ i * 4 + 4
     next i = omega arith
 
 -- ---- the value
 
-flat-under : (x : Run) (n m : ℕ) → RunAtMost x n m → Under (ofRun (flattened x)) n m
+run-under : (x : Run) (n m : ℕ) → RunAtMost x n m → Under (ofRun x) n m
 unfolding textsOf
-flat-under (done cs k) n m h = (omega (arith, few-flat cs, h .0), omega (arith, ap length (flattening .texts-flat cs), h .1))
-flat-under (stop f) n m h = (omega arith, omega arith)
+run-under (done cs k) n m h = h
+run-under (stop f) n m h = (omega arith, omega arith)
 
-pub field-under : (l : Lent) (verb : Bool) (i n m : ℕ) → AtMost (drop (i + 1) (l .rows)) n m → Under (fieldOf l verb i) n m
-field-under l verb i n m h =
+pub field-under : (u : Most) (l : Lent) → UseAtMost l u → (verb : Bool) (i n m : ℕ) → AtMost u (drop (i + 1) (l .rows)) n m
+    → Under (fieldOf l verb i) n m
+field-under u l b verb i n m h =
     let one = name l verb mostOpen [] in
-    let k = subst (λ (j : ℕ). AtMost (drop j (l .rows)) n m) (add-one i) h in
-    flat-under (walk (field.element l verb one) (elements (drop (suc i) (l .rows))) 0) n m (k l verb one 0)
+    let k = subst (λ (j : ℕ). AtMost u (drop j (l .rows)) n m) (add-one i) h in
+    let run = walk (field.element l verb one) (elements (drop (suc i) (l .rows))) 0 in
+    run-under (flattened run) n m (flat-within run n m (k l verb one (b .1 verb mostOpen []) 0))

@@ -2,8 +2,9 @@
 --     none-counted                                       `none`
 --     much, much-not, add-much, add-on                   `add`, where there is more than can be written and where there is not
 --     counted-on                                         `add_counted`: the value that was counted
---     resolving, few-values, count-flag                  what `count` has to show: the values so far are no more than the rows, the next has a flag
---     count-start, count-value, count-other, count-end   `count`: the beginning, one row more, and the end
+--     resolving, few-values, count-flag                  what `counted_fits` has to show: the values so far are no more than the rows, the next has a flag
+--     count-start, count-value, count-other              `counted_fits`: the beginning, and one row more
+--     count-full, count-end                              where the values so far do not fit, and the end
 -- Assumes nothing.
 use Prim.Native.Nat.{ℕ, _+_, _/_, _≤_, _<_}
 use native.Mathlib.Omega.{arith}
@@ -24,10 +25,10 @@ use Rattle.resolve.specs.Progress.{Counted}
 use Rattle.values.specs.Field.{fieldOf}
 use Rattle.fields.specs.OneField.{Resolving}
 use Rattle.whole.specs.declared.file.Totals.{Totals}
-use Rattle.whole.specs.WholeFile.{isValueRow, flag, values, results, chunksIn, texts, countRows, smallAll}
+use Rattle.whole.specs.WholeFile.{isValueRow, flag, values, results, chunksIn, texts, countRows, smallAll, fitsAll}
 use Rattle.whole.specs.Filing.{Filing, CountsAll, CountedTo, Sized, AddsTo, AddsCounted}
 use Rattle.whole.proofs.values.Appended.{rows-one, text-more}
-use Rattle.whole.proofs.values.Fitting.{small-counts, counts-small}
+use Rattle.whole.proofs.values.Fitting.{small-counts, counts-small, full-front}
 use Rattle.whole.proofs.values.RowByRow.{valueOf, so-start, so-other, so-value, so-flag, so-end}
 use Rattle.row.specs.Limits.{mostWritten}
 
@@ -144,6 +145,12 @@ module _ (l : Lent) (flags : List ℕ) where
 
     pub count-end : length (l .rows) ≤ i → CountsAll (results l flags) t
     count-end h = subst (λ (vs : List Value). CountsAll vs t) (so-end l flags i (b .vs) t h (b .so)) (b .so .counts)
+
+    pub count-full : (q c x : List ℕ) (w : Bool) → ((vs : List Value) → CountsAll vs t → w ≡ fitsAll vs q c x) → w ≡ false
+        → false ≡ fitsAll (results l flags) q c x
+    count-full q c x w h n =
+        let full = full-front (b .vs) _ q c x (sym (h (b .vs) (b .so .counts)) ∙ n) in
+        sym (subst (λ (vs : List Value). fitsAll vs q c x ≡ false) (b .so .rest) full)
 
     module _ (below : i < length (l .rows)) (w : Bool) (e : w ≡ isValueRow (rowNo (l .rows) i)) where
       pub count-other : w ≡ false → CountedTo l flags (i + 1) t

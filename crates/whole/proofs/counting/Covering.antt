@@ -23,10 +23,11 @@ use Rattle.resolve.specs.Resolves.{Value, resolved, refused}
 use Rattle.resolve.specs.Checks.{Lent}
 use Rattle.resolve.specs.Progress.{Counted}
 use Rattle.values.specs.Field.{fieldOf}
+use Rattle.whole.specs.declared.bound.Most.{Most}
 use Rattle.whole.specs.declared.file.Totals.{Totals}
 use Rattle.whole.specs.WholeFile.{isValueRow, flag, values, results, fitsAll}
 use Rattle.whole.specs.Filing.{BoundedTotals, CountsAll}
-use Rattle.whole.specs.Bounds.{AtMost, CoversAll, CoversTo, CoversCounted, exactly, Covered}
+use Rattle.whole.specs.Bounds.{AtMost, UseAtMost, CoversAll, CoversTo, CoversCounted, exactly, Covered}
 use Rattle.whole.proofs.values.Appended.{rows-one, text-more}
 use Rattle.whole.proofs.values.Fitting.{room-fits}
 use Rattle.whole.proofs.values.RowByRow.{valueOf, so-start, so-other, so-value, so-flag, so-end}
@@ -106,8 +107,9 @@ module _ (l : Lent) (flags : List ℕ) where
           covers = c;
         }
 
-        pub cover-most : (n m : ℕ) → AtMost (drop (i + 1) (l .rows)) n m → (r : Totals) → CoversTo t n m false r → Covered l flags (i + 1) r
-        cover-most n m h r a = cover-one r (a (b .vs) v (b .covers) (λ _. field-under l (flag (drop (length (b .vs)) flags)) i n m h))
+        pub cover-most : (u : Most) → UseAtMost l u → (n m : ℕ) → AtMost u (drop (i + 1) (l .rows)) n m → (r : Totals) → CoversTo t n m false r
+            → Covered l flags (i + 1) r
+        cover-most u k n m h r a = cover-one r (a (b .vs) v (b .covers) (λ _. field-under u l k (flag (drop (length (b .vs)) flags)) i n m h))
 
         pub cover-count : (verb : Bool) → verb ≡ flag (drop (t .values) flags) → (g : Went) → Counted (fieldOf l verb i) g → (r : Totals)
             → CoversCounted t g r → Covered l flags (i + 1) r

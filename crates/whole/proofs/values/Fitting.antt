@@ -1,18 +1,18 @@
 -- Values that fit, and those in front of them.
 --     ValuesRoom, fits-room, room-fits      what `fitsAll` says, in numbers
 --     fits-as                               `fitsAll` depends only on how long the lent outputs are
---     room-front                            values in front of others need no more room
+--     room-front, full-front                values in front of others need no more room; where they do not fit, all do not
 --     small-counts, counts-small            what `smallAll` says, in numbers
 -- Assumes nothing.
 use Prim.Native.Nat.{ℕ, _+_, _/_, _≤_}
 use native.Mathlib.Omega.{arith}
-use mathlib.Core.Path.{_≡_, ap, _∙_}
-use mathlib.Core.Bool.{true, _&&_}
+use mathlib.Core.Path.{_≡_, refl, ap, _∙_}
+use mathlib.Core.Bool.{Bool, true, false, _&&_}
 use mathlib.Core.List.{List, _++_}
 use lib.ListN.{length, length-append}
 use lib.Dec.{leb}
 use borrow.Author.Tests.{leb-true, le-leb}
-use Rattle.text.proofs.general.Tests.{both-true}
+use Rattle.text.proofs.general.Tests.{both-true, true-not-false}
 use Rattle.row.specs.Limits.{mostWritten}
 use Rattle.resolve.specs.Resolves.{Value}
 use Rattle.whole.specs.WholeFile.{texts, countRows, smallAll, fitsAll}
@@ -83,3 +83,10 @@ room-front vs ws q b t r =
       chunks = omega (arith, r .chunks);
       text = omega (arith, r .text);
     }
+
+pub full-front : (vs ws : List Value) (q b t : List ℕ) → fitsAll vs q b t ≡ false → fitsAll (vs ++ ws) q b t ≡ false
+full-front vs ws q b t h = by (fitsAll (vs ++ ws) q b t) refl
+  where
+    by : (w : Bool) → fitsAll (vs ++ ws) q b t ≡ w → w ≡ false
+    by true e = true-not-false (fitsAll vs q b t) (room-fits vs q b t (room-front vs ws q b t (fits-room (vs ++ ws) q b t e))) h
+    by false e = refl

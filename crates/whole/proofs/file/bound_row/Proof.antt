@@ -7,7 +7,7 @@ use borrow.Author.Needs.{needs}
 use borrow.Author.Tests.{not-true, not-false}
 use Rattle.row.specs.Numbers.{rowsOf}
 use Rattle.resolve.specs.Checks.{lentOf}
-use Rattle.whole.specs.Bounds.{MostOf}
+use Rattle.whole.specs.Bounds.{MostOf, SmallMost}
 use Rattle.whole.proofs.counting.RowKinds.{inside}
 use Rattle.whole.proofs.counting.Covering.{cover-few, cover-flag, cover-other, cover-most, cover-count}
 use Rattle.whole.proofs.file.bound_row.Statement.{statement}
@@ -26,6 +26,11 @@ returns c =
       p .2,
     )
 
+most-of-requires : tie.Need-most-of-requires
+most-of-requires c κs =
+    let p = c .before .before .before .before .before .before .before .before .before .before .before .before .pre in
+    (omega (arith, p .1), p .4 .0)
+
 add-requires : tie.Need-add-requires
 add-requires c κs =
     let is = c .before .n .given in
@@ -34,7 +39,7 @@ add-requires c κs =
     let a = start .args in
     let p = start .pre in
     let lent = lentOf (a .file .now) (a .rows .now) (a .months .now) (a .words .now) in
-    let most = subst (MostOf (drop (a .i + 1) (rowsOf (a .rows .now)))) (is .1) (told .most-of .ensures) in
+    let most = subst SmallMost (is .1) (told .most-of .ensures .1) in
     let few = cover-few lent (a .flags .now) (a .i) (a .t) (p .3) in
     (p .2, most .0, most .1, omega (arith, few, p .1))
 
@@ -71,10 +76,10 @@ returns-2 c =
     let a = start .args in
     let p = start .pre in
     let lent = lentOf (a .file .now) (a .rows .now) (a .months .now) (a .words .now) in
-    let most = subst (MostOf (drop (a .i + 1) (rowsOf (a .rows .now)))) (is .1) (told .most-of .ensures) in
+    let most = subst (MostOf (a .name) (drop (a .i + 1) (rowsOf (a .rows .now)))) (is .1) (told .most-of .ensures .0) in
     let below = inside (a .rows .now) (a .i) (p .1) in (
       cover-most lent (a .flags .now) (a .i) (a .t) (p .3) below (asked .is-value .result) (asked .is-value .ensures)
-          (not-false (asked .is-value .result) (test .if1 .left)) (is .0 .0) (is .0 .1 .0) (most .2) (c .add .result) (c .add .ensures .2),
+          (not-false (asked .is-value .result) (test .if1 .left)) (a .name) (p .4) (is .0 .0) (is .0 .1 .0) most (c .add .result) (c .add .ensures .2),
       c .add .ensures .1,
     )
 
@@ -101,7 +106,7 @@ bound-row-spec =
     (tie.spec
     (λ c κs. search needs)
     returns
-    (λ c κs. search needs)
+    most-of-requires
     (λ c. search needs)
     add-requires
     (λ c. search needs)
