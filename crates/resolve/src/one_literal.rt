@@ -13,6 +13,7 @@ use literal::parse::Parsed;
 use literal::rows::Rows;
 use row::fault::Fault;
 use row::fault::Reason;
+use row::form;
 use row::limits::LEAST_SCRATCH;
 use text::utf8;
 ghost use mathlib.Core.Path.{_≡_};
@@ -91,7 +92,7 @@ fn write(
                 names: 0,
             };
             if n <= 32 {
-                progress::copy_numbers(&few, n * 5, chunks);
+                form::copy_numbers(&few, n * 5, chunks);
                 return answer;
             }
             parse::parse(s, base, verbatim, 0, none, scratch, chunks, names, marks);

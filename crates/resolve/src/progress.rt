@@ -7,6 +7,7 @@ use literal::parse::Parsed;
 use literal::rows;
 use literal::rows::Rows;
 use row::fault::Fault;
+use row::form;
 use row::limits::MOST_WRITTEN;
 ghost use mathlib.Core.Path.{_≡_};
 ghost use mathlib.Core.List.{List, [], _∷_, _++_};
@@ -186,18 +187,6 @@ pub fn fits(st: Progress, chunks: &[u32], text: &[u8]) -> bool
     !st.over & (rows.n <= chunks.len() / 5) & (st.bytes <= text.len())
 }
 
-// Copies the first n numbers.
-pub fn copy_numbers(from: &[u32], n: usize, out: &mut [u32])
-    requires { ⌜ (n ≤ length (now from)) × (n ≤ length (now out)) ⌝ }
-    ensures { λ _. ⌜ now (out .exit) ≡ take n (now (from .entry)) ++ drop n (now (out .entry)) ⌝ }
-{
-    let mut i = 0;
-    while i < n {
-        out[i] = from[i];
-        i += 1;
-    }
-}
-
 // Copies the rows and the text of a value from the small room, where they were written, to another room.
 pub fn copy_out(st: Progress, few: &[u32], short: &[u8], chunks: &mut [u32], text: &mut [u8])
     requires { ⌜ (st .rows .n * 5 ≤ length (now few)) × (st .rows .n * 5 ≤ length (now chunks)) ×
@@ -207,7 +196,7 @@ pub fn copy_out(st: Progress, few: &[u32], short: &[u8], chunks: &mut [u32], tex
 {
     let rows = st.rows;
     let bytes = st.bytes;
-    copy_numbers(few, rows.n * 5, chunks);
+    form::copy_numbers(few, rows.n * 5, chunks);
     put::copy(short, 0, bytes, text, 0);
 }
 

@@ -4,16 +4,14 @@
 --     literal-few, literal-narrow, literal-refused, literal-done      `literal`
 --     month-text, month-row                  `month`
 --     fits-by                                `fits`
---     copy-on                                `copy_numbers`: one number more
 -- Assumes nothing.
-use Prim.Native.Nat.{ℕ, suc, _+_, _-_, _/_, _≤_, _<_}
+use Prim.Native.Nat.{ℕ, _+_, _-_, _/_, _≤_}
 use native.Mathlib.Omega.{arith}
-use native.Mathlib.Numerals.{add-one}
 use mathlib.Core.Path.{_≡_, refl, sym, ap, ap₂, subst, _∙_}
 use mathlib.Core.Bool.{Bool, true, false, not, _&&_, _||_}
 use mathlib.Core.List.{List, [], _∷_, _++_, append-nil}
-use lib.ListN.{length, getD, take, drop, set, length-append}
-use lib.Seq.{length-take-le, drop-cons, take-suc, append-snoc, set-at, sets}
+use lib.ListN.{length, length-append}
+use lib.Seq.{sets}
 use lib.Dec.{leb, ltb}
 use borrow.Author.Tests.{ltb-true, ltb-false, not-true, not-false}
 use Rattle.text.specs.Scan.{part}
@@ -171,14 +169,3 @@ fits-by st ps b₀ t₀ b t has c s = by (st .over) refl
     by : (o : Bool) → st .over ≡ o → ((not (st .over) && leb (st .rows .n) (length c / 5)) && leb (st .bytes) (length s)) ≡ fits (flatten ps) c s
     by true o = rw (o, not-true (small (flatten ps)) (sym (has .over) ∙ o))
     by false o = rw (o, not-false (small (flatten ps)) (sym (has .over) ∙ o), has .rows o .count, has .bytes o, flattening .texts-flat ps)
-
--- ---- copied
-
-pub copy-on : (s out : List ℕ) (i : ℕ) → i < length s → i < length out
-    → set (take i s ++ drop i out) i (getD s i 0) ≡ take (i + 1) s ++ drop (i + 1) out
-copy-on s out i h k =
-    ap (λ (l : List ℕ). set (take i s ++ l) i (getD s i 0)) (drop-cons out i 0 k)
-    ∙ set-at (take i s) (getD out i 0) (drop (suc i) out) (getD s i 0) i (length-take-le i s (omega arith))
-    ∙ sym (append-snoc (take i s) (getD s i 0) (drop (suc i) out))
-    ∙ ap (λ (l : List ℕ). l ++ drop (suc i) out) (sym (take-suc s i 0 h))
-    ∙ ap (λ (n : ℕ). take n s ++ drop n out) (sym (add-one i))

@@ -25,7 +25,8 @@ returns-2 c =
     let a = asked .args in
     let eat-whitespace3 = c .before .eat-whitespace3 in (
       λ base b. turn-again
-          (end-comma (a .s .now) (a .at) (eat-whitespace2 .eat-whitespace2 .ensures .0) (if3 .if3 .taken) (if4 .if4 .taken) (eat-whitespace3 .ensures .0) (c .comment2 .ensures .0)),
+          (end-comma (a .s .now) (a .at) (eat-whitespace2 .eat-whitespace2 .ensures .0) (if3 .if3 .taken) (if4 .if4 .taken)
+          (eat-whitespace3 .ensures .0) (c .comment2 .ensures .0)),
       (omega arith, omega arith, omega arith),
     )
 

@@ -1,7 +1,5 @@
 -- `raw::file::read_over` meets its contract. Assumes nothing.
-use Prim.Native.Nat.{_/_, _≤_}
 use native.Mathlib.Omega.{arith}
-use lib.ListN.{length}
 use borrow.Author.Needs.{needs}
 use Rattle.raw.proofs.ways.FileWays.{read-off, read-full, read-copied, read-fits}
 use Rattle.raw.proofs.file.read_over.Statement.{statement}
