@@ -5,7 +5,7 @@
 --                                         behind it, of an equal set
 --     ClearAt, part-done                  the end of the loop of `part`
 --     Away, away-more, away-done          the loop of `is_clear`
---     none-ascii                          a byte which is not of `others` is ASCII
+--     Least, least-more, least-done, none-ascii    the loop of `is_ascii`, and that a byte which is not of `others` is ASCII
 --     PlainAt, apart-plain                a byte at a distance from the ends of plain text is plain
 --     plain-none, plain-meet, plain-join, plain-block   runs of plain text, as stretches above
 --     plain-done                          the end of the loop of `plain_part`
@@ -118,6 +118,22 @@ away-more x s i k m d e h b one z =
 
 pub away-done : (x : Set) (s : List ℕ) (i k m : ℕ) → i + k ≤ length s → Away x s i k m → 0 < m → Clear x s i (i + k)
 away-done x s i k m l h z = part-done x s i k (omega arith) l (λ j p q. h z j p)
+
+-- ---- the loop of `is_ascii`: none of the first k bytes of the block is above m
+
+abbrev pub Least : List ℕ → ℕ → ℕ → ℕ → Type 0
+Least s i k m = (j : ℕ) → j < k → getD s (i + j) 0 ≤ m
+
+pub least-more : (s : List ℕ) (i k m : ℕ) {r : ℕ} → r ≡ max m (getD s (i + k) 0) → Least s i k m → Least s i (k + 1) r
+least-more s i k m {r} e h = below-more (λ j. getD s (i + j) 0 ≤ r) k (λ j l. let q = h j l in omega arith) (omega arith)
+
+ascii-none : (b : ℕ) → b < 0x80 → inSet others b ≡ false
+unfolding inSet
+ascii-none b h = rw (lt-leb 0x80 b h)
+
+pub least-done : (s : List ℕ) (i k m : ℕ) → Least s i k m → m < 0x80 → i + k ≤ length s → Clear others s i (i + k)
+least-done s i k m h l r =
+    part-done others s i k (omega arith) r (λ j p q. let a = h j p in (omega arith, ascii-none (getD s (i + j) 0) (omega arith)))
 
 -- a byte that is not of `others` is ASCII
 pub none-ascii : (b : ℕ) → b < 256 → inSet others b ≡ false → b < 0x80
