@@ -1,4 +1,4 @@
-// Octets into lent bytes, each only where it fits. Over no bytes the same code counts: a writer's first pass is over none.
+// Octets into lent bytes, each only where it fits. Over no bytes the same code counts: a writer that has to judge before it writes does so over none.
 use text::block;
 ghost use mathlib.Core.Path.{_≡_};
 ghost use mathlib.Core.List.{[], _∷_};

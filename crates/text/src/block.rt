@@ -1,6 +1,6 @@
-// Blocks of bytes: how far a text goes without a byte of a set, sixteen or sixty-four bytes at a time.
+// Blocks of bytes, sixteen or sixty-four at a time: how far a text goes without a byte of a set, how far it is plain, and copies.
 //
-// The loop over a block takes differences, minima and maxima only. No comparison decides in it, so the compiler works on the whole block at once.
+// The loop that looks at a block takes differences and minima only. No comparison decides in it, so the compiler works on the whole block at once.
 ghost use mathlib.Core.Path.{_≡_};
 ghost use mathlib.Core.Bool.{true, false};
 ghost use Prim.Native.Nat.{_+_, _-_, _≤_, _<_, min, max};
@@ -275,7 +275,7 @@ pub fn copy(s: &[u8], from: usize, n: usize, out: &mut [u8], at: usize)
     move_block(s, from + last, 16, out, at + last);
 }
 
-// 0 where the byte b ends a run of plain text, whose byte before b is a.
+// 0 where the byte b, behind a, ends a run of plain text: b is one of $ - \ { }, or no printable ASCII, or both are blanks.
 fn apart_from_plain(a: u8, b: u8) -> u8
     ensures { λ r. ⌜ (0 < r → (isSimple b ≡ true) × (a ≡ 0x20 → b ≡ 0x20 → ⊥)) ⌝ }
 {
@@ -301,7 +301,8 @@ fn plain_part(s: &[u8], at: usize) -> usize
     m as usize
 }
 
-// Over plain text from a place on that is not the first. Less than sixteen bytes are left to the caller.
+// Over plain text from a place on that is not the first. The last sixteen bytes may overlap those before them; less than sixteen are left to the
+// caller.
 pub fn past_plain(s: &[u8], at: usize) -> usize
     requires { ⌜ 0 < at ⌝ }
     ensures { λ r. ⌜ PlainRun (now (s .entry)) at r ⌝ }
@@ -321,7 +322,8 @@ pub fn past_plain(s: &[u8], at: usize) -> usize
     last + plain_part(s, last)
 }
 
-// `past_long` by sixteen bytes, to the end of the text. Less than sixteen bytes are left to the caller.
+// `past_long` by sixteen bytes, and to the end of the text: the last sixteen may overlap those before them. A text of less than sixteen is left
+// to the caller.
 fn past_short(s: &[u8], at: usize, x: Set) -> usize
     ensures { λ r. ⌜ Clear x (now (s .entry)) at r ⌝ }
 {

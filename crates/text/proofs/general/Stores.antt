@@ -1,5 +1,4 @@
 -- Parts of a text, stored over a list one after the other.
---     sets-again      storing a list changes nothing where one at least as long is stored over it
 --     sets-parts      two parts that meet or overlap, stored one after the other, are stored as one part
 --     sets-none       storing an empty part changes nothing
 --     sets-more       the octet behind a part, stored behind it, makes it a part with one octet more
@@ -23,7 +22,8 @@ set-below [] o i n b h = refl
 set-below (c ∷ v) o i n b h =
     set-below v (set o n c) i (suc n) b (omega arith) ∙ ap (λ (l : List ℕ). sets l (suc n) v) (set-comm o n i c b (λ e. omega arith))
 
-pub sets-again : (v w o : List ℕ) (n : ℕ) → length v ≤ length w → sets (sets o n v) n w ≡ sets o n w
+-- storing a list changes nothing where one at least as long is stored over it
+sets-again : (v w o : List ℕ) (n : ℕ) → length v ≤ length w → sets (sets o n v) n w ≡ sets o n w
 sets-again [] w o n h = refl
 sets-again (b ∷ v) [] o n h = absurd (omega arith)
 sets-again (b ∷ v) (c ∷ w) o n h =
