@@ -1,6 +1,6 @@
 -- Definitions for the contracts of the inner functions: what the text under construction and the rows hold while content is read.
 --     HoldsState, Goes                     a state of content as the code has it; from one to the next
---     SaysSign                             a turn that ends a chunk. Turns that write text are in the crate `turn`
+--     SignEnds, SaysSign                   where a brace or a formula ends; a turn that ends a chunk. Turns that write text are in the crate `turn`
 --     ArgumentBegun, ArgumentFinished      how a command's argument begins and ends
 --     SaysContent, SaysArgument            content, and a command with its argument, which call each other
 --     SaysBegun                            the text that a literal begins with. For `begin`, which the crates above call
@@ -10,9 +10,10 @@
 -- Assumes nothing.
 use Prim.Native.Nat.{ℕ, _+_, _*_, _≤_, _<_}
 use mathlib.Core.Path.{_≡_}
-use mathlib.Core.Bool.{Bool, true, false}
+use mathlib.Core.Bool.{Bool, true, false, cond}
 use mathlib.Core.List.{List, [], _∷_, _++_, map}
-use lib.ListN.{length, take}
+use lib.ListN.{length, take, getD}
+use lib.Dec.{eqb}
 use Rattle.text.specs.Scan.{part}
 use Rattle.row.specs.Limits.{mostBytes, mostLiteral, leastScratch, mostWritten}
 use Rattle.raw.specs.Reader.{OutOf, ok, again, bad, more}
@@ -30,11 +31,13 @@ use Rattle.literal.specs.declared.making.Making.{Making}
 use Rattle.literal.specs.declared.making.Place.{Place}
 use Rattle.literal.specs.declared.content.Made.{Made}
 use Rattle.literal.specs.declared.content.Made.the-variants as made
+use Rattle.literal.specs.declared.content.SignEnd.{SignEnd}
+use Rattle.literal.specs.declared.content.SignEnd.the-variants as signEnd
 use Rattle.literal.specs.declared.parse.Begun.{Begun}
 use Rattle.literal.specs.declared.parse.Begun.the-variants as begun
 use Rattle.literal.specs.declared.parse.Parsed.{Parsed}
 use Rattle.literal.specs.declared.parse.Parsed.the-variants as parsed
-use Rattle.turn.specs.Content.{Part, cut, math, Reader, State, beginning, steps, chunksOf, flatten}
+use Rattle.turn.specs.Content.{Part, cut, math, Reader, State, beginning, steps, chunksOf, flatten, contentTurn}
 use Rattle.turn.specs.Turns.{turns, Wrote, Placed, Grows, ReadyText}
 use Rattle.literal.specs.Rows.{RowsHold, textsOf}
 use Rattle.literal.specs.Literal.{Resolved, chunks, refused, chunkUp, resolveLiteral}
@@ -111,6 +114,23 @@ pub record Onto (place : Place) (verb : Bool) (s : List ℕ) (m : Making) (o b :
   pub parts : List Part
   pub leads : (argument : Reader) → from argument verb s m ≡ more parts (from argument verb s m′)
   pub goes : Goes place parts m o b m′ o′ b′
+
+-- the formula from one dollar sign to another; at a brace there is none
+abbrev pub formula : List ℕ → ℕ → ℕ → List Part
+formula s p q = cond (eqb (getD s p 0) 0x24) (math (part s (p + 1) q) (p + 1) q ∷ []) []
+
+-- the turn at a sign at p, with d braces open, ends at its last byte q, with e braces open
+pub record SignTurn (verb : Bool) (s : List ℕ) (p d q e : ℕ) : Type 0 where
+  pub from : p ≤ q
+  pub inside : q < length s
+  pub braces : e ≤ d + 1
+  pub math : getD s p 0 ≡ 0x24 → p < q
+  pub turn : (argument : Reader) → contentTurn argument verb d s p ≡ again (q + 1) (cut e p (q + 1) ∷ formula s p q) e
+
+-- where a sign ends, or why it is refused
+abbrev pub SignEnds : Bool → List ℕ → ℕ → ℕ → SignEnd → Type 0
+SignEnds verb s p d (signEnd.At q e) = SignTurn verb s p d q e
+SignEnds verb s p d (signEnd.Refused f) = ((argument : Reader) → contentTurn argument verb d s p ≡ bad f) × Placed (length s) f
 
 -- a turn that ends a chunk
 abbrev pub SaysSign : Place → Bool → List ℕ → Making → List ℕ → List ℕ → Made → List ℕ → List ℕ → Type 0

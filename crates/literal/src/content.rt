@@ -20,7 +20,7 @@ ghost use Rattle.compose.specs.Composites.{composites};
 ghost use Rattle.command.specs.Commands.{meaningOf};
 ghost use Rattle.command.specs.Execute.{leading};
 ghost use Rattle.turn.specs.Turns.{isSign};
-ghost use Rattle.literal.specs.Inner.{Further, ReadySign, SaysSign, AheadMade, ArgumentBegun, ArgumentFinished, Closes};
+ghost use Rattle.literal.specs.Inner.{Further, ReadySign, SignEnds, SaysSign, AheadMade, ArgumentBegun, ArgumentFinished, Closes};
 
 // What content came to.
 pub enum Made {
@@ -45,28 +45,49 @@ pub fn further(st: Making, at: usize, len: usize) -> Making
     }
 }
 
-// A dollar sign: the chunk before it is done, and what stands up to the next dollar sign is a chunk of math.
-fn math(s: &[u8], st: Making, place: Place, out: &mut [u8], numbers: &mut [u32]) -> Made
-    requires { ⌜ ReadySign (now s) place st (now out) × (st .at < length (now s)) × (getD (now s) (st .at) 0 ≡ 0x24) ⌝ }
-    ensures { λ r. ⌜ SaysSign place false (now (s .entry)) st (now (out .entry)) (now (numbers .entry)) r (now (out .exit)) (now (numbers .exit)) ⌝ }
-    ensures { λ r. ⌜ AheadMade (length (now (s .entry))) 1 st r ⌝ }
-{
-    let at = st.at;
-    let braces = st.braces;
-    let to = scanner::eat_until(s, at + 1, Test::Dollar);
-    if s.len() <= to {
-        return Made::Refused(Fault {
-            reason: Reason::UnexpectedEof,
-            start: to,
-            end: to,
-        });
-    }
-    let t = making::turnaround(st, place, at, braces, to + 1, out, numbers);
-    let m = making::put_math(s, at + 1, to, t, place, out, numbers);
-    Made::Done(m)
+// Where a brace or a formula ends: the place of its last byte, and how many braces are open behind it; or why it is refused.
+enum SignEnd {
+    At { to: usize, braces: usize },
+    Refused(Fault),
 }
 
-// A brace or a dollar sign: the chunk before it is done. An opening brace begins a Verbatim one; a closing one is refused where no brace is open.
+// Where the brace at a place ends, or the formula, which goes on to the next dollar sign. A closing brace is refused where no brace is open.
+fn sign_end(s: &[u8], verb: bool, at: usize, braces: usize) -> SignEnd
+    requires { ⌜ (isSign verb (getD (now s) at 0) ≡ true) × (at < length (now s)) × (braces ≤ at) ⌝ }
+    ensures { λ r. ⌜ SignEnds verb (now (s .entry)) at braces r ⌝ }
+{
+    let b = s[at];
+    if b == 0x7b {
+        return SignEnd::At {
+            to: at,
+            braces: braces + 1,
+        };
+    }
+    if b == 0x24 {
+        let to = scanner::eat_until(s, at + 1, Test::Dollar);
+        if s.len() <= to {
+            return SignEnd::Refused(Fault {
+                reason: Reason::UnexpectedEof,
+                start: to,
+                end: to,
+            });
+        }
+        return SignEnd::At { to, braces };
+    }
+    if braces == 0 {
+        return SignEnd::Refused(Fault {
+            reason: Reason::UnexpectedClosingBrace,
+            start: at,
+            end: at + 1,
+        });
+    }
+    SignEnd::At {
+        to: at,
+        braces: braces - 1,
+    }
+}
+
+// A brace or a dollar sign: the chunk before it is done. An opening brace begins a Verbatim one, and a formula is a chunk of math.
 pub fn sign(
     s: &[u8],
     verb: bool,
@@ -81,23 +102,16 @@ pub fn sign(
 {
     let at = st.at;
     let braces = st.braces;
-    let b = s[at];
-    if b == 0x7b {
-        let t = making::turnaround(st, place, at, braces + 1, at + 1, out, numbers);
-        return Made::Done(t);
+    match sign_end(s, verb, at, braces) {
+        SignEnd::At { to, braces } => {
+            let t = making::turnaround(st, place, at, braces, to + 1, out, numbers);
+            if s[at] == 0x24 {
+                return Made::Done(making::put_math(s, at + 1, to, t, place, out, numbers));
+            }
+            Made::Done(t)
+        }
+        SignEnd::Refused(f) => Made::Refused(f),
     }
-    if b == 0x24 {
-        return math(s, st, place, out, numbers);
-    }
-    if braces == 0 {
-        return Made::Refused(Fault {
-            reason: Reason::UnexpectedClosingBrace,
-            start: at,
-            end: at + 1,
-        });
-    }
-    let t = making::turnaround(st, place, at, braces - 1, at + 1, out, numbers);
-    Made::Done(t)
 }
 
 // Writes what a command puts before its argument, and gives the state with which the argument's content begins.

@@ -1,9 +1,12 @@
 -- The ways through the functions of src/content.rt that take one turn, and what a turn of text leaves.
---     math-refused, math-again                  a dollar sign: the formula does not end, or is a chunk
---     open-again, close-refused, close-again    a brace opens; a brace closes that none opened, or one that is open
+--     end-open, end-close, close-refused        a brace opens; a brace closes one that is open, or none
+--     end-math, math-refused                    a dollar sign: the formula ends, or does not
+--     ends-at, ends-not                         what `sign_end` answers
+--     sign-again, math-again, sign-refused      a sign ends the chunk before it, and a formula is a chunk
+--     math-ready                                what `put_math` requires
+--     ahead-sign, ahead-math                    the bounds of the state behind a brace, and behind a formula
 --     puts-state, goes-puts, text-put           text that is written leads from one state to the next
---     ahead-further, ahead-cut                  the bounds of the state after text, and after a brace
---     sign-as                                   what holds of a field that is not verbatim holds of this one, which is not
+--     ahead-further                             the bounds of the state after text
 -- Assumes nothing.
 use Prim.Native.Nat.{ℕ, zero, suc, _+_, _-_, _≤_, _<_}
 use native.Mathlib.Omega.{arith}
@@ -12,12 +15,13 @@ use mathlib.Core.Path.{_≡_, refl, sym, ap, subst, _∙_}
 use mathlib.Core.Bool.{Bool, false}
 use mathlib.Core.List.{List, [], _∷_, _++_, map, append-assoc, append-nil}
 use lib.ListN.{length, getD, take, length-append}
-use borrow.Author.Tests.{lt-ltb, le-ltb}
+use borrow.Author.Tests.{lt-ltb, le-ltb, eq-eqb, ne-eqb}
 use Rattle.text.specs.Scan.{skip, fails, part}
 use Rattle.text.specs.declared.class.Test.the-variants as test
 use Rattle.row.specs.declared.fault.Reason.the-variants.{UnexpectedEof, UnexpectedClosingBrace}
 use Rattle.row.specs.Fault.{faultAt}
-use Rattle.raw.specs.Reader.{again, more}
+use Rattle.row.specs.declared.fault.Fault.{Fault}
+use Rattle.raw.specs.Reader.{again, bad, more}
 use Rattle.chunk.specs.Chunk.{Chunk}
 use Rattle.command.specs.Stack.{Lays, defaultChunk}
 use Rattle.literal.specs.declared.rows.Rows.{Rows}
@@ -25,82 +29,149 @@ use Rattle.literal.specs.declared.making.Making.{Making}
 use Rattle.literal.specs.declared.making.Place.{Place}
 use Rattle.turn.specs.declared.turn.Text.{Text}
 use Rattle.turn.specs.declared.turn.Text.the-variants as text
-use Rattle.literal.specs.declared.content.Made.{Made}
 use Rattle.literal.specs.declared.content.Made.the-variants as made
-use Rattle.turn.specs.Content.{put, cut, math, Reader, State, refusedByte, step, steps, maths, closing, contentTurn}
-use Rattle.literal.specs.Inner.{HoldsState, Goes, RowsHeld, standing, from, SaysSign, Onto, ChunkDone, MathDone, Further, AheadState}
-use Rattle.turn.specs.Turns.{turns, concat, SaysText, Grows}
+use Rattle.literal.specs.declared.content.SignEnd.{SignEnd}
+use Rattle.literal.specs.declared.content.SignEnd.the-variants as signEnd
+use Rattle.turn.specs.Content.{Part, put, cut, math, Reader, State, refusedByte, step, steps, maths, closing, contentTurn}
+use Rattle.literal.specs.Inner.{HoldsState, Goes, RowsHeld, standing, formula, SignTurn, SignEnds, SaysSign, ReadySign, Fits, Onto, ChunkDone, MathDone, Further, AheadState}
+use Rattle.turn.specs.Turns.{turns, concat, SaysText, Placed, Grows}
 use Rattle.turn.proofs.Turning.{turning}
 
--- ---- math
+-- ---- where a sign ends
 
-module _ (place : Place) (s : List ℕ) (m : Making) (o b : List ℕ) (l : m .at < length s) (d : getD s (m .at) 0 ≡ 0x24)
-    (to : ℕ) (h : to ≡ skip (fails test.Dollar) s (m .at + 1)) where
-  pub math-refused : length s ≤ to → SaysSign place false s m o b (made.Refused (faultAt UnexpectedEof to)) o b
-  unfolding maths
-  math-refused n argument =
-      turning .stopped argument false (m .braces) s (m .at) (faultAt UnexpectedEof to)
-      (turning .turn-math argument false (m .braces) s (m .at) l d refl ∙ rw (sym h, le-ltb to (length s) n) refl)
+module _ (verb : Bool) (s : List ℕ) (p d : ℕ) (l : p < length s) where
+  -- at a byte that is no dollar sign there is no formula
+  none : (e : ℕ) → (getD s p 0 ≡ 0x24 → ⊥) → again (p + 1) (cut e p (p + 1) ∷ []) e ≡ again (p + 1) (cut e p (p + 1) ∷ formula s p p) e
+  none e n = rw (ne-eqb (getD s p 0) 0x24 n) refl
 
-  math-turn : (argument : Reader) → to < length s
-      → contentTurn argument false (m .braces) s (m .at) ≡ again (to + 1) (cut (m .braces) (m .at) (to + 1) ∷ math (part s (m .at + 1) to) (m .at + 1)
-      to ∷ []) (m .braces)
-  unfolding maths
-  math-turn argument n = turning .turn-math argument false (m .braces) s (m .at) l d refl ∙ rw (sym h, lt-ltb to (length s) n) refl
-
-  pub math-again : to < length s → (m₁ : Making) (o₁ b₁ : List ℕ) (m₂ : Making) (o₂ b₂ : List ℕ)
-      → ChunkDone place m (m .at) (m .braces) (to + 1) o b m₁ o₁ b₁
-      → MathDone s (m .at + 1) to place m₁ o₁ b₁ m₂ o₂ b₂ → SaysSign place false s m o b (made.Done m₂) o₂ b₂
-  unfolding steps
-  math-again n m₁ o₁ b₁ m₂ o₂ b₂ x y = record {
-    parts = cut (m .braces) (m .at) (to + 1) ∷ math (part s (m .at + 1) to) (m .at + 1) to ∷ [];
-    leads = λ argument.
-        turning .leads argument false (m .braces) s (m .at) (to + 1) (cut (m .braces) (m .at) (to + 1) ∷ math (part s (m .at + 1) to) (m .at + 1) to ∷ [])
-        (m .braces)
-        (math-turn argument n)
-        ∙ ap (more (cut (m .braces) (m .at) (to + 1) ∷ math (part s (m .at + 1) to) (m .at + 1) to ∷ []))
-        (ap (λ (q : ℕ). turns argument false (m .braces) s q) (sym (y .at ∙ x .at))
-        ∙ ap (λ (q : ℕ). turns argument false q s (m₂ .at)) (sym (y .braces ∙ x .braces)));
-    goes = λ t₀ ps b₀ σ held. y .goes t₀ ps b₀ (steps σ (cut (m .braces) (m .at) (to + 1) ∷ [])) (x .goes t₀ ps b₀ σ held);
+  pub end-open : getD s p 0 ≡ 0x7B → SignTurn verb s p d p (d + 1)
+  end-open b = record {
+    from = omega arith;
+    inside = l;
+    braces = omega arith;
+    math = λ e. absurd (omega (arith, b, e));
+    turn = λ argument.
+        turning .turn-open argument verb d s p l b ∙ ap (λ (e : ℕ). again (p + 1) (cut e p (p + 1) ∷ []) e) (sym (add-one d))
+        ∙ none (d + 1) (λ e. omega (arith, b, e));
   }
 
--- ---- braces
-
-module _ (place : Place) (verb : Bool) (s : List ℕ) (m : Making) (o b : List ℕ) (l : m .at < length s) where
-  cut-again : (d : ℕ) → ((argument : Reader) → contentTurn argument verb (m .braces) s (m .at) ≡ again (m .at + 1) (cut d (m .at) (m .at + 1) ∷ []) d)
-      → (m₁ : Making) (o₁ b₁ : List ℕ) → ChunkDone place m (m .at) d (m .at + 1) o b m₁ o₁ b₁ → SaysSign place verb s m o b (made.Done m₁) o₁ b₁
-  cut-again d t m₁ o₁ b₁ x = record {
-    parts = cut d (m .at) (m .at + 1) ∷ [];
-    leads = λ argument.
-        turning .leads argument verb (m .braces) s (m .at) (m .at + 1) (cut d (m .at) (m .at + 1) ∷ []) d (t argument)
-        ∙ ap (more (cut d (m .at) (m .at + 1) ∷ []))
-        (ap (λ (q : ℕ). turns argument verb d s q) (sym (x .at)) ∙ ap (λ (q : ℕ). turns argument verb q s (m₁ .at)) (sym (x .braces)));
-    goes = x .goes;
+  pub end-close : getD s p 0 ≡ 0x7D → (d ≡ 0 → ⊥) → SignTurn verb s p d p (d - 1)
+  unfolding closing
+  end-close b z = record {
+    from = omega arith;
+    inside = l;
+    braces = omega arith;
+    math = λ e. absurd (omega (arith, b, e));
+    turn = λ argument. turning .turn-close argument verb d s p l b ∙ some d z ∙ none (d - 1) (λ e. omega (arith, b, e));
   }
-
-  pub open-again : getD s (m .at) 0 ≡ 0x7B → (m₁ : Making) (o₁ b₁ : List ℕ) → ChunkDone place m (m .at) (m .braces + 1) (m .at + 1) o b m₁ o₁ b₁
-      → SaysSign place verb s m o b (made.Done m₁) o₁ b₁
-  open-again e =
-      cut-again (m .braces + 1)
-      (λ argument. turning .turn-open argument verb (m .braces) s (m .at) l e ∙ ap (λ (d : ℕ). again (m .at + 1) (cut d (m .at) (m .at + 1) ∷ []) d)
-      (sym (add-one (m .braces))))
-
-  pub close-refused : getD s (m .at) 0 ≡ 0x7D → m .braces ≡ 0 → SaysSign place verb s m o b
-      (made.Refused (refusedByte UnexpectedClosingBrace (m .at))) o b
-  unfolding closing
-  close-refused e z argument =
-      turning .stopped argument verb (m .braces) s (m .at) (refusedByte UnexpectedClosingBrace (m .at))
-      (turning .turn-close argument verb (m .braces) s (m .at) l e ∙ ap (λ (d : ℕ). closing d s (m .at)) z)
-
-  pub close-again : getD s (m .at) 0 ≡ 0x7D → (m .braces ≡ 0 → ⊥) → (m₁ : Making) (o₁ b₁ : List ℕ)
-      → ChunkDone place m (m .at) (m .braces - 1) (m .at + 1) o b m₁ o₁ b₁
-      → SaysSign place verb s m o b (made.Done m₁) o₁ b₁
-  unfolding closing
-  close-again e z = cut-again (m .braces - 1) (λ argument. turning .turn-close argument verb (m .braces) s (m .at) l e ∙ some (m .braces) z)
     where
-      some : (d : ℕ) → (d ≡ 0 → ⊥) → closing d s (m .at) ≡ again (m .at + 1) (cut (d - 1) (m .at) (m .at + 1) ∷ []) (d - 1)
+      some : (d : ℕ) → (d ≡ 0 → ⊥) → closing d s p ≡ again (p + 1) (cut (d - 1) p (p + 1) ∷ []) (d - 1)
       some zero z = absurd (z refl)
       some (suc d) z = rw (sub-one (suc d)) refl
+
+  pub close-refused : getD s p 0 ≡ 0x7D → d ≡ 0 → (argument : Reader) → contentTurn argument verb d s p ≡ bad (refusedByte UnexpectedClosingBrace p)
+  unfolding closing
+  close-refused b z argument = turning .turn-close argument verb d s p l b ∙ ap (λ (d : ℕ). closing d s p) z
+
+  module _ (b : getD s p 0 ≡ 0x24) (v : verb ≡ false) (q : ℕ) (h : q ≡ skip (fails test.Dollar) s (p + 1)) where
+    pub math-refused : length s ≤ q → (argument : Reader) → contentTurn argument verb d s p ≡ bad (faultAt UnexpectedEof q)
+    unfolding maths
+    math-refused n argument = turning .turn-math argument verb d s p l b v ∙ rw (sym h, le-ltb q (length s) n) refl
+
+    pub end-math : p + 1 ≤ q → q < length s → SignTurn verb s p d q d
+    unfolding maths
+    end-math f n = record {
+      from = omega (arith, f);
+      inside = n;
+      braces = omega arith;
+      math = λ e. omega (arith, f);
+      turn = λ argument.
+          turning .turn-math argument verb d s p l b v ∙ rw (sym h, lt-ltb q (length s) n, eq-eqb (getD s p 0) 0x24 b) refl;
+    }
+
+-- ---- what the answer says of a sign
+
+pub ends-at : {verb : Bool} {s : List ℕ} {p d : ℕ} {r : SignEnd} {q e : ℕ} → r ≡ signEnd.At q e → SignEnds verb s p d r → SignTurn verb s p d q e
+ends-at e h = rw e at h
+
+pub ends-not : (verb : Bool) (s : List ℕ) (p d : ℕ) {r : SignEnd} {f : Fault} → r ≡ signEnd.Refused f → SignEnds verb s p d r
+    → ((argument : Reader) → contentTurn argument verb d s p ≡ bad f) × Placed (length s) f
+ends-not verb s p d e h = rw e at h
+
+-- ---- a sign ends a chunk
+
+module _ (place : Place) (verb : Bool) (s : List ℕ) (m : Making) (o b : List ℕ) where
+  pub sign-refused : (f : Fault) → ((argument : Reader) → contentTurn argument verb (m .braces) s (m .at) ≡ bad f)
+      → SaysSign place verb s m o b (made.Refused f) o b
+  sign-refused f h argument = turning .stopped argument verb (m .braces) s (m .at) f (h argument)
+
+  module _ (q d : ℕ) (h : SignTurn verb s (m .at) (m .braces) q d) (m₁ : Making) (o₁ b₁ : List ℕ)
+      (x : ChunkDone place m (m .at) d (q + 1) o b m₁ o₁ b₁) where
+    -- the chunk before the sign, and the formula
+    onto : (xs : List Part) → formula s (m .at) q ≡ xs → (m′ : Making) (o′ b′ : List ℕ) → m′ .at ≡ q + 1 → m′ .braces ≡ d
+        → Goes place (cut d (m .at) (q + 1) ∷ xs) m o b m′ o′ b′ → Onto place verb s m o b m′ o′ b′
+    onto xs e m′ o′ b′ y z g = record {
+      parts = cut d (m .at) (q + 1) ∷ xs;
+      leads = λ argument.
+          turning .leads argument verb (m .braces) s (m .at) (q + 1) (cut d (m .at) (q + 1) ∷ xs) d
+          (h .turn argument ∙ ap (λ (ys : List Part). again (q + 1) (cut d (m .at) (q + 1) ∷ ys) d) e)
+          ∙ ap (more (cut d (m .at) (q + 1) ∷ xs))
+          (ap (λ (n : ℕ). turns argument verb d s n) (sym y) ∙ ap (λ (n : ℕ). turns argument verb n s (m′ .at)) (sym z));
+      goes = g;
+    }
+
+    pub sign-again : (getD s (m .at) 0 ≡ 0x24 → ⊥) → SaysSign place verb s m o b (made.Done m₁) o₁ b₁
+    sign-again n = onto [] (rw (ne-eqb (getD s (m .at) 0) 0x24 n) refl) m₁ o₁ b₁ (x .at) (x .braces) (x .goes)
+
+    -- at most one chunk is done, and at most one brace more is open
+    pub ahead-sign : AheadState (length s) 1 m m₁
+    ahead-sign = record {
+      grows = record { at = omega (arith, x .at, h .from); inside = omega (arith, x .at, h .inside); text = omega (arith, x .at, x .len, h .from) };
+      rows = omega (arith, x .at, x .rows, h .from);
+      braces = omega (arith, x .at, x .braces, h .braces, h .from);
+      from = omega (arith, x .from);
+      start = omega (arith, x .start, x .at);
+    }
+
+    -- what `put_math` requires
+    pub math-ready : getD s (m .at) 0 ≡ 0x24 → ReadySign s place m o → length o₁ ≡ length o
+        → ((m .at + 1 ≤ q) × (q ≤ length s) × (m₁ .len + q + 2 ≤ length o₁ + (m .at + 1)) × (m₁ .from ≡ m₁ .len))
+        × (Fits place m₁ (length o₁) × (place .text + m₁ .len + q ≤ 4294967295) × (place .base + q ≤ 4294967295))
+    math-ready e r n =
+        let f = h .math e in (
+          (omega (arith, f), omega (arith, h .inside), omega (arith, f, h .inside, r .room, x .len, n), x .from),
+          (
+            record {
+              from = omega (arith, x .from);
+              to = omega (arith, x .len, r .room, n, f, h .inside);
+              text = omega (arith, x .len, r .value, r .literal, f, h .inside);
+              start = omega (arith, x .start, r .file, r .literal, h .inside);
+              rows = omega (arith, x .rows, r .rows, r .literal, f, h .inside);
+            },
+            omega (arith, x .len, r .value, r .literal, f, h .inside),
+            omega (arith, r .file, r .literal, h .inside),
+          ),
+        )
+
+    module _ (e : getD s (m .at) 0 ≡ 0x24) (m₂ : Making) (o₂ b₂ : List ℕ) (y : MathDone s (m .at + 1) q place m₁ o₁ b₁ m₂ o₂ b₂) where
+      pub math-again : SaysSign place verb s m o b (made.Done m₂) o₂ b₂
+      unfolding steps
+      math-again =
+          onto (math (part s (m .at + 1) q) (m .at + 1) q ∷ []) (rw (eq-eqb (getD s (m .at) 0) 0x24 e) refl) m₂ o₂ b₂ (y .at ∙ x .at) (y .braces ∙ x .braces)
+          (λ t₀ ps b₀ σ held. y .goes t₀ ps b₀ (steps σ (cut d (m .at) (q + 1) ∷ [])) (x .goes t₀ ps b₀ σ held))
+
+      pub ahead-math : AheadState (length s) 1 m m₂
+      ahead-math = record {
+        grows = record {
+          at = omega (arith, y .at, x .at, h .from);
+          inside = omega (arith, y .at, x .at, h .inside);
+          text = omega (arith, y .at, x .at, y .len, x .len, h .math e);
+        };
+        rows = omega (arith, y .at, x .at, y .rows, x .rows, h .math e);
+        braces = omega (arith, y .at, x .at, y .braces, x .braces, h .braces, h .math e);
+        from = omega (arith, y .from);
+        start = omega (arith, y .start, y .at, x .start, x .at);
+      }
 
 -- ---- text
 
@@ -161,19 +232,4 @@ ahead-further len verb s m o q l o′ r m′ e y h x z f = record {
   braces = omega (arith, h .at, f .at, f .braces);
   from = let k : SaysText verb s (m .at) (m .len) o (text.Put q l) o′ = rw e at y in omega (arith, k .lays .end, f .from, f .len, x);
   start = omega (arith, f .start, f .at, h .at, z);
-}
-
-pub sign-as : (place : Place) (verb : Bool) (s : List ℕ) (m : Making) (o b : List ℕ) (r : Made) (o′ b′ : List ℕ) → verb ≡ false
-    → SaysSign place false s m o b r o′ b′ → SaysSign place verb s m o b r o′ b′
-sign-as place verb s m o b r o′ b′ e h = subst (λ (v : Bool). SaysSign place v s m o b r o′ b′) (sym e) h
-
--- at a brace a byte is read, at most one chunk is done, and at most one brace more is open
-pub ahead-cut : (place : Place) (len d : ℕ) (m : Making) (o b : List ℕ) (m₁ : Making) (o₁ b₁ : List ℕ) → m .at < len → d ≤ m .braces + 1
-    → ChunkDone place m (m .at) d (m .at + 1) o b m₁ o₁ b₁ → AheadState len 1 m m₁
-ahead-cut place len d m o b m₁ o₁ b₁ l e h = record {
-  grows = record { at = omega (arith, h .at); inside = omega (arith, h .at, l); text = omega (arith, h .at, h .len) };
-  rows = omega (arith, h .at, h .rows);
-  braces = omega (arith, h .at, h .braces, e);
-  from = omega (arith, h .from);
-  start = omega (arith, h .start, h .at);
 }
