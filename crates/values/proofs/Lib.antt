@@ -6,6 +6,8 @@ pub mod naming
 pub mod ways
 -- the proof of specs/OwnRows.antt: what a value resolves to depends on its own rows, the definitions and the month words alone
 pub mod OwnRows
+-- the proof of specs/OnlyLiteral.antt: a value that is one literal
+pub mod OnlyLiteral
 -- the proof of specs/EnoughText.antt: how much text a value can need
 pub mod EnoughText
 -- the proof of specs/Refusals.antt: which refusals a value can come to, and their places

@@ -3,3 +3,4 @@ pub mod OwnRows
 pub mod EnoughText
 pub mod Refusals
 pub mod Uses
+pub mod OnlyLiteral

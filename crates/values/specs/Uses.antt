@@ -1,17 +1,18 @@
 -- Definitions for the contracts of src/months.rt and src/elements.rt: names, and value and name, which call each other.
 --     MonthFound, Means, allowedOf     what a name means in lent numbers and bytes, and whether its use is allowed
---     firstElement, valueFrom          the elements of a value
+--     firstElement, onlyAt, valueFrom  the elements of a value
 --     ReadyValue                       what value and name require
 -- Assumes nothing.
-use Prim.Native.Nat.{ℕ, zero, suc, _≤_, _<_}
+use Prim.Native.Nat.{ℕ, zero, suc, _+_, _≤_, _<_}
 use mathlib.Core.Path.{_≡_}
 use mathlib.Core.Bool.{Bool, true, cond}
 use mathlib.Core.List.{List, [], _∷_}
-use lib.ListN.{length}
+use lib.ListN.{length, drop}
 use lib.Dec.{ltb}
 use Rattle.text.specs.Scan.{part}
 use Rattle.row.specs.declared.fault.Reason.the-variants.{UnknownAbbreviation, Cyclic, TooDeep, TooManyNames}
 use Rattle.row.specs.Row.{Row}
+use Rattle.row.specs.Numbers.{rowsOf}
 use Rattle.row.specs.declared.form.Kind.the-variants.{Literal, Name}
 use Rattle.row.specs.Rules.{isKind}
 use Rattle.row.specs.Limits.{mostBytes, mostOpen, mostNames}
@@ -25,6 +26,8 @@ use Rattle.values.specs.declared.elements.Meaning as code-meaning
 use Rattle.values.specs.declared.elements.Meaning.the-variants as meaning
 use Rattle.values.specs.declared.elements.Element.{Element}
 use Rattle.values.specs.declared.elements.Element.the-variants as element
+use Rattle.values.specs.declared.elements.Only.{Only}
+use Rattle.values.specs.declared.elements.Only.the-variants as only
 use Rattle.values.specs.declared.elements.Allowed.{Allowed}
 use Rattle.values.specs.declared.elements.Allowed.the-variants as allowed
 use Rattle.values.specs.Field.{Meaning, definition, month, unknown, monthOf, onPath, walk, elements, name}
@@ -60,6 +63,18 @@ firstElement (r ∷ rs) =
     cond (isKind Literal (r .kind)) (element.Literal (r .start) (r .end))
     (cond (isKind Name (r .kind)) (element.Name (r .start) (r .end))
     element.Nothing)
+
+-- the first two elements: the first is the only one, and a literal; or not
+abbrev pub onlyOf : Element → Element → Only
+onlyOf (element.Literal a e) element.Nothing = only.Literal a e
+onlyOf (element.Literal a e) (element.Literal b f) = only.Nothing
+onlyOf (element.Literal a e) (element.Name b f) = only.Nothing
+onlyOf (element.Name a e) v = only.Nothing
+onlyOf element.Nothing v = only.Nothing
+
+-- the elements of a value begin with number i of the rows
+abbrev pub onlyAt : List ℕ → ℕ → Only
+onlyAt rows i = onlyOf (firstElement (rowsOf (drop i rows))) (firstElement (rowsOf (drop (i + 4) rows)))
 
 -- the elements in front of the rows rs, with `left` names left to open, the definitions `path` being resolved and n names so far
 abbrev pub valueFrom : Lent → Bool → ℕ → List ℕ → List Row → ℕ → Run

@@ -28,7 +28,7 @@ ghost use Rattle.resolve.specs.Checks.{areMonths, lentOf};
 ghost use Rattle.resolve.specs.Progress.{Bounded, SaysRun, BoundedWent};
 ghost use Rattle.values.specs.Field as field;
 ghost use Rattle.values.specs.Field.{meaningOf, onPath};
-ghost use Rattle.values.specs.Uses.{Means, RowInside, limits as limitsOf, allowedOf, firstElement, valueFrom, ReadyValue};
+ghost use Rattle.values.specs.Uses.{Means, RowInside, limits as limitsOf, allowedOf, firstElement, onlyAt, valueFrom, ReadyValue};
 
 // What a name means: the definition in a row, or a month word with its text.
 pub enum Meaning {
@@ -41,6 +41,12 @@ pub enum Meaning {
 pub enum Element {
     Literal { start: usize, end: usize },
     Name { start: usize, end: usize },
+    Nothing,
+}
+
+// The literal that is a whole value, and where it stands in the file; or nothing, where a value has a name, several elements or none.
+pub enum Only {
+    Literal { start: usize, end: usize },
     Nothing,
 }
 
@@ -141,6 +147,22 @@ pub fn element_at(rows: &[u32], i: usize) -> Element
         return Element::Name { start, end };
     }
     Element::Nothing
+}
+
+// The literal that is a whole value, whose elements begin with number i of the rows.
+pub fn only_literal(rows: &[u32], i: usize) -> Only
+    requires { ⌜ i ≤ length (now rows) + 4 ⌝ }
+    ensures { λ r. ⌜ r ≡ onlyAt (now (rows .entry)) i ⌝ }
+{
+    match element_at(rows, i) {
+        Element::Literal { start, end } => match element_at(rows, i + 4) {
+            Element::Nothing => Only::Literal { start, end },
+            Element::Literal { start: _, end: _ } => Only::Nothing,
+            Element::Name { start: _, end: _ } => Only::Nothing,
+        },
+        Element::Name { start: _, end: _ } => Only::Nothing,
+        Element::Nothing => Only::Nothing,
+    }
 }
 
 // The elements of a value from number `at` of the rows on, with `left` names left to open.

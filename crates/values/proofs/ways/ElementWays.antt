@@ -1,6 +1,7 @@
 -- The elements of a value, row by row.
 --     element-end, element-literal, element-name, element-other      the ways through `element_at` of src/elements.rt
 --     ElementPlaced, placed, spans-from                              where an element stands
+--     from-none, from-literal                                        the elements from a row on
 --     value-end                                                      the way through `value` where no element is left
 --     literal-on, literal-stopped, name-on, name-stopped             the ways through `value` at a literal and at a name
 --     ready-value-on                                                 what `value` requires holds further on
@@ -168,12 +169,12 @@ module _ (l : Lent) (verb : Bool) (left : ℕ) (path : List ℕ) where
   abbrev from : List Row → ℕ → Run
   from rs n = valueFrom l verb left path rs n
 
-  from-none : (rs : List Row) (n : ℕ) → firstElement rs ≡ element.Nothing → from rs n ≡ done [] n
+  pub from-none : (rs : List Row) (n : ℕ) → firstElement rs ≡ element.Nothing → from rs n ≡ done [] n
   unfolding walk elements
   from-none [] n h = refl
   from-none (r ∷ rs) n h = rw (no-row r rs h)
 
-  from-literal : (rs ss : List Row) (r : Row) (a e n : ℕ) → rs ≡ r ∷ ss → firstElement rs ≡ element.Literal a e
+  pub from-literal : (rs ss : List Row) (r : Row) (a e n : ℕ) → rs ≡ r ∷ ss → firstElement rs ≡ element.Literal a e
       → from rs n ≡ onward (ofLiteral (resolveLiteral verb (part (l .file) a e) a) n) (from ss)
   unfolding walk elements
   from-literal rs ss r a e n p h =
