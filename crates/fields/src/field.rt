@@ -6,6 +6,7 @@ use compose;
 use resolve::answer;
 use resolve::answer::Answer;
 use resolve::lent;
+use resolve::one_literal;
 use resolve::progress;
 use resolve::progress::Went;
 use row::fault::Fault;
@@ -13,6 +14,7 @@ use row::fault::Reason;
 use row::limits::LEAST_SCRATCH;
 use row::limits::MOST_OPEN;
 use values::elements;
+use values::elements::Only;
 ghost use lib.ListN.{length};
 ghost use Rattle.resolve.specs.Resolves.{Writes, Resolves};
 ghost use Rattle.resolve.specs.Checks.{lentOf};
@@ -63,7 +65,7 @@ pub fn count(
 
 // Resolves the value of row `which` over a small room first, past whose end rows and bytes are only counted. If the value fits there it is copied
 // from there; else it is resolved again.
-pub fn write(
+fn several(
     file: &[u8],
     rows: &[u32],
     months: &[u32],
@@ -139,6 +141,56 @@ pub fn write(
             );
             progress::answer(st)
         }
+    }
+}
+
+// Resolves the value of row `which`. Most values are one literal, which needs no room of its own.
+pub fn write(
+    file: &[u8],
+    rows: &[u32],
+    months: &[u32],
+    words: &[u8],
+    heads: &[u32],
+    next: &[u32],
+    known: &[u8],
+    marks: &[u32],
+    verbatim: bool,
+    which: usize,
+    scratch: &mut [u8],
+    chunks: &mut [u32],
+    text: &mut [u8],
+) -> Answer
+    requires { ⌜ Resolving (now file) (now rows) (now months) (now words) (now heads) (now next) (now scratch) (now known) (now marks) which ⌝ }
+    ensures { λ r. ⌜ Writes (fieldOf (lentOf (now (file .entry)) (now (rows .entry)) (now (months .entry)) (now (words .entry))) verbatim which)
+        (now (chunks .entry)) (now (text .entry)) r (now (chunks .exit)) (now (text .exit)) ⌝ }
+    ensures { λ r. ⌜ BoundedAnswer r ⌝ }
+{
+    match elements::only_literal(rows, which * 4 + 4) {
+        Only::Literal { start, end } => one_literal::single(
+            &file[start..end],
+            start,
+            verbatim,
+            scratch,
+            chunks,
+            text,
+            known,
+            marks,
+        ),
+        Only::Nothing => several(
+            file,
+            rows,
+            months,
+            words,
+            heads,
+            next,
+            known,
+            marks,
+            verbatim,
+            which,
+            scratch,
+            chunks,
+            text,
+        ),
     }
 }
 

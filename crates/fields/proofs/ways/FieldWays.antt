@@ -1,14 +1,15 @@
--- A value over a small room, and then over what is lent: for `count`, `write` and `field` of src/field.rt.
+-- A value over a small room, and then over what is lent: for `count`, `several`, `write` and `field` of src/field.rt.
 --     says-count                              a run begins with the number of names so far, written in another way
 --     ready-value-first, answer-bounded       what `value` requires, and the bounds of an answer
---     write-refused, write-full               the value is refused, or there is no room for it
---     write-room                              there is room, and how much the value comes to
---     write-copied, write-again               the value is copied from the small room, or resolved again
+--     several-refused, several-full           the value is refused, or there is no room for it
+--     several-room                            there is room, and how much the value comes to
+--     several-copied, several-again           the value is copied from the small room, or resolved again
 --     count-as                                the value is counted only
 --     right-as, lent-right, which-inside      what `field` checks
---     field-at, count-at                      the value of a row
+--     field-at, count-at, only-at             the value of a row, and one that is a literal
+--     only-inside                             where that literal stands
 -- Assumes nothing.
-use Prim.Native.Nat.{ℕ, suc, _+_, _-_, _*_, _/_, _≤_, _<_}
+use Prim.Native.Nat.{ℕ, suc, _+_, _-_, _*_, _/_, _%_, _≤_, _<_}
 use native.Mathlib.Omega.{arith}
 use mathlib.Core.Path.{_≡_, refl, sym, ap, ap₂, subst, _∙_}
 use mathlib.Core.Bool.{Bool, true, false, cond, not, _&&_}
@@ -29,6 +30,7 @@ use Rattle.row.specs.Limits.{mostOpen}
 use Rattle.row.proofs.Laid.{laid}
 use Rattle.chunk.specs.Chunk.{Chunk, flatChunks}
 use Rattle.turn.specs.Content.{flatten}
+use Rattle.literal.specs.Literal.{resolveLiteral}
 use Rattle.literal.specs.Rows.{rowsFrom, textsOf}
 use Rattle.literal.proofs.Flattening.{flattening}
 use Rattle.resolve.specs.declared.answer.Answer.{Answer}
@@ -37,12 +39,15 @@ use Rattle.resolve.specs.declared.progress.Progress.{Progress}
 use Rattle.resolve.specs.declared.progress.Went.{Went}
 use Rattle.resolve.specs.declared.progress.Went.the-variants as went
 use Rattle.resolve.specs.Resolves.{Value, resolved, small, fits, told, rowsLeft, textLeft, Writes}
+use Rattle.resolve.specs.OneLiteral.{valueOf}
 use Rattle.resolve.specs.Checks.{Lent, isValue, areLent, isRight}
 use Rattle.resolve.specs.Runs.{Run, done, stop}
 use Rattle.resolve.specs.Progress.{Has, answerOf, Bounded, SaysRun, BoundedAnswer, Counted}
 use Rattle.resolve.proofs.Asking.{asking}
+use Rattle.values.specs.declared.elements.Only.the-variants as only
 use Rattle.values.specs.Field.{flattened, ofRun, fieldOf}
-use Rattle.values.specs.Uses.{valueFrom, ReadyValue}
+use Rattle.values.specs.Uses.{onlyAt, valueFrom, ReadyValue}
+use Rattle.values.proofs.OnlyLiteral.{only-literal}
 use Rattle.fields.specs.OneField.{Resolving}
 
 -- ---- chunks that were counted
@@ -117,7 +122,7 @@ module _ (cs : List Chunk) (b₀ t₀ : List ℕ) (st : Progress) (b t : List �
       room : 0 + length (textsOf cs) ≤ length t₀
       room = omega (arith, has .bytes (right cs b₀ t₀ st b t has b t x), enough cs b₀ t₀ st b t has b t x .1, m)
 
--- ---- the ways through `write`
+-- ---- the ways through `several`
 
 pub says-count : (g : ℕ → Run) (n m : ℕ) → n ≡ m → (st : Progress) (b t : List ℕ) (r : Went) (b′ t′ : List ℕ) → SaysRun (g n) st b t r b′ t′
     → SaysRun (g m) st b t r b′ t′
@@ -144,8 +149,8 @@ module _ (run : Run) (first : Progress) (begins : (b t : List ℕ) → Has [] b 
   abbrev value : Run → Value
   value run = ofRun (flattened run)
 
-  pub write-refused : (f : Fault) → r ≡ went.Refused f → Writes (value run) c s (answer.Refused f) c s
-  write-refused f e = by run (subst (λ (r : Went). SaysRun run first b₀ t₀ r b t) e h)
+  pub several-refused : (f : Fault) → r ≡ went.Refused f → Writes (value run) c s (answer.Refused f) c s
+  several-refused f e = by run (subst (λ (r : Went). SaysRun run first b₀ t₀ r b t) e h)
     where
       by : (run : Run) → SaysRun run first b₀ t₀ (went.Refused f) b t → Writes (value run) c s (answer.Refused f) c s
       by (done cs n) k = absurd k
@@ -159,8 +164,8 @@ module _ (run : Run) (first : Progress) (begins : (b t : List ℕ) → Has [] b 
     abbrev pub Fitted : Bool → List ℕ → List ℕ → Type 0
     Fitted x c s = (ps : List Chunk) (b₀ t₀ b t : List ℕ) → Has ps b₀ t₀ st b t → x ≡ fits (flatten ps) c s
 
-    pub write-full : (x : Bool) → Fitted x c s → not x ≡ true → Writes (value run) c s (answer.Refused (nowhere NoRoom)) c s
-    write-full x l q = by run counted
+    pub several-full : (x : Bool) → Fitted x c s → not x ≡ true → Writes (value run) c s (answer.Refused (nowhere NoRoom)) c s
+    several-full x l q = by run counted
       where
         by : (run : Run) → SaysRun run first b₀ t₀ (went.Done st) b t → Writes (value run) c s (answer.Refused (nowhere NoRoom)) c s
         by (done cs n) k =
@@ -168,8 +173,8 @@ module _ (run : Run) (first : Progress) (begins : (b t : List ℕ) → Has [] b 
             record { answer = rw y; rows = rw y; text = rw y }
         by (stop g) k = absurd k
 
-    pub write-room : (x : Bool) (d u : List ℕ) → Fitted x d u → x ≡ true → (st .rows .n * 5 ≤ length d) × (st .bytes ≤ length u)
-    write-room x d u l q = by run counted
+    pub several-room : (x : Bool) (d u : List ℕ) → Fitted x d u → x ≡ true → (st .rows .n * 5 ≤ length d) × (st .bytes ≤ length u)
+    several-room x d u l q = by run counted
       where
         by : (run : Run) → SaysRun run first b₀ t₀ (went.Done st) b t → (st .rows .n * 5 ≤ length d) × (st .bytes ≤ length u)
         by (done cs n) k =
@@ -178,10 +183,10 @@ module _ (run : Run) (first : Progress) (begins : (b t : List ℕ) → Has [] b 
         by (stop g) k = absurd k
 
     module _ (x : Bool) (l : Fitted x c s) (q : x ≡ true) (d : Answer) (o : d ≡ answerOf st) where
-      pub write-copied : length b ≡ length b₀ → length t ≡ length t₀ → (y : Bool) → Fitted y b t → y ≡ true → (c′ s′ : List ℕ)
+      pub several-copied : length b ≡ length b₀ → length t ≡ length t₀ → (y : Bool) → Fitted y b t → y ≡ true → (c′ s′ : List ℕ)
           → c′ ≡ take (st .rows .n * 5) b ++ drop (st .rows .n * 5) c → s′ ≡ sets s 0 (part t 0 (st .bytes))
           → Writes (value run) c s d c′ s′
-      write-copied i j y m z c′ s′ p w = by run counted
+      several-copied i j y m z c′ s′ p w = by run counted
         where
           by : (run : Run) → SaysRun run first b₀ t₀ (went.Done st) b t → Writes (value run) c s d c′ s′
           by (done cs n) k =
@@ -196,8 +201,8 @@ module _ (run : Run) (first : Progress) (begins : (b t : List ℕ) → Has [] b 
               }
           by (stop g) k = absurd k
 
-      pub write-again : (r₂ : Went) (c′ s′ : List ℕ) → SaysRun run first c s r₂ c′ s′ → Writes (value run) c s d c′ s′
-      write-again r₂ c′ s′ k₂ = by run counted r₂ k₂
+      pub several-again : (r₂ : Went) (c′ s′ : List ℕ) → SaysRun run first c s r₂ c′ s′ → Writes (value run) c s d c′ s′
+      several-again r₂ c′ s′ k₂ = by run counted r₂ k₂
         where
           by : (run : Run) → SaysRun run first b₀ t₀ (went.Done st) b t → (r₂ : Went) → SaysRun run first c s r₂ c′ s′
               → Writes (value run) c s d c′ s′
@@ -269,3 +274,19 @@ module _ (l : Lent) (verb : Bool) (rows : List ℕ) (which : ℕ) (e : l .rows �
 
   pub count-at : (r : Went) → Counted (from (rowsOf (drop (which * 4 + 4) rows))) r → Counted (fieldOf l verb which) r
   count-at r h = subst (λ (rs : List Row). Counted (from rs) r) rows-behind h
+
+  -- the value is one literal, from a to e, whose bytes are w
+  pub only-at : (a e : ℕ) → onlyAt rows (which * 4 + 4) ≡ only.Literal a e → (w : List ℕ) → w ≡ part (l .file) a e → (c s : List ℕ) (r : Answer)
+      (c′ s′ : List ℕ) → Writes (valueOf (resolveLiteral verb w a)) c s r c′ s′ → Writes (fieldOf l verb which) c s r c′ s′
+  only-at a e h w k c s r c′ s′ z =
+      field-at c s r c′ s′
+      (subst (λ (v : Value). Writes v c s r c′ s′)
+      (ap (λ (w : List ℕ). valueOf (resolveLiteral verb w a)) k ∙ sym (only-literal .value l verb mostOpen [] rows (which * 4 + 4) a e h)) z)
+
+-- the literal lies in the file
+pub only-inside : (file rows months words : List ℕ) (which a e : ℕ) → areLent file rows months words ≡ true → onlyAt rows (which * 4 + 4) ≡ only.Literal a e
+    → (a ≤ e) × (e ≤ length file)
+only-inside file rows months words which a e lent h = only-literal .inside file rows months words (which * 4 + 4) a e lent (whole which) h
+  where
+    whole : (n : ℕ) → (n * 4 + 4) % 4 ≡ 0
+    whole n = omega arith
