@@ -119,6 +119,12 @@ pub fn most_of_names(rows: &[u32], months: &[u32]) -> Most
         i += 1;
         if rows[at * 4] == DEFINITION_NAME {
             most = either(most, most_of(rows, at + 1, Most::Unknown));
+            match most {
+                Most::Unknown => {
+                    return Most::Unknown;
+                }
+                Most::Literals { rows: _, bytes: _ } => {}
+            }
         }
     }
     most

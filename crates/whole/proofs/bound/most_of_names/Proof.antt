@@ -27,12 +27,13 @@ most-of-requires c κs = (omega (arith, c .before .before .loop-test .taken), tt
 
 loop-again : tie.Need-loop-again Inv-loop μ-loop
 loop-again c =
-    let one = c .before .most-of in
-    let turn = c .before .before .before .before .before in
+    let told = c .before .before in
+    let one = told .before .most-of in
+    let turn = told .before .before .before .before .before in
     let l = turn .loop in
     let a = turn .before .before .before .before .args in
-    let r = c .either .result in
-    let e = c .either .ensures in (
+    let r = told .either .result in
+    let e = told .either .ensures in (
       months-wider (a .months .now) (l .most) (one .result) r (l .inv .0) e,
       defined-on (a .rows .now) (l .i) (l .most) (l .inv .1) (one .result) r (one .ensures .0) e,
       e .small (l .inv .2) (one .ensures .1),
@@ -49,8 +50,8 @@ loop-again-2 c =
       l .inv .2,
     )
 
-returns : tie.Need-returns Inv-loop μ-loop
-returns c =
+returns-2 : tie.Need-returns-2 Inv-loop μ-loop
+returns-2 c =
     let turn = c .before in
     let l = turn .loop in
     let a = turn .before .before .before .before .args in
@@ -72,7 +73,10 @@ most-of-names-spec =
     most-of-requires
     (λ c κs. search needs)
     (λ c. search needs)
+    (λ c file words. (tt, λ _ _ _. tt))
+    (λ c. search needs)
+    (λ c. search needs)
     loop-again
     (λ c. search needs)
     loop-again-2
-    returns)
+    returns-2)
