@@ -162,7 +162,8 @@ fn up(f: Fault, base: usize) -> Fault
     }
 }
 
-// The end of a literal's content: the last chunk is done too if it has text, or if there is no other.
+// The end of a literal's content: the last chunk is done too if it has text, or if there is no other. `out`, where the text stands, is there for
+// the contract.
 fn close(t: Making, place: Place, out: &[u8], numbers: &mut [u32]) -> Rows
     requires { ⌜ Fits place t (length (now out)) × (place .base + t .at ≤ 4294967295) × (place .argument ≡ false) ⌝ }
     ensures { λ r. ⌜ LastChunkDone place t (now (out .entry)) (now (numbers .entry)) r (now (out .entry)) (now (numbers .exit)) ⌝ }
@@ -179,7 +180,8 @@ fn close(t: Making, place: Place, out: &[u8], numbers: &mut [u32]) -> Rows
     have
 }
 
-// The row of a literal that is one Normal chunk, whose text has `len` bytes, behind the other rows.
+// The row of a literal that is one Normal chunk, from `base` to `end` in its file, behind the other rows. Its text has `len` bytes, and the text
+// of the value before it `before`.
 pub fn whole(
     base: usize,
     end: usize,

@@ -140,9 +140,7 @@ rest-long verb s base before have b o′ b′ h =
 -- a literal inside the limit is its content
 short : (verb : Bool) (s : List ℕ) (base : ℕ) → length s ≤ mostLiteral → resolveLiteral verb s base ≡ resolvedOf base (content mostArguments verb s 0)
 unfolding resolveLiteral
-short verb s base h =
-    ap (λ (x : Bool). cond x (resolvedOf base (content mostArguments verb s 0)) (refused (tooLong base (base + length s))))
-    (le-leb (length s) mostLiteral h)
+short verb s base h = rw (le-leb (length s) mostLiteral h)
 
 -- ---- the text that a literal begins with
 
@@ -179,12 +177,11 @@ module _ (verb : Bool) (s o : List ℕ) (p n : ℕ) (o′ : List ℕ) (w : Wrote
         ∙ ap₂ ok at-end (append-nil (map put (w .texts)))
 
     one : chunksOf 0 (length s) (map put (w .texts)) ≡ chunk Normal (concat (w .texts)) 0 (length s) ∷ []
-    one = ap (λ (σ : State). closed σ (length s) (σ .text) (σ .done)) (puts-state (w .texts) (beginning 0)) ∙ by (concat (w .texts)) refl
+    one = ap (λ (σ : State). closed σ (length s) (σ .text) (σ .done)) (puts-state (w .texts) (beginning 0)) ∙ by (concat (w .texts))
       where
-        by : (t : List ℕ) → concat (w .texts) ≡ t
-            → closed (step (beginning 0) (put t)) (length s) t [] ≡ chunk Normal t 0 (length s) ∷ []
-        by [] q = refl
-        by (b ∷ t) q = refl
+        by : (t : List ℕ) → closed (step (beginning 0) (put t)) (length s) t [] ≡ chunk Normal t 0 (length s) ∷ []
+        by [] = refl
+        by (b ∷ t) = refl
 
     pub begun-whole : OneChunk verb s n o′
     begun-whole = record {
