@@ -228,8 +228,9 @@ uint32_t bib_resolve_field(const uint8_t *file, size_t file_len,
  * The call is faster with room for whatever the literals can come to, since it need not count first what
  * they do come to, by resolving each value twice. A literal of n bytes has at most n + 1 chunks and 2 * n
  * bytes of text, so that is 5 * (bytes of all literals + number of literals) numbers in chunks and
- * 2 * (bytes of all literals) bytes in text, and on top of it what the names bring. All literals together
- * have no more bytes than the file. The answer is the same with any room that is enough.
+ * 2 * (bytes of all literals) bytes in text, and on top of it, for each use of a name, as much as the
+ * longest definition asks. All literals together have no more bytes than the file. The answer is the
+ * same with any room that is enough.
  *
  * heads and next are for the index of the names: heads may have any length, and BIB_GOOD_HEADS of the
  * number of rows is a good one; next has a number for each row. With fewer the answer is the same, but
