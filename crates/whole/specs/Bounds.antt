@@ -61,6 +61,7 @@ Wider most.Unknown a = Unit {0}
 Wider (most.Literals p q) (most.Literals n m) = (n ≤ p) × (m ≤ q)
 Wider (most.Literals p q) most.Unknown = ⊥
 
+-- what is within a or within b is within r
 pub record Either (a b r : Most) : Type 0 where
   pub one : Wider r a
   pub other : Wider r b

@@ -64,7 +64,7 @@ fn larger(a: usize, b: usize) -> usize
     if a < b { b } else { a }
 }
 
-// What comes to no more than one of the two comes to at most this.
+// A bound for what comes to no more than `a` or no more than `b`.
 fn either(a: Most, b: Most) -> Most
     ensures { λ r. ⌜ Either a b r ⌝ }
 {

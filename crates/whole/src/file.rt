@@ -155,7 +155,7 @@ fn fits(t: Totals, answers: &[u32], chunks: &[u32], text: &[u8]) -> bool
         & (t.bytes <= text.len())
 }
 
-// Whether there is room for all values, which are counted over no room, until there is more than is lent.
+// Whether there is room for all values. They are counted over no room, and no further than to where there is more than is lent.
 fn counted_fits(
     file: &[u8],
     rows: &[u32],
@@ -253,7 +253,7 @@ fn bound_row(
 }
 
 // Whether there surely is room for all values, told from what they come to at most, where a use of a name comes to at most `name`. It goes no
-// further than where there is more than is lent.
+// further than to where that is more than is lent.
 fn surely_fits(
     file: &[u8],
     rows: &[u32],
@@ -301,7 +301,7 @@ fn surely_fits(
     fits(t, answers, chunks, text)
 }
 
-// Whether there is room for all values. Where the bound of names does not tell, values with names are counted; and then all.
+// Whether there is room for all values. Where the bound of names does not say so, values with names are counted; where that does not, all are.
 fn has_room(
     file: &[u8],
     rows: &[u32],
