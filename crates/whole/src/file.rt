@@ -301,8 +301,8 @@ fn surely_fits(
     fits(t, answers, chunks, text)
 }
 
-// Whether there is room for all values. Where the bound of names does not say so, values with names are counted; where that does not, all are.
-fn has_room(
+// Whether there surely is room for all values. Where the bound of names does not say so, values with names are counted.
+fn surely_has_room(
     file: &[u8],
     rows: &[u32],
     flags: &[u8],
@@ -318,8 +318,8 @@ fn has_room(
     text: &[u8],
 ) -> bool
     requires { ⌜ Filing (now file) (now rows) (now flags) (now months) (now words) (now heads) (now next) (now scratch) (now known) (now marks) ⌝ }
-    ensures { λ r. ⌜ r ≡ fitsAll (results (lentOf (now (file .entry)) (now (rows .entry)) (now (months .entry)) (now (words .entry))) (now (flags .entry)))
-        (now (answers .entry)) (now (chunks .entry)) (now (text .entry)) ⌝ }
+    ensures { λ r. ⌜ (r ≡ true → fitsAll (results (lentOf (now (file .entry)) (now (rows .entry)) (now (months .entry)) (now (words .entry))) (now (flags .entry)))
+        (now (answers .entry)) (now (chunks .entry)) (now (text .entry)) ≡ true) ⌝ }
 {
     let name = bound::most_of_names(rows, months);
     if surely_fits(
@@ -341,27 +341,62 @@ fn has_room(
         return true;
     }
     match name {
-        Most::Unknown => {}
-        Most::Literals { rows: _, bytes: _ } => {
-            if surely_fits(
-                file,
-                rows,
-                flags,
-                months,
-                words,
-                heads,
-                next,
-                known,
-                marks,
-                Most::Unknown,
-                scratch,
-                answers,
-                chunks,
-                text,
-            ) {
-                return true;
-            }
-        }
+        Most::Unknown => false,
+        Most::Literals { rows: _, bytes: _ } => surely_fits(
+            file,
+            rows,
+            flags,
+            months,
+            words,
+            heads,
+            next,
+            known,
+            marks,
+            Most::Unknown,
+            scratch,
+            answers,
+            chunks,
+            text,
+        ),
+    }
+}
+
+// Whether there is room for all values. Where no bound says so, all are counted.
+fn has_room(
+    file: &[u8],
+    rows: &[u32],
+    flags: &[u8],
+    months: &[u32],
+    words: &[u8],
+    heads: &[u32],
+    next: &[u32],
+    known: &[u8],
+    marks: &[u32],
+    scratch: &mut [u8],
+    answers: &[u32],
+    chunks: &[u32],
+    text: &[u8],
+) -> bool
+    requires { ⌜ Filing (now file) (now rows) (now flags) (now months) (now words) (now heads) (now next) (now scratch) (now known) (now marks) ⌝ }
+    ensures { λ r. ⌜ r ≡ fitsAll (results (lentOf (now (file .entry)) (now (rows .entry)) (now (months .entry)) (now (words .entry))) (now (flags .entry)))
+        (now (answers .entry)) (now (chunks .entry)) (now (text .entry)) ⌝ }
+{
+    if surely_has_room(
+        file,
+        rows,
+        flags,
+        months,
+        words,
+        heads,
+        next,
+        known,
+        marks,
+        scratch,
+        answers,
+        chunks,
+        text,
+    ) {
+        return true;
     }
     counted_fits(
         file,
