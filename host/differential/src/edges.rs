@@ -1,4 +1,4 @@
-//! Lengths at which a number of 8, 16 or 24 bits is full.
+//! Lengths at which a number of 8, 16 or 24 bits is full, or a reader goes another way.
 
 use cases::symbols::PARTS;
 
@@ -28,6 +28,7 @@ pub fn run(judge: &mut Judge, long: bool) {
     for n in LENGTHS.into_iter().chain(LONG_LENGTHS) {
         deep(judge, n);
     }
+    once(judge);
     for shape in &FULL[..if long { FULL.len() } else { 2 }] {
         full(judge, shape);
     }
@@ -40,6 +41,24 @@ fn repeated(judge: &mut Judge, (before, part, after): (&[u8], &[u8], &[u8]), n: 
     judge.check(&file);
     file.extend_from_slice(after);
     judge.check_rooms(&file);
+}
+
+/// Around the files that are read once, into a room of the call's own: by their length, and by their
+/// rows, which must find room there.
+fn once(judge: &mut Judge) {
+    for length in (255..=258).chain(65_534..=65_537) {
+        let mut file = b"@a{k,t={x}}".to_vec();
+        file.resize(length, b' ');
+        judge.check_rooms(&file);
+    }
+    // Five rows, and one for each name.
+    for names in 1_993..=1_997 {
+        let file = b"@a{k,t=n".to_vec();
+        let mut file = [file, b"#n".repeat(names - 1)].concat();
+        judge.check_rooms(&file);
+        file.push(b'}');
+        judge.check_rooms(&file);
+    }
 }
 
 /// Braces `n` deep, closed, not quite closed, and closed once too often.

@@ -325,6 +325,47 @@ pub fn lengths(judge: &mut Judge, long: bool) {
     }
 }
 
+/// What ends a run of plain text, or does not, in the tests of blocks.
+const IN_PLAIN: [&str; 22] = [
+    " ",
+    "  ",
+    "-",
+    "--",
+    "~",
+    "\\",
+    "\\'",
+    "\\emph{",
+    "{",
+    "}",
+    "$",
+    "$x$",
+    "\t",
+    "\n",
+    " \n",
+    "\u{7f}",
+    "\u{e9}",
+    " \u{e9}",
+    "\u{a0}",
+    " \u{a0}",
+    "\u{2003}",
+    "\u{1f4d6} ",
+];
+
+/// A part at every place of a plain text, as verbatim or not: text is gone over by blocks of sixteen
+/// bytes, and each place of a block, and each length of the rest behind the last one, is to come out
+/// as byte by byte.
+pub fn blocks(judge: &mut Judge, long: bool) {
+    let mut resolves = Resolves::new();
+    for length in 0..=if long { 100 } else { 36 } {
+        for place in 0..=length {
+            for part in IN_PLAIN {
+                let literal = "x".repeat(place) + part + &"y".repeat(length - place);
+                resolves.check(judge, &literal);
+            }
+        }
+    }
+}
+
 /// A literal of just this length, in bytes, if it is long enough for its arguments.
 fn filled(part: &str, length: usize, depth: usize) -> String {
     let around = 4 * depth;

@@ -141,6 +141,7 @@ fn writing(judge: &mut Judge, wanted: &Wanted) {
         writing::sequences_of_bytes,
     );
     judge.group("writing, lengths", writing::lengths);
+    judge.group("writing, blocks", |j| writing::blocks(j, long));
     judge.group("writing, drawn", |j| writing::drawn(j, seed, long));
     judge.group("writing, room", |j| writing::rooms(j, seed, long));
 }
@@ -156,6 +157,7 @@ fn resolving(judge: &mut Judge, wanted: &Wanted) {
     judge.group("literals, characters", |j| literals::characters(j, long));
     judge.group("literals, drawn", |j| literals::drawn(j, seed, long));
     judge.group("literals, deep", |j| literals::deep(j, seed, long));
+    judge.group("literals, blocks", |j| literals::blocks(j, long));
     judge.group("literals, lengths", |j| literals::lengths(j, long));
     judge.group("literals, room", |j| literals::rooms(j, seed, long));
     judge.group("literals, places and scratch", literals::places);

@@ -132,6 +132,31 @@ pub fn lengths(judge: &mut Judge) {
     }
 }
 
+/// A part at every place of a plain text: lines are gone over by blocks of sixteen bytes, and so is
+/// the check of a short text.
+pub fn blocks(judge: &mut Judge, long: bool) {
+    let mut writes = Writes::new();
+    let parts: [&[u8]; 8] = [
+        b"\n",
+        b"\r",
+        b"\r\n",
+        b" \n",
+        b"\n\n",
+        b"\x0B",
+        "\u{e9}\n".as_bytes(),
+        b"\xFF",
+    ];
+    for length in 0..=if long { 300 } else { 36 } {
+        for place in 0..=length {
+            for part in parts {
+                let text = [&b"x".repeat(place)[..], part, &b"y".repeat(length - place)].concat();
+                let kind = KINDS[(length + place) % KINDS.len()];
+                writes.check(judge, &text, &[kind, 0, text.len() as u32, 0, 0]);
+            }
+        }
+    }
+}
+
 /// Random texts and rows, whole and broken in up to two places.
 pub fn drawn(judge: &mut Judge, seed: u64, long: bool) {
     let mut random = Random::new(seed, 11);
