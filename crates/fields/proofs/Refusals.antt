@@ -17,14 +17,14 @@ use Rattle.fields.specs.Refusals.{Refusals}
 
 -- a value is never refused with 16
 not-full : (l : Lent) (verb : Bool) (i : ℕ) → fieldOf l verb i ≡ refused (nowhere NoRoom) → ⊥
-not-full l verb i e = absurd (omega (arith, value-refusals .own l (nowhere NoRoom) (value-refusals .value l verb i (nowhere NoRoom) e)))
+not-full l verb i e = absurd (omega (arith, value-refusals .own l verb i (nowhere NoRoom) (value-refusals .value l verb i (nowhere NoRoom) e)))
 
 pub refusals : Refusals
 refusals =
     record {
       field = λ file rows which verb months words w b t w′ b′ t′ f r.
           let l = lentOf file rows months words in
-          calls file (isRight file rows which months words) (length w) (fieldOf l verb which) (FieldFault l) (value-refusals .value l verb which)
+          calls file (isRight file rows which months words) (length w) (fieldOf l verb which) (FieldFault l verb which) (value-refusals .value l verb which)
           b t f (r .writes .answer);
       field-full = λ file rows which verb months words w b t w′ b′ t′ x r.
           let l = lentOf file rows months words in

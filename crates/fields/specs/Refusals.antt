@@ -23,7 +23,7 @@ pub record Refusals : Type 0 where
   -- `resolve_field` answers those of a call, and those that the value of the row can come to
   pub field : (file rows : List ℕ) (which : ℕ) (verb : Bool) (months words w b t w′ b′ t′ : List ℕ) (f : Fault)
       → Resolves (valueAt file rows which verb months words (length w)) w b t (answer.Refused f) w′ b′ t′
-      → CallFault file (isRight file rows which months words) (FieldFault (lentOf file rows months words)) f
+      → CallFault file (isRight file rows which months words) (FieldFault (lentOf file rows months words) verb which) f
   -- and 16 exactly if the scratch is too small, or an answer exists and needs more than is lent
   pub field-full : (file rows : List ℕ) (which : ℕ) (verb : Bool) (months words w b t w′ b′ t′ : List ℕ) (r : Answer)
       → Resolves (valueAt file rows which verb months words (length w)) w b t r w′ b′ t′

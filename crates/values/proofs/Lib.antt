@@ -10,6 +10,8 @@ pub mod OwnRows
 pub mod OnlyLiteral
 -- the proof of specs/EnoughText.antt: how much text a value can need
 pub mod EnoughText
+-- the proof of specs/NameUses.antt: 12 to 15 at the use of a name, each exactly if
+pub mod NameUses
 -- the proof of specs/Refusals.antt: which refusals a value can come to, and their places
 pub mod Refusals
 -- any two answers that a contract allows are the same

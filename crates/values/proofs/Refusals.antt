@@ -2,18 +2,18 @@
 -- Assumes nothing.
 use Prim.Native.Nat.{ℕ, zero, suc, _+_, _≤_}
 use native.Mathlib.Omega.{arith}
-use mathlib.Core.Path.{_≡_, refl, ap, subst, _∙_}
+use mathlib.Core.Path.{_≡_, refl, sym, ap, subst, _∙_}
 use mathlib.Core.Bool.{Bool, true, false, cond, _||_}
-use mathlib.Core.List.{List, [], _∷_, _++_, List·Memᴰ, List·Memᴰ·head, List·Memᴰ·tail, List·Memᴰ·not-nil}
+use mathlib.Core.List.{List, [], _∷_, _++_, append-assoc}
 use lib.ListN.{drop}
-use lib.Dec.{ltb}
 use Rattle.row.specs.declared.form.Kind.the-variants.{Literal, Name}
 use Rattle.row.specs.declared.fault.Fault.{Fault}
-use Rattle.row.specs.declared.fault.Reason.the-variants.{UnknownAbbreviation, Cyclic, TooDeep, TooManyNames}
+use Rattle.row.specs.declared.fault.Reason.{Reason}
 use Rattle.row.specs.Fault.{numberOf}
 use Rattle.row.specs.Row.{Row}
 use Rattle.row.specs.Rules.{isKind}
-use Rattle.row.specs.Limits.{mostOpen, mostNames}
+use Rattle.row.specs.Limits.{mostOpen}
+use Rattle.chunk.specs.Chunk.{Chunk}
 use Rattle.literal.specs.Literal.{Resolved, chunks, resolveLiteral}
 use Rattle.literal.specs.Literal as literal
 use Rattle.literal.specs.Refusals.{LiteralFault}
@@ -21,65 +21,70 @@ use Rattle.literal.proofs.Refusals.{refusals as literal-refusals}
 use Rattle.resolve.specs.Resolves.{refused}
 use Rattle.resolve.specs.Checks.{Lent}
 use Rattle.resolve.specs.Runs.{Run, done, stop, ofLiteral}
-use Rattle.values.specs.Field.{isElement, elements, behind, onward, walk, flattened, parseField, element, Meaning, definition, month, unknown}
-use Rattle.values.specs.Field.{spelt, meaningOf, onPath, known, opened, name, ofRun, fieldOf}
+use Rattle.values.specs.declared.elements.Allowed.{Allowed}
+use Rattle.values.specs.declared.elements.Allowed.the-variants as allowed
+use Rattle.values.specs.Field.{isElement, elements, behind, onward, walk, flattened, parseField, Meaning, definition, month, unknown}
+use Rattle.values.specs.Field.{spelt, meaningOf, elementsOf, opened, name, ofRun, fieldOf}
+use Rattle.values.specs.NameUses.{UseFault, not-known, cyclic, too-deep, too-many, left, allowedBy, useOf, orRefused, each, Reached, Met, in-value}
+use Rattle.values.specs.NameUses.{in-definition}
 use Rattle.values.specs.Refusals.{FieldFault, used, met, Refusals}
+use Rattle.values.proofs.NameUses.{left-down, use-left, walk-on, name-uses}
 
--- ---- the elements of a value are rows
+-- ---- an element of a value is a literal or a name
 
-drop-in : (k : ℕ) (rs : List Row) (r : Row) → List·Memᴰ r (drop k rs) → List·Memᴰ r rs
-drop-in zero rs r d = d
-drop-in (suc k) [] r d = d
-drop-in (suc k) (q ∷ rs) r d = List·Memᴰ·tail (drop-in k rs r d)
-
-element-in : (rs : List Row) (r : Row) → List·Memᴰ r (elements rs) → List·Memᴰ r rs × (isElement r ≡ true)
+is-element : (rs before after : List Row) (r : Row) → elements rs ≡ before ++ r ∷ after → isElement r ≡ true
 unfolding elements
-element-in [] r d = absurd (List·Memᴰ·not-nil d)
-element-in (q ∷ rs) r d = by (isElement q) refl d (element-in rs r)
+is-element [] [] after r e = let z : _≡_ {A = ℕ} 0 1 = cc in absurd (omega arith)
+is-element [] (b ∷ before) after r e = let z : _≡_ {A = ℕ} 0 1 = cc in absurd (omega arith)
+is-element (q ∷ rs) before after r e = by (isElement q) refl before e (λ more. is-element rs more after r)
   where
-    by : (w : Bool) → isElement q ≡ w → List·Memᴰ r (cond w (q ∷ elements rs) [])
-        → (List·Memᴰ r (elements rs) → List·Memᴰ r rs × (isElement r ≡ true)) → List·Memᴰ r (q ∷ rs) × (isElement r ≡ true)
-    by true p (List·Memᴰ·head e) on = (List·Memᴰ·head e, ap (λ (x : Row). isElement x) e ∙ p)
-    by true p (List·Memᴰ·tail d) on = let x = on d in (List·Memᴰ·tail (x .0), x .1)
-    by false p d on = absurd (List·Memᴰ·not-nil d)
+    by : (w : Bool) → isElement q ≡ w → (before : List Row) → cond w (q ∷ elements rs) [] ≡ before ++ r ∷ after
+        → ((more : List Row) → elements rs ≡ more ++ r ∷ after → isElement r ≡ true) → isElement r ≡ true
+    by true p [] e on = let z : q ≡ r = cc in ap (λ (x : Row). isElement x) (sym z) ∙ p
+    by true p (b ∷ before) e on = on before (cc)
+    by false p [] e on = let z : _≡_ {A = ℕ} 0 1 = cc in absurd (omega arith)
+    by false p (b ∷ before) e on = let z : _≡_ {A = ℕ} 0 1 = cc in absurd (omega arith)
 
 -- ---- elements one after the other
 
-module _ (l : Lent) where
+module _ (l : Lent) (verb : Bool) (i : ℕ) where
   abbrev Fair : Run → Type 0
   Fair (done cs n) = Unit {0}
-  Fair (stop f) = FieldFault l f
-
-  onward-fair : (x : Run) (g : ℕ → Run) → Fair x → ((n : ℕ) → Fair (g n)) → Fair (onward x g)
-  onward-fair (done cs n) g h k = by (g n) (k n)
-    where
-      by : (y : Run) → Fair y → Fair (behind cs y)
-      by (done ds m) z = tt
-      by (stop f) z = z
-  onward-fair (stop f) g h k = h
+  Fair (stop f) = FieldFault l verb i f
 
   flattened-fair : (x : Run) → Fair x → Fair (flattened x)
   flattened-fair (done cs n) h = tt
   flattened-fair (stop f) h = h
 
-  cond-fair : (w : Bool) (x y : Run) → Fair x → Fair y → Fair (cond w x y)
-  cond-fair true x y h k = h
-  cond-fair false x y h k = k
+  behind-fair : (cs : List Chunk) (x : Run) → Fair x → Fair (behind cs x)
+  behind-fair cs (done ds n) h = tt
+  behind-fair cs (stop f) h = h
 
-  walk-fair : (one : Row → ℕ → Run) (rs : List Row) (n : ℕ) → ((r : Row) (m : ℕ) → List·Memᴰ r rs → Fair (one r m)) → Fair (walk one rs n)
-  unfolding walk
-  walk-fair one [] n h = tt
-  walk-fair one (r ∷ rs) n h =
-      onward-fair (one r n) (walk one rs) (h r n (List·Memᴰ·head refl)) (λ m. walk-fair one rs m (λ q k d. h q k (List·Memᴰ·tail d)))
+  module _ (one : Row → ℕ → Run) (rs : List Row) (k : ℕ) (h : (r : Row) (n : ℕ) → Reached one rs k r n → Fair (one r n)) where
+    -- the elements behind those that come to n names
+    walk-fair : (after before : List Row) (cs : List Chunk) (n : ℕ) → rs ≡ before ++ after → walk one before k ≡ done cs n → Fair (walk one after n)
+    unfolding walk
+    walk-fair [] before cs n e w = tt
+    walk-fair (r ∷ after) before cs n e w =
+        by (one r n) refl (h r n (record { before = before; after = after; chunks = cs; row = e; so-far = w })) (walk-fair after (before ++ r ∷ []))
+      where
+        next : (ds : List Chunk) (m : ℕ) → one r n ≡ done ds m → walk one (before ++ r ∷ []) k ≡ done (cs ++ (ds ++ [])) m
+        next ds m x = walk-on one before (r ∷ []) k n cs w ∙ ap (λ (y : Run). behind cs (onward y (walk one []))) x
 
-  module _ (verb : Bool) where
-    -- what a name's row comes to
-    abbrev Each : (Row → ℕ → Run) → Type 0
-    Each one = (r : Row) (n : ℕ) → List·Memᴰ r (l .rows) → isKind Name (r .kind) ≡ true → Fair (one r n)
+        by : (x : Run) → one r n ≡ x → Fair x
+            → ((ds : List Chunk) (m : ℕ) → rs ≡ (before ++ r ∷ []) ++ after → walk one (before ++ r ∷ []) k ≡ done ds m → Fair (walk one after m))
+            → Fair (onward x (walk one after))
+        by (done ds m) x g on =
+            behind-fair ds (walk one after m) (on (cs ++ (ds ++ [])) m (e ∙ sym (append-assoc before (r ∷ []) after)) (next ds m x))
+        by (stop f) x g on = g
 
-    element-fair : (one : Row → ℕ → Run) → Each one → (r : Row) (n : ℕ) → List·Memᴰ r (l .rows) → isElement r ≡ true
-        → Fair (element l verb one r n)
-    element-fair one h r n d p =
+  -- what a name comes to that is met
+  abbrev Each : List ℕ → Type 0
+  Each path = (r : Row) (n : ℕ) → Met l verb i path r n → isKind Name (r .kind) ≡ true → Fair (name l verb (left path) path r n)
+
+  module _ (path : List ℕ) (h : Each path) where
+    element-fair : (r : Row) (n : ℕ) → Met l verb i path r n → isElement r ≡ true → Fair (each l verb path r n)
+    element-fair r n t p =
         by (isKind Literal (r .kind)) refl (resolveLiteral verb (spelt l r) (r .start)) (literal-refusals .literal verb (spelt l r) (r .start))
       where
         other : (a b : Bool) → a ≡ false → (a || b) ≡ true → b ≡ true
@@ -87,51 +92,63 @@ module _ (l : Lent) where
         other true b q t = let z : _≡_ {A = ℕ} 0 1 = cc in absurd (omega arith)
 
         by : (w : Bool) → isKind Literal (r .kind) ≡ w → (x : Resolved)
-            → ((f : Fault) → x ≡ literal.refused f → LiteralFault (spelt l r) (r .start) f) → Fair (cond w (ofLiteral x n) (one r n))
+            → ((f : Fault) → x ≡ literal.refused f → LiteralFault (spelt l r) (r .start) f)
+            → Fair (cond w (ofLiteral x n) (name l verb (left path) path r n))
         by true e (chunks cs) k = tt
-        by true e (literal.refused f) k = met r f d e (k f refl)
-        by false e x k = h r n d (other (isKind Literal (r .kind)) (isKind Name (r .kind)) e p)
+        by true e (literal.refused f) k = met path r n f t e (k f refl)
+        by false e x k = h r n t (other (isKind Literal (r .kind)) (isKind Name (r .kind)) e p)
 
-    parse-fair : (one : Row → ℕ → Run) → Each one → (k n : ℕ) → Fair (parseField (element l verb one) (elements (drop k (l .rows))) n)
-    parse-fair one h k n =
-        let rs = elements (drop k (l .rows)) in
-        flattened-fair (walk (element l verb one) rs n)
-        (walk-fair (element l verb one) rs n
-        (λ r m d. let x = element-in (drop k (l .rows)) r d in element-fair one h r m (drop-in k (l .rows) r (x .0)) (x .1)))
+    parse-fair : (rs : List Row) (k : ℕ) → ((r : Row) (n : ℕ) → Reached (each l verb path) (elements rs) k r n → Met l verb i path r n)
+        → Fair (parseField (each l verb path) (elements rs) k)
+    unfolding walk
+    parse-fair rs k meets =
+        flattened-fair (walk (each l verb path) (elements rs) k)
+        (walk-fair (each l verb path) (elements rs) k
+        (λ r n x. element-fair r n (meets r n x) (is-element rs (x .before) (x .after) r (x .row))) (elements rs) [] [] k refl refl)
 
-    -- ---- names
+  -- ---- names
 
-    module _ (r : Row) (d : List·Memᴰ r (l .rows)) (p : isKind Name (r .kind) ≡ true) where
-      known-fair : (path : List ℕ) (m : Meaning) (go : Run) → Fair go → Fair (known path r m go)
-      known-fair path (definition i) go h = cond-fair (onPath i path) _ go (used r Cyclic d p (omega arith) (omega arith)) h
-      known-fair path (month t) go h = h
-      known-fair path unknown go h = used r UnknownAbbreviation d p (omega arith) (omega arith)
+  -- where the names of the definition that is opened are fair
+  name-step : (path : List ℕ) (r : Row) (n : ℕ) → Met l verb i path r n → isKind Name (r .kind) ≡ true
+      → ((j : ℕ) → useOf l path r n ≡ allowed.Yes → Each (path ++ j ∷ [])) → Fair (name l verb (left path) path r n)
+  name-step path r n t h on = subst Fair (sym (name-uses .goes l verb path r n)) (by (useOf l path r n) refl (meaningOf l r) refl)
+    where
+      by : (a : Allowed) → useOf l path r n ≡ a → (m : Meaning) → meaningOf l r ≡ m
+          → Fair (orRefused a r (opened r n m (λ j. parseField (each l verb (path ++ j ∷ [])) (elementsOf l j) (suc n))))
+      by (allowed.No reason) u m q =
+          used path r n reason t h (name-uses .exactly l path r n reason (name-uses .counting l verb i path r n t) .0 u)
+      by allowed.Yes u (definition j) q =
+          parse-fair (path ++ j ∷ []) (on j u) (drop (j + 2) (l .rows)) (suc n) (λ p m x. in-definition t h u j q x)
+      by allowed.Yes u (month x) q = tt
+      by allowed.Yes u unknown q =
+          let y : allowedBy unknown path n ≡ allowed.Yes = ap (λ (m : Meaning). allowedBy m path n) (sym q) ∙ u in
+          let z : _≡_ {A = ℕ} 0 1 = cc in
+          absurd (omega arith)
 
-      opened-fair : (n : ℕ) (m : Meaning) (value : ℕ → Run) → ((i : ℕ) → Fair (value i)) → Fair (opened r n m value)
-      opened-fair n (definition i) value h = h i
-      opened-fair n (month t) value h = tt
-      opened-fair n unknown value h = used r UnknownAbbreviation d p (omega arith) (omega arith)
+  name-fair : (d : ℕ) (path : List ℕ) → left path ≡ d → Each path
+  name-fair zero path e r n t h = name-step path r n t h (λ j u. absurd (omega (arith, use-left l path r n u)))
+  name-fair (suc d) path e r n t h = name-step path r n t h (λ j u. name-fair d (path ++ j ∷ []) (omega (arith, left-down path j)))
 
-    name-fair : (left : ℕ) (path : List ℕ) → Each (name l verb left path)
-    unfolding name
-    name-fair zero path r n d p = known-fair r d p path (meaningOf l r) _ (used r TooDeep d p (omega arith) (omega arith))
-    name-fair (suc left) path r n d p =
-        known-fair r d p path (meaningOf l r) _
-        (cond-fair (ltb n mostNames) _ _
-        (opened-fair r d p n (meaningOf l r) _
-        (λ i. parse-fair (name l verb left (path ++ i ∷ [])) (name-fair left (path ++ i ∷ [])) (i + 2) (suc n)))
-        (used r TooManyNames d p (omega arith) (omega arith)))
+  value-fault : (f : Fault) → fieldOf l verb i ≡ refused f → FieldFault l verb i f
+  value-fault f =
+      by (parseField (each l verb []) (elements (drop (suc i) (l .rows))) 0)
+      (parse-fair [] (name-fair mostOpen [] refl) (drop (suc i) (l .rows)) 0 (λ r n x. in-value x))
+    where
+      by : (x : Run) → Fair x → ofRun x ≡ refused f → FieldFault l verb i f
+      by (done cs n) h e = let z : _≡_ {A = ℕ} 0 1 = cc in absurd (omega arith)
+      by (stop g) h e = let q : g ≡ f = cc in subst (FieldFault l verb i) q h
 
-    value-fault : (i : ℕ) (f : Fault) → fieldOf l verb i ≡ refused f → FieldFault l f
-    value-fault i f = by (parseField _ _ 0) (parse-fair (name l verb mostOpen []) (name-fair mostOpen []) (suc i) 0)
-      where
-        by : (x : Run) → Fair x → ofRun x ≡ refused f → FieldFault l f
-        by (done cs n) h e = let z : _≡_ {A = ℕ} 0 1 = cc in absurd (omega arith)
-        by (stop g) h e = let q : g ≡ f = cc in subst (FieldFault l) q h
+-- ---- their numbers
 
-field-number : (l : Lent) (f : Fault) → FieldFault l f → numberOf (f .reason) ≤ 15
-field-number l f (used r reason d p h k) = k
-field-number l f (met r g d p m) = omega (arith, literal-refusals .own (spelt l r) (r .start) g m)
+use-number : {l : Lent} {path : List ℕ} {r : Row} {n : ℕ} {reason : Reason} → UseFault l path r n reason → numberOf reason ≤ 15
+use-number (not-known x) = omega arith
+use-number (cyclic k b) = omega arith
+use-number (too-deep k x s) = omega arith
+use-number (too-many k x s m) = omega arith
+
+field-number : (l : Lent) (verb : Bool) (i : ℕ) (f : Fault) → FieldFault l verb i f → numberOf (f .reason) ≤ 15
+field-number l verb i f (used path r n reason t h u) = use-number u
+field-number l verb i f (met path r n g t h m) = omega (arith, literal-refusals .own (spelt l r) (r .start) g m)
 
 pub refusals : Refusals
 refusals = record { value = value-fault; own = field-number }

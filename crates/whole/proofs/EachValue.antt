@@ -98,17 +98,25 @@ count-is file rows flags months words w vs e =
     let a = asked-of file rows flags months words w vs e in
     sym (ap length (a .values-are)) ∙ all-length (lentOf file rows months words) flags ∙ sym (rows-length 0 (rowsOf rows))
 
+value-below : (file rows flags months words : List ℕ) (w : ℕ) (vs : List Value) → allOf file rows flags months words w ≡ all vs
+    → (k : ℕ) → k < length vs → k < values (rowsOf rows)
+value-below file rows flags months words w vs e k h =
+    omega (arith, all-length (lentOf file rows months words) flags, ap length (asked-of file rows flags months words w vs e .values-are))
+
+-- value k is what its row resolves to
+pub field-is : (file rows flags months words : List ℕ) (w : ℕ) (vs : List Value) → allOf file rows flags months words w ≡ all vs
+    → (k : ℕ) → k < length vs → valueNo vs k ≡ fieldOf (lentOf file rows months words) (flag (drop k flags)) (getD (valueRows rows) k 0)
+field-is file rows flags months words w vs e k h =
+    sym (ap (λ (us : List Value). valueNo us k) (asked-of file rows flags months words w vs e .values-are))
+    ∙ result-at (lentOf file rows months words) 0 flags (rowsOf rows) k (value-below file rows flags months words w vs e k h)
+
 each-is : (file rows flags months words : List ℕ) (w : ℕ) (vs : List Value) → allOf file rows flags months words w ≡ all vs
     → (k : ℕ) → k < length vs → valueNo vs k ≡ valueAt file rows (getD (valueRows rows) k 0) (flag (drop k flags)) months words w
 each-is file rows flags months words w vs e k h =
     let a = asked-of file rows flags months words w vs e in
-    let l = lentOf file rows months words in
-    let n = all-length l flags in
-    let below : k < values (rowsOf rows) = omega (arith, n, ap length (a .values-are)) in
-    sym (ap (λ (us : List Value). valueNo us k) (a .values-are))
-    ∙ result-at l 0 flags (rowsOf rows) k below
+    field-is file rows flags months words w vs e k h
     ∙ value-is file rows months words (getD (valueRows rows) k 0) (flag (drop k flags)) w (a .passed) (a .lent) (a .room)
-    (row-at (rowsOf rows) (rowsOf rows) 0 k refl below)
+    (row-at (rowsOf rows) (rowsOf rows) 0 k refl (value-below file rows flags months words w vs e k h))
 
 pub each-value : EachValue
 each-value = record { count = count-is; value = each-is }

@@ -1,33 +1,31 @@
 -- Which refusals `resolve_file` can answer for itself and for each value, and their places: `refusals`.
 -- Assumes nothing.
-use Prim.Native.Nat.{ℕ, suc, _<_}
+use Prim.Native.Nat.{ℕ, _<_}
 use native.Mathlib.Omega.{arith}
 use mathlib.Core.Path.{_≡_, refl, sym, ap, subst, _∙_}
 use mathlib.Core.Logic.{_↔_, inl, inr}
 use mathlib.Core.Bool.{Bool, true, false, cond}
-use mathlib.Core.List.{List, [], _∷_, List·Memᴰ, List·Memᴰ·head, List·Memᴰ·tail, List·Memᴰ·not-nil}
-use lib.ListN.{length, drop}
+use mathlib.Core.List.{List}
+use lib.ListN.{length, getD, drop}
 use lib.Dec.{leb}
 use borrow.Author.Tests.{leb-false, lt-leb}
 use Rattle.row.specs.declared.fault.Fault.{Fault}
 use Rattle.row.specs.declared.fault.Reason.the-variants.{NoRoom, BadRows}
 use Rattle.row.specs.Fault.{numberOf, nowhere}
-use Rattle.row.specs.Row.{Row}
 use Rattle.row.specs.Limits.{leastScratch}
 use Rattle.chunk.specs.declared.answer.Checked.{Checked}
 use Rattle.chunk.specs.declared.answer.Checked.the-variants as checked
-use Rattle.resolve.specs.Resolves.{Value, refused, checkedFile}
-use Rattle.resolve.specs.Checks.{Lent, lentOf}
+use Rattle.resolve.specs.Resolves.{Value, checkedFile}
+use Rattle.resolve.specs.Checks.{lentOf}
 use Rattle.resolve.specs.Refusals.{CallFault, first, not-right, full, FullCall}
 use Rattle.resolve.proofs.Refusals.{refusals as call-refusals}
-use Rattle.values.specs.Field.{fieldOf}
-use Rattle.values.specs.Refusals.{FieldFault}
 use Rattle.values.proofs.Refusals.{refusals as value-refusals}
 use Rattle.whole.specs.declared.file.Filed.{Filed}
 use Rattle.whole.specs.declared.file.Filed.the-variants as filed
-use Rattle.whole.specs.WholeFile.{isValueRow, flag, resultsFrom, results, fitsAll, all, none, tellAll, areFiled, afterAll}
+use Rattle.whole.specs.WholeFile.{flag, results, fitsAll, all, none, tellAll, areFiled, afterAll}
+use Rattle.whole.specs.EachValue.{valueRows}
 use Rattle.whole.specs.Refusals.{Refusals}
-use Rattle.whole.proofs.ways.FileWays.{asked-of}
+use Rattle.whole.proofs.EachValue.{field-is}
 
 -- ---- the call itself, which comes to the values vs where all is right
 
@@ -83,20 +81,6 @@ module _ (file : List ℕ) (good : Bool) (w : ℕ) (vs : List Value) (q b t : Li
       → (r ≡ filed.Refused (nowhere NoRoom)) ↔ FullCall file good w (fitsAll vs q b t ≡ false)
   call-full r e = (λ z. is-full (sym e ∙ z), λ h. e ∙ then-full h)
 
--- ---- the values
-
-result-fault : (l : Lent) (i : ℕ) (fs : List ℕ) (rs : List Row) (f : Fault) → List·Memᴰ (refused f) (resultsFrom l i fs rs) → FieldFault l f
-unfolding resultsFrom
-result-fault l i fs [] f d = absurd (List·Memᴰ·not-nil d)
-result-fault l i fs (r ∷ rs) f d = by (isValueRow r) (result-fault l (suc i) (drop 1 fs) rs f) (result-fault l (suc i) fs rs f) d
-  where
-    by : (x : Bool) → (List·Memᴰ (refused f) (resultsFrom l (suc i) (drop 1 fs) rs) → FieldFault l f)
-        → (List·Memᴰ (refused f) (resultsFrom l (suc i) fs rs) → FieldFault l f)
-        → List·Memᴰ (refused f) (cond x (fieldOf l (flag fs) i ∷ resultsFrom l (suc i) (drop 1 fs) rs) (resultsFrom l (suc i) fs rs)) → FieldFault l f
-    by true g h (List·Memᴰ·head e) = value-refusals .value l (flag fs) i f (sym e)
-    by true g h (List·Memᴰ·tail d) = g d
-    by false g h d = h d
-
 pub refusals : Refusals
 refusals =
     record {
@@ -106,7 +90,7 @@ refusals =
       file-full = λ file rows flags months words w h x q b t w′ h′ x′ q′ b′ t′ y r.
           call-full file (areFiled file rows flags months words) (length w) (results (lentOf file rows months words) flags) q b t y
           (r .writes .answer);
-      values = λ file rows flags months words w vs e f d.
-          let l = lentOf file rows months words in
-          result-fault l 0 flags (l .rows) f (subst (List·Memᴰ (refused f)) (sym (asked-of file rows flags months words w vs e .values-are)) d);
+      values = λ file rows flags months words w vs e k h f r.
+          value-refusals .value (lentOf file rows months words) (flag (drop k flags)) (getD (valueRows rows) k 0) f
+          (sym (field-is file rows flags months words w vs e k h) ∙ r);
     }

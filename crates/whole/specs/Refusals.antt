@@ -1,12 +1,12 @@
 -- Which refusals the call `resolve_file` can answer for itself and for each value [01:Numbers a caller can get], and their places. The proof is
 -- `refusals` of proofs/Refusals.antt.
 -- Assumes nothing.
-use Prim.Native.Nat.{ℕ}
+use Prim.Native.Nat.{ℕ, _<_}
 use mathlib.Core.Path.{_≡_}
 use mathlib.Core.Logic.{_↔_}
 use mathlib.Core.Bool.{false}
-use mathlib.Core.List.{List, List·Memᴰ}
-use lib.ListN.{length}
+use mathlib.Core.List.{List}
+use lib.ListN.{length, getD, drop}
 use Rattle.row.specs.declared.fault.Fault.{Fault}
 use Rattle.row.specs.declared.fault.Reason.the-variants.{NoRoom}
 use Rattle.row.specs.Fault.{nowhere}
@@ -16,7 +16,8 @@ use Rattle.resolve.specs.Refusals.{CallFault, FullCall}
 use Rattle.values.specs.Refusals.{FieldFault}
 use Rattle.whole.specs.declared.file.Filed.{Filed}
 use Rattle.whole.specs.declared.file.Filed.the-variants as filed
-use Rattle.whole.specs.WholeFile.{results, fitsAll, all, areFiled, allOf, ResolvesFile}
+use Rattle.whole.specs.WholeFile.{flag, results, fitsAll, all, areFiled, allOf, ResolvesFile}
+use Rattle.whole.specs.EachValue.{valueRows, valueNo}
 
 pub record Refusals : Type 0 where
   -- the call itself answers 1, 2, 17 and 16 alone: what its work meets is the answer of a value
@@ -28,6 +29,7 @@ pub record Refusals : Type 0 where
       → ResolvesFile (allOf file rows flags months words (length w)) w h x q b t r w′ h′ x′ q′ b′ t′
       → (r ≡ filed.Refused (nowhere NoRoom))
       ↔ FullCall file (areFiled file rows flags months words) (length w) (fitsAll (results (lentOf file rows months words) flags) q b t ≡ false)
-  -- a value that is refused is so as a value can be
+  -- value k, if it is refused, is so as the value of its row can be
   pub values : (file rows flags months words : List ℕ) (w : ℕ) (vs : List Value) → allOf file rows flags months words w ≡ all vs
-      → (f : Fault) → List·Memᴰ (refused f) vs → FieldFault (lentOf file rows months words) f
+      → (k : ℕ) → k < length vs → (f : Fault) → valueNo vs k ≡ refused f
+      → FieldFault (lentOf file rows months words) (flag (drop k flags)) (getD (valueRows rows) k 0) f

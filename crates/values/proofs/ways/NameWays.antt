@@ -1,8 +1,9 @@
 -- The ways through `name` of src/elements.rt.
+--     name-by                            a name goes by whether its use is allowed
 --     name-refused                       the use is not allowed
 --     name-definition, name-month        the use is allowed, and the name has a definition, or is a month word
 --     name-known                         a name whose use is allowed means something
---     some-left                          a name whose use is allowed is within both limits
+--     some-limits, some-left             a name whose use is allowed is within both limits
 --     path-more, ready-value-down        what `value` requires of `name`
 -- Assumes nothing.
 use Prim.Native.Nat.{ℕ, zero, suc, _+_, _-_, _*_, _≤_}
@@ -37,6 +38,7 @@ use Rattle.values.specs.declared.elements.Allowed.the-variants as allowe
 use Rattle.values.specs.Field.{Meaning, definition, month, unknown, meaningOf, onPath}
 use Rattle.values.specs.Field.{known, opened, atUse, element, elements, parseField, flattened, name}
 use Rattle.values.specs.Uses.{Means, limits, allowedOf, valueFrom, ReadyValue}
+use Rattle.values.specs.NameUses.{orRefused}
 use Rattle.values.proofs.ways.RunWays.{says-flat, says-from}
 use Rattle.values.proofs.ways.ElementWays.{inside}
 
@@ -57,11 +59,6 @@ month-ends words m x a e h q = let y = means-month words m a e (subst (Means wor
 
 -- ---- whether it may be opened
 
--- a use that is allowed goes on, and one that is not is refused
-abbrev orRefused : Allowed → Row → Run → Run
-orRefused allowed.Yes r go = go
-orRefused (allowed.No reason) r go = atUse reason r
-
 module _ (l : Lent) (verb : Bool) (path : List ℕ) (r : Row) (n : ℕ) where
   -- what a name comes to that is neither unknown nor cyclic, with `left` names left to open
   abbrev limited : ℕ → Meaning → Run
@@ -72,7 +69,7 @@ module _ (l : Lent) (verb : Bool) (path : List ℕ) (r : Row) (n : ℕ) where
   limited-many m go true = refl
   limited-many m go false = refl
 
-  name-by : (left : ℕ) → name l verb left path r n ≡ known path r (meaningOf l r) (limited left (meaningOf l r))
+  pub name-by : (left : ℕ) → name l verb left path r n ≡ known path r (meaningOf l r) (limited left (meaningOf l r))
   unfolding name
   name-by zero = refl
   name-by (suc left) =
@@ -98,7 +95,7 @@ module _ (l : Lent) (verb : Bool) (path : List ℕ) (r : Row) (n : ℕ) where
   used words left unknown (meaning.Month a e) h = absurd h
   used words left unknown meaning.Unknown h = refl
 
-some-limits : (left n : ℕ) → limits left n ≡ allowed.Yes → (1 ≤ left) × (n + 1 ≤ mostNames)
+pub some-limits : (left n : ℕ) → limits left n ≡ allowed.Yes → (1 ≤ left) × (n + 1 ≤ mostNames)
 some-limits zero n h = let z : _≡_ {A = ℕ} 0 1 = cc in absurd (omega arith)
 some-limits (suc left) n h = by (ltb n mostNames) refl h
   where
