@@ -1,4 +1,4 @@
--- The cases of specs/FieldCases.antt compute: `field-cases`, `deep`.
+-- The cases of specs/FieldCases.antt compute: `field-cases`, `deep`, `many-names`.
 -- Assumes nothing.
 use mathlib.Core.Path.{refl}
 use Rattle.text.specs.Walk.{walkFrom}
@@ -19,7 +19,7 @@ use Rattle.literal.specs.Literal.{resolveLiteral}
 use Rattle.resolve.specs.Resolves.{checkedFile}
 use Rattle.values.specs.Field.{elements, walk, monthOf, onPath, name}
 use Rattle.resolve.specs.Checks.{isValue, areMonths, areLent}
-use Rattle.cases.specs.FieldCases.{table, FieldCases, chain, Deep}
+use Rattle.cases.specs.FieldCases.{table, FieldCases, chain, doubling, Deep, Many}
 
 pub field-cases : FieldCases
 unfolding walkFrom alternatives begins widthBy gather value octets lookValid validityOf isBoundary whiteSpace control isWhitespace isControl
@@ -33,4 +33,11 @@ unfolding walkFrom alternatives begins widthBy gather value octets lookValid val
     isIdContinue holdsOf scan.code scan.rest seeFrom lookPast skip flat next run isRows rowsOf areRows loop many flattenFrom utf8 sameBytes isNamed
     later lastNamed steps endTurn braced closing contentTurn contentBy inside resolveLiteral checkedFile elements walk monthOf onPath name every
     isValue areMonths areLent chain
-deep = record { thirty-two = refl; thirty-three = refl; unknown = refl }
+deep = record { thirty-two = refl; thirty-three = refl; unknown = refl; cyclic = refl; month-32 = refl; month-33 = refl }
+
+pub many-names : Many
+unfolding walkFrom alternatives begins widthBy gather value octets lookValid validityOf isBoundary whiteSpace control isWhitespace isControl
+    isIdContinue holdsOf scan.code scan.rest seeFrom lookPast skip flat next run isRows rowsOf areRows loop many flattenFrom utf8 sameBytes isNamed
+    later lastNamed steps endTurn braced closing contentTurn contentBy inside resolveLiteral checkedFile elements walk monthOf onPath name every
+    isValue areMonths areLent chain doubling
+many-names = record { the-4096th = refl; the-4097th = refl; month-4097 = refl; deep-first = refl }

@@ -1,12 +1,12 @@
 -- Fields resolved with their names and month words [01:Resolving and writing], with the rows of a file as reading gives them.
 --     table, FieldCases     the cases, and that they compute. The proof is `field-cases` of proofs/FieldCases.antt
---     Deep                  names at the limit of 32
+--     Deep, Many            names at the limits of 32 and 4,096
 -- Assumes nothing.
 use Prim.Native.Nat.{ℕ, zero, suc}
 use Prim.Native.String.{String}
 use mathlib.Core.Path.{_≡_}
 use mathlib.Core.Bool.{false}
-use mathlib.Core.List.{List, [], _∷_, map}
+use mathlib.Core.List.{List, [], _∷_, _++_, map}
 use Rattle.row.specs.declared.form.Kind.{Kind}
 use Rattle.row.specs.declared.form.Kind.the-variants.{Entry, EntryType, Key, FieldName, Value, Literal, Name, DefinitionName}
 use Rattle.row.specs.Row.{Row, row, flat}
@@ -127,22 +127,59 @@ comesTo c = outcomeOf (valueAt (utf8 (c .file)) (flat (c .rows)) (c .which) fals
 abbrev pub FieldCases : Type 0
 FieldCases = map comesTo table ≡ map (λ c. c .outcome) table
 
--- ---- names at the limit: n definitions from place k on, each of one letter, whose value is the name of the next letter; and behind them one
--- whose value is `last`
+-- ---- names at the limits. A name is one letter, and row 1 is the value that is resolved
 
 abbrev pub letters : String
-letters = "abcdefghijklmnopqrstuvwxyzABCDEFGH"
+letters = "abcdefghijklmnopqrstuvwxyzABCDEFGHIJKLMNOPQRSTUVWXYZ"
 
-unfoldable pub chain : ℕ → ℕ → (ℕ → Row) → List Row
-chain zero k last = DefinitionName from k to suc k ∷ Value from k to suc k ∷ last k ∷ []
-chain (suc n) k last = DefinitionName from k to suc k ∷ Value from k to suc k ∷ Name from suc k to suc (suc k) ∷ chain n (suc k) last
+-- the month word "Z", and its text
+abbrev pub monthZ : Words
+monthZ = record { numbers = 0 ∷ 1 ∷ 1 ∷ 2 ∷ []; bytes = "Zm" }
 
--- what the first definition's value comes to; the last one's value is a literal, or a name that is not defined
-abbrev pub ofChain : ℕ → (ℕ → Row) → Expected
-ofChain n last = outcomeOf (valueAt (utf8 letters) (flat (chain n 0 last)) 1 false [] [] 32768)
+abbrev pub ofValue : List Row → Words → Expected
+ofValue rs ws = outcomeOf (valueAt (utf8 letters) (flat rs) 1 false (ws .numbers) (utf8 (ws .bytes)) 32768)
 
--- "names 32 deep", and "At one use: 12, 13, 14, 15": an unknown name is refused with 12 at any depth
+-- a definition of the letter at place k, with the elements rs in front; and a use of that letter
+abbrev pub define : ℕ → List Row → List Row
+define k rs = DefinitionName from k to suc k ∷ Value from k to suc k ∷ rs
+
+abbrev pub used : ℕ → Row
+used k = Name from k to suc k
+
+-- n definitions from place k on, whose value is the name of the next letter; and behind them one whose value is `last`
+unfoldable pub chain : ℕ → ℕ → Row → List Row
+chain zero k last = define k (last ∷ [])
+chain (suc n) k last = define k (used (suc k) ∷ chain n (suc k) last)
+
+-- the same with the name of the next letter twice, and behind them one whose value is an empty literal. So the last letter comes to one name, its
+-- own, the one before it to 3, then 7, 15 and so on
+unfoldable pub doubling : ℕ → ℕ → List Row
+doubling zero k = define k (Literal from k to k ∷ [])
+doubling (suc n) k = define k (used (suc k) ∷ used (suc k) ∷ doubling n (suc k))
+
+-- "names 32 deep": "the 33rd name open at once" is refused, "month words included". "At one use: 12, 13, 14, 15": an unknown name is refused with
+-- 12 at any depth, and one that is being resolved with 13
 pub record Deep : Type 0 where
-  pub thirty-two : ofChain 32 (λ k. Literal from k to suc k) ≡ chunks (Normal of "G" from 32 to 33 ∷ []) 32
-  pub thirty-three : ofChain 33 (λ k. Literal from k to suc k) ≡ refused 14 33 34
-  pub unknown : ofChain 32 (λ k. Name from suc k to suc (suc k)) ≡ refused 12 33 34
+  pub thirty-two : ofValue (chain 32 0 (Literal from 32 to 33)) none ≡ chunks (Normal of "G" from 32 to 33 ∷ []) 32
+  pub thirty-three : ofValue (chain 33 0 (Literal from 33 to 34)) none ≡ refused 14 33 34
+  pub unknown : ofValue (chain 32 0 (used 33)) none ≡ refused 12 33 34
+  pub cyclic : ofValue (chain 32 0 (used 1)) none ≡ refused 13 1 2
+  pub month-32 : ofValue (chain 31 0 (used 51)) monthZ ≡ chunks (Normal of "m" from 51 to 52 ∷ []) 32
+  pub month-33 : ofValue (chain 32 0 (used 51)) monthZ ≡ refused 14 51 52
+
+-- "a field resolves at most 4,096 names": "a field's 4,097th name" is refused, "month words included". The letter at place 0 comes to 4,095 names,
+-- and the one at place 11 to one
+abbrev pub ofMany : List Row → Words → Expected
+ofMany rs ws = ofValue (define 50 (used 0 ∷ rs ++ doubling 11 0)) ws
+
+-- 2,047, 1,023, 511, 255, 127, 63, 31 and 7 names are 4,064, and 32 more are each used in the one before: the next use is both that of the 33rd
+-- name open and of the 4,097th
+abbrev pub deepAndMany : Expected
+deepAndMany =
+    ofValue (define 50 (used 0 ∷ used 1 ∷ used 2 ∷ used 3 ∷ used 4 ∷ used 5 ∷ used 6 ∷ used 8 ∷ used 11 ∷ doubling 10 0 ++ chain 31 11 (used 10))) none
+
+pub record Many : Type 0 where
+  pub the-4096th : ofMany (used 11 ∷ []) none ≡ chunks (Normal of "" from 11 to 11 ∷ []) 4096
+  pub the-4097th : ofMany (used 11 ∷ used 11 ∷ []) none ≡ refused 15 11 12
+  pub month-4097 : ofMany (used 51 ∷ used 51 ∷ []) monthZ ≡ refused 15 51 52
+  pub deep-first : deepAndMany ≡ refused 14 10 11
