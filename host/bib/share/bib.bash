@@ -21,6 +21,8 @@ _bib() {
         case ${COMP_WORDS[1]}:$word in
         check:-*) mapfile -t COMPREPLY < <(compgen -W '--allow --deny --strict --all --no-resolve --list --json --quiet --color --help' -- "$word") ;;
         resolve:-*) mapfile -t COMPREPLY < <(compgen -W '--verbatim --months --help' -- "$word") ;;
+        write:-*) mapfile -t COMPREPLY < <(compgen -W '--keep --strict --help' -- "$word") ;;
+        show:-*) mapfile -t COMPREPLY < <(compgen -W '--strict --help' -- "$word") ;;
         show:*)
             if [ "$COMP_CWORD" -eq 2 ]; then
                 mapfile -t COMPREPLY < <(compgen -f -- "$word")

@@ -52,7 +52,13 @@ _bib() {
             '--help[what can be asked]' \
             ':file:_files'
     elif [[ $words[1] == show ]]; then
-        _arguments '--help[what can be asked]' ':file:_files' '*:key:_bib_keys'
+        _arguments '--strict[exit status 1 for warnings too]' '--help[what can be asked]' ':file:_files' '*:key:_bib_keys'
+    elif [[ $words[1] == write ]]; then
+        _arguments \
+            '--strict[exit status 1 for warnings too]' \
+            '--keep[writes a field that cannot be resolved as it stands]' \
+            '--help[what can be asked]' \
+            ':file:_files'
     else
         _arguments '--help[what can be asked]' ':file:_files'
     fi

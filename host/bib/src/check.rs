@@ -11,7 +11,7 @@
 //!     seen.push((lines.place(finding.mark), finding.message.clone()));
 //!     Ok::<(), ()>(())
 //! });
-//! assert_eq!(counts.unwrap().entries, 1);
+//! assert_eq!(counts.unwrap().warned, 1);
 //! let message = "the entry has the field `year` already, at 1:10".to_string();
 //! assert_eq!(seen, [("1:23".to_string(), message)]);
 //! ```
@@ -23,6 +23,7 @@ mod entries;
 mod errors;
 mod explain;
 mod finding;
+mod heads;
 mod hints;
 mod items;
 mod lines;
@@ -34,27 +35,77 @@ mod values;
 
 pub use errors::{AboutError, ERRORS};
 pub use explain::Explainer;
-pub use finding::{About, Code, Finding, Level, Lint, LINTS};
+pub use finding::{About, Code, Finding, Level, Lint, Lints, LINTS};
 pub use items::{Item, Items, What};
 pub use lines::{Line, Lines};
+pub use text::key_name;
 pub use unresolved::Unresolved;
 
 use std::cell::OnceCell;
 use std::collections::TryReserveError;
+use std::ops::Range;
 
+use crate::memory::push;
 use crate::{Kind, Reason, Refusal, ResolvedFile, Rows};
 use encoding::{Encoding, Format};
 use entries::Repeats;
 use text::field_in_value;
 use values::Values;
 
-/// What a file has.
+/// How an entry stands that was read.
+#[derive(Debug, Clone, Copy, PartialEq, Eq, PartialOrd, Ord)]
+pub enum Standing {
+    Sound,
+    /// Warnings are about it, or about a field that was lost behind it.
+    Warned,
+    /// It has a field that cannot be resolved.
+    Unresolved,
+}
+
+/// How many entries a file has: each is one of these.
 #[derive(Debug, Clone, Copy, PartialEq, Eq, Default)]
 pub struct Counts {
-    /// Entries that were read.
-    pub entries: usize,
-    /// Pieces that are damaged.
+    pub sound: usize,
+    pub warned: usize,
+    pub unresolved: usize,
+    /// Those of damaged pieces: none of them was read.
     pub damaged: usize,
+}
+
+impl Counts {
+    /// Adds those of another file.
+    pub fn add(&mut self, other: &Self) {
+        self.sound += other.sound;
+        self.warned += other.warned;
+        self.unresolved += other.unresolved;
+        self.damaged += other.damaged;
+    }
+}
+
+/// What is known of a file that was checked.
+#[derive(Debug, Clone, PartialEq, Eq, Default)]
+pub struct Checked {
+    /// The entries that were read, in file order.
+    pub standings: Vec<Standing>,
+    /// How many entries damaged pieces have.
+    pub damaged: usize,
+}
+
+impl Checked {
+    pub fn counts(&self) -> Counts {
+        let mut counts = Counts {
+            damaged: self.damaged,
+            ..Counts::default()
+        };
+        for standing in &self.standings {
+            match standing {
+                Standing::Sound => counts.sound += 1,
+                Standing::Warned => counts.warned += 1,
+                Standing::Unresolved => counts.unresolved += 1,
+            }
+        }
+        counts
+    }
 }
 
 /// Why a file was not checked to its end.
@@ -84,15 +135,18 @@ pub fn check<E>(
     file: &[u8],
     say: impl FnMut(&Finding, &Lines) -> Result<(), E>,
 ) -> Result<Counts, Stop<E>> {
-    check_reading(file, &Reading::resolved(file), say)
+    let checked = check_reading(file, &Reading::resolved(file), Lints::ALL, say)?;
+    Ok(checked.counts())
 }
 
-/// The same, where the file has been read, and resolved if that is wanted.
+/// The same, where the file has been read, and resolved if that is wanted. Of the lints only these are
+/// said, and count.
 pub fn check_reading<E>(
     file: &[u8],
     reading: &Result<Reading, Refusal>,
+    lints: Lints,
     say: impl FnMut(&Finding, &Lines) -> Result<(), E>,
-) -> Result<Counts, Stop<E>> {
+) -> Result<Checked, Stop<E>> {
     let reading = match reading {
         Ok(reading) => reading,
         Err(refusal) if refusal.reason == Reason::TooLong => {
@@ -111,11 +165,19 @@ pub fn check_reading<E>(
         encoding: Encoding::of(file, rows),
         format: Format::of(file),
         lines: OnceCell::new(),
+        lints,
         has_said: false,
+        is_of_entry: false,
+        last_key: None,
+        standings: Vec::new(),
+        damaged: 0,
         say,
     };
     checker.whole()?;
-    Ok(checker.counts())
+    Ok(Checked {
+        standings: checker.standings,
+        damaged: checker.damaged,
+    })
 }
 
 /// The keys of the entries that were read, each with its place; not empty ones.
@@ -180,7 +242,7 @@ impl Reading {
 fn too_long<E>(
     mut say: impl FnMut(&Finding, &Lines) -> Result<(), E>,
     refusal: Refusal,
-) -> Result<Counts, E> {
+) -> Result<Checked, E> {
     let finding = Finding {
         code: Code::Refusal(refusal.reason),
         start: refusal.start,
@@ -192,7 +254,7 @@ fn too_long<E>(
     };
     let lines = Lines::of(b"").expect("no file has no lines but one");
     say(&finding, &lines)?;
-    Ok(Counts::default())
+    Ok(Checked::default())
 }
 
 /// A file that is being checked.
@@ -208,8 +270,17 @@ pub(crate) struct Checker<'a, S> {
     format: Option<Format>,
     /// Made when the first finding needs them.
     lines: OnceCell<Lines<'a>>,
+    /// The lints that are wanted.
+    lints: Lints,
     /// Something was said already.
     has_said: bool,
+    /// What is said now is about the last entry.
+    is_of_entry: bool,
+    /// Its key, unless that is empty.
+    last_key: Option<Range<usize>>,
+    standings: Vec<Standing>,
+    /// How many entries the damaged pieces have so far.
+    damaged: usize,
     say: S,
 }
 
@@ -222,17 +293,22 @@ impl<'a, E, S: FnMut(&Finding, &Lines) -> Result<(), E>> Checker<'a, S> {
     }
 
     fn say(&mut self, finding: Finding) -> Result<(), Stop<E>> {
+        if let Code::Lint(lint) = finding.code {
+            if !self.lints.has(lint) {
+                return Ok(());
+            }
+            self.stands(Standing::Warned);
+        }
         self.lines()?;
         self.has_said = true;
         let lines = self.lines.get().expect("they were made");
         (self.say)(&finding, lines).map_err(Stop::Caller)
     }
 
-    fn counts(&self) -> Counts {
-        let count = |kind| self.rows.iter().filter(|row| row.kind == kind).count();
-        Counts {
-            entries: count(Kind::Entry),
-            damaged: count(Kind::Damage),
+    /// The last entry stands so at best, if it is the one that is spoken of.
+    fn stands(&mut self, standing: Standing) {
+        if let Some(last) = self.standings.last_mut().filter(|_| self.is_of_entry) {
+            *last = standing.max(*last);
         }
     }
 
@@ -242,6 +318,15 @@ impl<'a, E, S: FnMut(&Finding, &Lines) -> Result<(), E>> Checker<'a, S> {
         let mut before = None;
         for item in Items::of(self.file, self.rows) {
             is_empty &= matches!(item.what, What::Outside | What::Comment);
+            self.is_of_entry = match item.what {
+                What::Entry => true,
+                // A field that is lost here is one of the entry before.
+                What::Outside => before == Some(What::Entry),
+                _ => false,
+            };
+            if item.what == What::Entry {
+                push(&mut self.standings, Standing::Sound)?;
+            }
             if self.is_cut {
                 self.cuts(&item)?;
             }
@@ -253,6 +338,7 @@ impl<'a, E, S: FnMut(&Finding, &Lines) -> Result<(), E>> Checker<'a, S> {
             }
             before = Some(item.what);
         }
+        self.is_of_entry = false;
         if is_empty {
             self.no_entries()?;
         }

@@ -214,7 +214,7 @@ fn hints(file: &str) -> Vec<String> {
 }
 
 /// A hint, a file that it is for, and one like it where it must not appear.
-const HINTS: [(&str, &str, &str); 51] = [
+const HINTS: [(&str, &str, &str); 52] = [
     (
         "the entry has no key: write `@article{KEY,` before its first field",
         "@article{\n  author = {A},\n}",
@@ -450,6 +450,11 @@ const HINTS: [(&str, &str, &str); 51] = [
         "@book{k, a = {\u{1b}[2J}, a = 1}",
     ),
     (
+        "damage reaches to the next \"@\" that begins a line: put no blanks and no other entry before this one",
+        "@book{k, a = 1} @book{l, )}",
+        "@book{k, a = 1}\n@book{l, )}",
+    ),
+    (
         "the value has escape sequences: the file may be ISO-2022-JP",
         "@book{k, a = \"\u{1b}$x\"}",
         "@book{k, a = {$x$}, a = 1}",
@@ -459,7 +464,7 @@ const HINTS: [(&str, &str, &str); 51] = [
 #[test]
 fn hints_where_they_belong() {
     for (hint, file, without) in HINTS {
-        assert_eq!(hints(file), [hint], "{file}");
+        assert_eq!(hints(file)[..1], [hint], "{file}");
         assert!(!hints(without).contains(&hint.to_string()), "{without}");
         assert_ne!(
             findings(without.as_bytes()),
@@ -537,7 +542,7 @@ fn numbers_and_bytes() {
     }
 }
 
-/// One finding for the file, and the others as they are.
+/// The guess is said once, and each entry that is damaged is named.
 #[test]
 fn encodings() {
     let latin = b"@a{k, t = {G\xfcnther}}\n@b{l, t = {M\xfcller}}\n@c{m, t = }";
@@ -549,11 +554,15 @@ fn encodings() {
     assert_eq!(
         messages,
         [
-            "bytes that are not UTF-8, in 2 pieces of the file, of which this is the first",
+            "bytes that are not UTF-8, in entry k, and in one more piece of the file",
+            "bytes that are not UTF-8, in entry l",
             "expected a value, in entry m"
         ]
     );
     assert_eq!(found[0].0, "1:13");
+    let keys = found.iter().map(|(_, finding)| finding.key.as_deref());
+    assert!(keys.eq([Some("k"), Some("l"), Some("m")]));
+    assert_eq!(found[1].1.hint, None);
     let hint = |file: &[u8]| findings(file)[0].1.hint.clone().unwrap_or_default();
     assert!(hint(latin).ends_with("try `iconv -f WINDOWS-1252 -t UTF-8`"));
     let cyrillic = b"@a{k, t = {\xcf\xf0\xe8\xe2\xe5\xf2}}";
@@ -574,8 +583,9 @@ fn encodings() {
 fn counts_and_stops() {
     let counts = check(b"@a{k,}\n@b{x\n@c{l,}", |_, _| Ok::<(), ()>(()));
     let want = Counts {
-        entries: 2,
+        sound: 2,
         damaged: 1,
+        ..Counts::default()
     };
     assert_eq!(counts, Ok(want));
     let stopped = check(b"@a{\n@b{\n", |finding, _| Err(finding.start));

@@ -1,6 +1,6 @@
 //! What resolving refuses in what is sound, as `check` says it.
 
-use bib::check::{check, check_reading, Code, Finding, Reading, ERRORS};
+use bib::check::{check, check_reading, Code, Finding, Lints, Reading, ERRORS};
 use bib::Reason;
 
 /// All errors, each with its line and column.
@@ -253,7 +253,7 @@ fn without_resolving() {
         count += 1;
         Ok::<(), ()>(())
     };
-    check_reading(file, &Reading::of(file), count_all).unwrap();
+    check_reading(file, &Reading::of(file), Lints::ALL, count_all).unwrap();
     assert_eq!(count, 0);
 }
 

@@ -3,11 +3,12 @@
 
 use super::entries::is_odd;
 use super::finding::{Code, Finding};
+use super::heads::{head_at, Heads};
 use super::items::Item;
-use super::text::quoted;
+use super::text::{key_name, quoted};
 use super::trace::{Part, Stage, Trace};
 use super::{Checker, Lines, Stop};
-use crate::Reason;
+use crate::{Reason, Row};
 
 impl<E, S: FnMut(&Finding, &Lines) -> Result<(), E>> Checker<'_, S> {
     pub(crate) fn damage(&mut self, item: &Item) -> Result<(), Stop<E>> {
@@ -15,15 +16,22 @@ impl<E, S: FnMut(&Finding, &Lines) -> Result<(), E>> Checker<'_, S> {
         let (Some(piece), Some(cause)) = (rows.next(), rows.next()) else {
             return Ok(());
         };
-        if self.encoding.explains(cause) {
-            return Ok(());
-        }
+        let at = if self.encoding.explains(cause) {
+            self.not_utf8(piece, cause)?
+        } else {
+            self.refused(piece, cause)?
+        };
+        self.lost_with_it(piece, cause, at)
+    }
+
+    /// Says what is refused in a piece, and answers where the entry begins that it is in.
+    fn refused(&mut self, piece: Row, cause: Row) -> Result<usize, Stop<E>> {
         let trace = Trace::of(self.file, piece.span());
         let story = Story {
             file: self.file,
             trace: &trace,
             lines: self.lines()?,
-            reason: Reason::of(cause.detail).expect("a cause has a refusal's number"),
+            reason: reason_of(cause),
             place: cause.start,
             is_end: cause.start == piece.end,
         };
@@ -32,6 +40,10 @@ impl<E, S: FnMut(&Finding, &Lines) -> Result<(), E>> Checker<'_, S> {
         let found = is_known.then(|| (story.mark(), story.message(), story.hint()));
         let plain = || (cause.start, story.reason.what().to_string(), None);
         let (mark, message, hint) = found.unwrap_or_else(plain);
+        let key = key_of(&trace).or_else(|| {
+            let head = head_at(self.file, trace.at..piece.end)?;
+            head.key.map(|key| &self.file[key])
+        });
         let finding = Finding {
             code: Code::Refusal(story.reason),
             start: cause.start,
@@ -39,14 +51,50 @@ impl<E, S: FnMut(&Finding, &Lines) -> Result<(), E>> Checker<'_, S> {
             mark,
             message,
             hint,
-            key: key_of(&trace).filter(|_| is_known),
+            key: key.filter(|_| is_known).map(key_name),
         };
         let finding = match self.format.take() {
             Some(format) => finding.with_hint(Some(format.hint())),
             None => finding,
         };
-        self.say(finding)
+        self.say(finding)?;
+        Ok(trace.at)
     }
+
+    /// Counts the entries of a damaged piece, and names those that the damage is not in: they are lost as
+    /// well. The one that begins at this place has been named.
+    fn lost_with_it(&mut self, piece: Row, cause: Row, named: usize) -> Result<(), Stop<E>> {
+        let mut hint = Some(OWN_LINE.to_string());
+        for head in Heads::of(self.file, piece.span()) {
+            self.damaged += 1;
+            if head.at == named {
+                continue;
+            }
+            let key = head.key.clone().map(|key| &self.file[key]);
+            let subject = key.map_or("the entry".into(), |key| ["entry ", &quoted(key)].concat());
+            let (place, what) = (self.lines()?.place(cause.start), reason_of(cause).what());
+            let finding = Finding {
+                code: Code::Refusal(reason_of(cause)),
+                start: head.at,
+                end: head.key.map_or(head.at + 1, |key| key.end),
+                mark: head.at,
+                message: format!("{subject} is lost with the damage at {place}: {what}"),
+                hint: hint.take(),
+                key: key.map(key_name),
+            };
+            self.say(finding)?;
+        }
+        Ok(())
+    }
+}
+
+/// What keeps an entry from the damage of another.
+const OWN_LINE: &str =
+    "damage reaches to the next \"@\" that begins a line: put no blanks and no other entry before this one";
+
+/// Why a piece is damaged.
+pub(crate) fn reason_of(cause: Row) -> Reason {
+    Reason::of(cause.detail).expect("a cause has a refusal's number")
 }
 
 /// What is known of a refusal in a damaged piece.
@@ -119,7 +167,7 @@ pub(crate) fn subject(trace: &Trace) -> String {
             return format!("@{other}");
         }
     }
-    key_of(trace).map_or("the entry".into(), |key| format!("entry {key}"))
+    key_of(trace).map_or("the entry".into(), |key| ["entry ", &quoted(key)].concat())
 }
 
 /// Of what it is, where that is known: `, in entry knuth84 (line 1)`.
@@ -141,9 +189,9 @@ pub(crate) fn in_subject(subject: &str, lines: &Lines, at: usize, mark: usize) -
 }
 
 /// The key, if there is one: what stands in its place may be a field.
-pub(crate) fn key_of(trace: &Trace) -> Option<String> {
+pub(crate) fn key_of<'a>(trace: &Trace<'a>) -> Option<&'a [u8]> {
     let key = trace.text(trace.key.as_ref()?);
     let is_key = !key.is_empty() && !is_odd(key);
     let is_field = trace.stage == Stage::KeyComma && trace.next_byte() == Some(b'=');
-    (is_key && !is_field).then(|| quoted(key))
+    (is_key && !is_field).then_some(key)
 }

@@ -1,10 +1,12 @@
 //! Files that are not what they should be: in another encoding, or in another format.
 
-use super::damage::{key_of, whose};
+use super::damage::{key_of, reason_of, whose};
 use super::finding::{Code, Finding, Lint};
-use super::trace::Trace;
+use super::heads::head_at;
+use super::text::key_name;
+use super::trace::{Stage, Trace};
 use super::{Checker, Lines, Stop};
-use crate::{Kind, Reason, Row, Rows};
+use crate::{Kind, Reason, Refusal, Row, Rows};
 
 /// An encoding that is guessed from bytes.
 #[derive(Debug, Clone, Copy, PartialEq, Eq)]
@@ -98,37 +100,57 @@ impl Guess {
 }
 
 impl<E, S: FnMut(&Finding, &Lines) -> Result<(), E>> Checker<'_, S> {
-    /// One finding for the file, however many pieces it damages.
+    /// What is said of the encoding before all else: the first piece that it damages, how many others there
+    /// are, and a guess.
     pub(crate) fn about_encoding(&mut self) -> Result<(), Stop<E>> {
         let hint = self.encoding.guess.map(Guess::hint);
         let Some((piece, cause)) = self.encoding.first else {
             return self.about_escapes(hint);
         };
+        let (mut finding, _) = self.of_encoding(piece, cause)?;
+        match self.encoding.pieces - 1 {
+            0 => {}
+            1 => finding.message += ", and in one more piece of the file",
+            more => finding.message += &format!(", and in {more} more pieces of the file"),
+        }
+        self.say(finding.with_hint(hint))
+    }
+
+    /// Says that a piece is not UTF-8, unless it is the first, of which that was said; and answers where the
+    /// entry begins that it is said of.
+    pub(crate) fn not_utf8(&mut self, piece: Row, cause: Row) -> Result<usize, Stop<E>> {
+        let (finding, at) = self.of_encoding(piece, cause)?;
+        if self.encoding.first != Some((piece, cause)) {
+            self.say(finding)?;
+        }
+        Ok(at)
+    }
+
+    /// What is said of one piece, and where the entry begins that it is in.
+    fn of_encoding(&self, piece: Row, cause: Row) -> Result<(Finding, usize), Refusal> {
         let mut message = if is_not_utf8(cause) {
             Reason::NotUtf8.what().to_string()
         } else {
             "zeros between the characters".to_string()
         };
-        let mut key = None;
-        if self.encoding.pieces > 1 {
-            let pieces = self.encoding.pieces;
-            message += &format!(", in {pieces} pieces of the file, of which this is the first");
-        } else {
-            let trace = Trace::of(self.file, piece.start..cause.start);
-            message += &whose(&trace, self.lines()?, cause.start);
-            key = key_of(&trace);
+        let mut trace = Trace::of(self.file, piece.start..cause.start);
+        let head = head_at(self.file, trace.at..piece.end);
+        if trace.key.is_some() {
+            // The bytes may stand in the key.
+            trace.key = head.and_then(|head| head.key).or(trace.key);
         }
-        let reason = Reason::of(cause.detail).expect("a cause has a refusal's number");
+        message += &whose(&trace, self.lines()?, cause.start);
+        let is_outside = trace.stage == Stage::Outside;
         let finding = Finding {
-            code: Code::Refusal(reason),
+            code: Code::Refusal(reason_of(cause)),
             start: cause.start,
             end: cause.end,
             mark: cause.start,
             message,
-            hint,
-            key,
+            hint: None,
+            key: key_of(&trace).filter(|_| !is_outside).map(key_name),
         };
-        self.say(finding)
+        Ok((finding, if is_outside { piece.end } else { trace.at }))
     }
 
     /// Escape sequences are UTF-8, and read for what they are.

@@ -5,7 +5,7 @@ use std::ops::Range;
 
 use super::finding::{Finding, Lint};
 use super::items::Item;
-use super::text::{field_in_value, is_typographic, quoted, TYPOGRAPHIC};
+use super::text::{field_in_value, is_typographic, key_name, quoted, TYPOGRAPHIC};
 use super::{Checker, Stop};
 use crate::memory::push;
 use crate::{Kind, Refusal, Row, Rows};
@@ -95,7 +95,8 @@ impl<E, S: FnMut(&Finding, &super::Lines) -> Result<(), E>> Checker<'_, S> {
     pub(crate) fn rows_of(&mut self, item: &Item) -> Result<(), Stop<E>> {
         let key = item.rows.clone().filter_map(|index| self.rows.get(index));
         let key = key.take(3).find(|row| row.kind == Kind::Key);
-        let name = key.map(|row| quoted(&self.file[row.span()]));
+        self.last_key = key.map(|row| row.span()).filter(|key| !key.is_empty());
+        let name = key.map(|row| key_name(&self.file[row.span()]));
         let mut fields = Repeats::in_entry(self.file, self.rows, item.rows.clone())?;
         let mut field = None;
         for index in item.rows.clone() {

@@ -21,7 +21,7 @@ pub const ERRORS: [AboutError; 15] = [
     },
     AboutError {
         reason: Reason::NotUtf8,
-        meaning: "The file is not in UTF-8. It is said once for the file, with a guess of its encoding.",
+        meaning: "The file is not in UTF-8. The first such piece has a guess of the encoding, and each entry is named.",
         example: "",
     },
     AboutError {

@@ -9,7 +9,7 @@ use super::cursor::Cursor;
 use super::damage::in_subject;
 use super::finding::{Code, Finding};
 use super::items::{Item, What};
-use super::text::{is_typographic, quoted, TYPOGRAPHIC};
+use super::text::{is_typographic, key_name, quoted, TYPOGRAPHIC};
 use super::unresolved::Unresolved;
 use super::Lines;
 use crate::memory::push;
@@ -155,18 +155,21 @@ impl<'a> Explainer<'a> {
     /// The key of the entry that has a value, and what the value is called: where the refusal is in a
     /// definition, the field that uses it.
     fn whose(&self, one: &Unresolved, item: &Item) -> (Option<String>, String) {
-        let text = |row: Option<Row>| row.map(|row| quoted(&self.file[row.span()]));
+        let text = |row: Row| &self.file[row.span()];
         let key = self.rows.get(item.rows.start + 2);
-        let key = text(key.filter(|row| row.kind == Kind::Key && row.start < row.end));
-        let owner = match (item.what, &key) {
+        let key = key.filter(|row| row.kind == Kind::Key && row.start < row.end);
+        let key = key.map(text);
+        let owner = match (item.what, key) {
             (What::Definitions, _) => "@string".to_string(),
-            (_, Some(key)) => ["entry ", key].concat(),
+            (_, Some(key)) => ["entry ", &quoted(key)].concat(),
             _ => "the entry".to_string(),
         };
+        let key = key.map(key_name);
         if self.is_own(one) {
             return (key, owner);
         }
-        let name = text(self.rows.get(one.value().wrapping_sub(1))).unwrap_or_default();
+        let name = self.rows.get(one.value().wrapping_sub(1));
+        let name = name.map_or(String::new(), |row| quoted(text(row)));
         (key, ["`", &name, "` of ", &owner].concat())
     }
 

@@ -39,6 +39,40 @@ pub enum Lint {
     Encoding,
 }
 
+/// A set of lints.
+#[derive(Debug, Clone, Copy, PartialEq, Eq)]
+pub struct Lints(u64);
+
+impl Lints {
+    pub const ALL: Self = Self((1 << LINTS.len()) - 1);
+
+    /// What is lost, though the file is read: fields and entries outside every entry, a field that stands
+    /// twice, fields in a value that was closed too late.
+    pub const LOST: Self = Self::of(&[
+        Lint::FieldOutside,
+        Lint::EntryOutside,
+        Lint::DuplicateField,
+        Lint::LateClose,
+    ]);
+
+    pub const fn of(lints: &[Lint]) -> Self {
+        let (mut all, mut n) = (0, 0);
+        while n < lints.len() {
+            all |= 1 << lints[n] as u32;
+            n += 1;
+        }
+        Self(all)
+    }
+
+    pub fn without(self, lint: Lint) -> Self {
+        Self(self.0 & !(1 << lint as u32))
+    }
+
+    pub fn has(self, lint: Lint) -> bool {
+        self.0 >> lint as u32 & 1 == 1
+    }
+}
+
 /// What is to be known of a lint.
 pub struct About {
     pub lint: Lint,
@@ -172,7 +206,7 @@ pub struct Finding {
     pub message: String,
     /// What can be done, where that is known.
     pub hint: Option<String>,
-    /// The key of the entry that it is about, where there is one.
+    /// The key of the entry that it is about, where there is one, as [`key_name`](super::key_name) has it.
     pub key: Option<String>,
 }
 

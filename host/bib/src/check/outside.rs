@@ -1,9 +1,11 @@
 //! What is wrong outside entries, and in files without any.
 
+use std::ops::Range;
+
 use super::encoding::Format;
 use super::finding::{Finding, Lint};
 use super::items::{Item, What};
-use super::text::{entry_outside, field_outside, quoted};
+use super::text::{entries_outside, fields_outside, key_name, quoted, Lost};
 use super::{Checker, Lines, Stop};
 
 impl<E, S: FnMut(&Finding, &Lines) -> Result<(), E>> Checker<'_, S> {
@@ -14,15 +16,39 @@ impl<E, S: FnMut(&Finding, &Lines) -> Result<(), E>> Checker<'_, S> {
             let text = &self.file[place..item.span.end];
             let comment = text.iter().position(|byte| *byte == b'%');
             let text = &text[..comment.unwrap_or(text.len())];
-            if let Some(finding) = lost(text, place, before) {
-                return self.say(finding);
-            }
+            self.lost(text, place, before)?;
             place += text.len();
             let rest = &self.file[place..item.span.end];
             let line = rest.iter().position(|byte| *byte == b'\n');
             place += line.unwrap_or(rest.len());
         }
         Ok(())
+    }
+
+    /// The fields and the entries that are lost in this text. Fields behind the beginning of an entry are
+    /// that entry's.
+    fn lost(&mut self, text: &[u8], place: usize, before: Option<What>) -> Result<(), Stop<E>> {
+        let mut entries = entries_outside(text).peekable();
+        let first = entries.peek().map_or(text.len(), |entry| entry.span.start);
+        if let Some(finding) = lost_fields(&text[..first], place, before) {
+            let key = self.last_key().filter(|_| self.is_of_entry);
+            self.say(finding.with_key(key))?;
+        }
+        self.is_of_entry = false;
+        for Lost { span, key } in entries {
+            let shown = quoted(&text[span.clone()]);
+            let message = format!("`{shown}` without an \"@\": the entry is lost");
+            let (start, end) = (place + span.start, place + span.end);
+            let finding = Finding::lint(Lint::EntryOutside, start, end, message);
+            self.say(finding.with_key(Some(key_name(&text[key]))))?;
+        }
+        Ok(())
+    }
+
+    /// The key of the entry that was gone over last.
+    fn last_key(&self) -> Option<String> {
+        let key = self.last_key.as_ref()?;
+        Some(key_name(&self.file[key.clone()]))
     }
 
     pub(crate) fn no_entries(&mut self) -> Result<(), Stop<E>> {
@@ -85,36 +111,34 @@ const COMMENT: &str =
     "the comment goes on to its first \"}\": if an entry begins here, close it before";
 const VALUE: &str = "put a blank before it, so that damage elsewhere in the file does not reach it";
 
-/// A field or an entry that is lost in this text.
-fn lost(text: &[u8], place: usize, before: Option<What>) -> Option<Finding> {
-    if let Some(span) = entry_outside(text) {
-        let message = format!(
-            "`{}` without an \"@\": the entry is lost",
-            quoted(&text[span.clone()])
-        );
-        let finding = Finding::lint(
-            Lint::EntryOutside,
-            place + span.start,
-            place + span.end,
-            message,
-        );
-        return Some(finding);
-    }
-    let span = field_outside(text)?;
-    let message = format!(
-        "the field `{}` is outside every entry, and lost",
-        quoted(&text[span.clone()])
+/// So many fields are named that are lost with the first.
+const MOST_NAMED: usize = 8;
+
+/// The fields that are lost in this text.
+fn lost_fields(text: &[u8], place: usize, before: Option<What>) -> Option<Finding> {
+    let mut names = fields_outside(text);
+    let first = names.next()?;
+    let name = |span: Range<usize>| ["`", &quoted(&text[span]), "`"].concat();
+    let mut message = format!(
+        "the field {} is outside every entry, and lost",
+        name(first.clone())
     );
+    let others: Vec<String> = names.by_ref().take(MOST_NAMED).map(name).collect();
+    let more = names.count();
+    match others.len() {
+        0 => {}
+        1 => message += &format!("; so is {}", others[0]),
+        _ => message += &format!("; so are {}", others.join(", ")),
+    }
+    if more > 0 {
+        message += &format!(" and {more} more");
+    }
     let hint = match before {
         Some(What::Entry) => Some("the entry before it may have been closed too early"),
         Some(What::Comment) => Some("an @comment ends at its first \"}\""),
         _ => None,
     };
-    let finding = Finding::lint(
-        Lint::FieldOutside,
-        place + span.start,
-        place + span.end,
-        message,
-    );
+    let (start, end) = (place + first.start, place + first.end);
+    let finding = Finding::lint(Lint::FieldOutside, start, end, message);
     Some(finding.with_hint(hint.map(String::from)))
 }

@@ -27,6 +27,15 @@ pub(crate) fn quoted(text: &[u8]) -> String {
     few + "…"
 }
 
+/// So many bytes of a key are in a finding: a file may have millions of findings about one entry.
+const MOST_OF_KEY: usize = 256;
+
+/// A key as findings have it: what is not UTF-8 by the replacement character, and of a very long one the
+/// beginning.
+pub fn key_name(key: &[u8]) -> String {
+    String::from_utf8_lossy(&key[..key.len().min(MOST_OF_KEY)]).into_owned()
+}
+
 fn in_one_line(text: &[u8]) -> String {
     let text = String::from_utf8_lossy(text);
     text.split_whitespace().collect::<Vec<_>>().join(" ")
@@ -55,37 +64,52 @@ fn name_before(text: &[u8], equals: usize) -> Option<Range<usize>> {
 /// Whether what follows an equals sign looks like a value: braces, quotes, or one number or word,
 /// with what may follow it on the line.
 fn is_value(text: &[u8]) -> bool {
-    let end = text.iter().position(|byte| matches!(byte, b'\n' | b'\r'));
-    let line = text[..end.unwrap_or(text.len())].trim_ascii();
-    match line {
-        [b'{' | b'"', ..] => delimited(line).is_none_or(may_follow),
-        _ => {
-            let word = line.iter().take_while(|byte| byte.is_ascii_alphanumeric());
-            let (word, rest) = line.split_at(word.count());
-            let is_number = word.iter().all(u8::is_ascii_digit);
-            !word.is_empty() && may_follow(rest) && (is_number || !rest.is_empty())
-        }
+    let text = &text[blanks_before(text)..];
+    if let Some(b'{' | b'"') = text.first() {
+        return delimited(text).is_none_or(|rest| may_follow(next_on_line(rest)));
     }
+    let word = text.iter().take_while(|byte| byte.is_ascii_alphanumeric());
+    let (word, rest) = text.split_at(word.count());
+    let next = next_on_line(rest);
+    let is_number = word.iter().all(u8::is_ascii_digit);
+    !word.is_empty() && may_follow(next) && (is_number || next.is_some())
+}
+
+/// How many blanks of its line a text begins with.
+fn blanks_before(text: &[u8]) -> usize {
+    let is_blank = |byte: &&u8| byte.is_ascii_whitespace() && !matches!(byte, b'\n' | b'\r');
+    text.iter().take_while(is_blank).count()
+}
+
+/// The first byte that is not a blank, if the line does not end before it.
+fn next_on_line(text: &[u8]) -> Option<u8> {
+    let next = text.get(blanks_before(text)).copied();
+    next.filter(|byte| !matches!(byte, b'\n' | b'\r'))
 }
 
 /// Whether this may follow a value on its line.
-fn may_follow(rest: &[u8]) -> bool {
-    matches!(rest.trim_ascii_start(), [] | [b',' | b'}' | b'#', ..])
+fn may_follow(next: Option<u8>) -> bool {
+    matches!(next, None | Some(b',' | b'}' | b'#'))
 }
 
+/// So far a value is followed for its end: text outside entries may have a million of them, each in the
+/// next one.
+const MOST_OF_VALUE: usize = 512;
+
 /// What follows a value in braces or quotes that is closed on its line.
-fn delimited(line: &[u8]) -> Option<&[u8]> {
-    let is_quoted = line.first() == Some(&b'"');
+fn delimited(text: &[u8]) -> Option<&[u8]> {
+    let is_quoted = text.first() == Some(&b'"');
     let mut depth = 0;
-    for (place, byte) in line.iter().enumerate() {
+    for (place, byte) in text.iter().enumerate().take(MOST_OF_VALUE) {
         match byte {
+            b'\n' | b'\r' => return None,
             b'{' => depth += 1,
             b'}' => depth -= 1,
-            b'"' if is_quoted && place > 0 => return Some(&line[place + 1..]),
+            b'"' if is_quoted && place > 0 => return Some(&text[place + 1..]),
             _ => {}
         }
         if depth == 0 && !is_quoted {
-            return Some(&line[place + 1..]);
+            return Some(&text[place + 1..]);
         }
     }
     None
@@ -94,55 +118,76 @@ fn delimited(line: &[u8]) -> Option<&[u8]> {
 /// The first `word = value` of a text that begins a line, but not the text: its name. That is a
 /// field which a value swallowed.
 pub(crate) fn field_in_value(text: &[u8]) -> Option<Range<usize>> {
-    first_field(text, |before| matches!(before.last(), Some(b'\n' | b'\r')))
+    let is_begin = |before: &[u8]| matches!(before.last(), Some(b'\n' | b'\r'));
+    fields(text, is_begin).next()
 }
 
-/// The first `word = value` of a text outside every entry, at the beginning of a line or behind
+/// The names of each `word = value` of a text outside every entry, at the beginning of a line or behind
 /// what may end a field.
-pub(crate) fn field_outside(text: &[u8]) -> Option<Range<usize>> {
-    first_field(text, |before| {
+pub(crate) fn fields_outside(text: &[u8]) -> impl Iterator<Item = Range<usize>> + '_ {
+    fields(text, |before| {
         let before = without_blanks(before.strip_suffix(b",").unwrap_or(before));
         matches!(before.last(), None | Some(b'\n' | b'\r' | b'}'))
     })
 }
 
-fn first_field(text: &[u8], is_begin: impl Fn(&[u8]) -> bool) -> Option<Range<usize>> {
+fn fields<'a>(
+    text: &'a [u8],
+    is_begin: impl Fn(&[u8]) -> bool + 'a,
+) -> impl Iterator<Item = Range<usize>> + 'a {
     let mut from = 0;
-    while let Some(found) = text[from..].iter().position(|byte| *byte == b'=') {
-        let equals = from + found;
+    std::iter::from_fn(move || loop {
+        let equals = from + text[from..].iter().position(|byte| *byte == b'=')?;
+        from = equals + 1;
         let name = name_before(text, equals)
             .filter(|name| is_begin(without_blanks(&text[..name.start])))
-            .filter(|_| is_value(&text[equals + 1..]));
+            .filter(|_| is_value(&text[from..]));
         if name.is_some() {
             return name;
         }
-        from = equals + 1;
-    }
-    None
+    })
 }
 
-/// The first `word{key,` of a text that begins a line: an entry without its "@". With a blank before
-/// the brace, the comma must end the line, since prose may have such a brace.
-pub(crate) fn entry_outside(text: &[u8]) -> Option<Range<usize>> {
+/// An entry without its "@".
+pub(crate) struct Lost {
+    /// From its type to behind the comma of its key.
+    pub span: Range<usize>,
+    pub key: Range<usize>,
+}
+
+/// Each `word{key,` of a text that begins a line. With a blank before the brace, the comma must end the
+/// line, since prose may have such a brace.
+pub(crate) fn entries_outside(text: &[u8]) -> impl Iterator<Item = Lost> + '_ {
     let mut from = 0;
-    while let Some(found) = text[from..].iter().position(|byte| *byte == b'{') {
-        let brace = from + found;
-        let before = without_blanks(&text[..brace]);
-        let start = before.len() - word_before(before);
-        let is_word = start < before.len() && text[start].is_ascii_alphabetic();
-        let line = without_blanks(&text[..start]);
-        let is_begin = matches!(line.last(), None | Some(b'\n' | b'\r'));
-        let mut cursor = Cursor::new(text, brace + 1..text.len());
-        let key = cursor.key();
-        if is_word && is_begin && !key.is_empty() && cursor.eat(b',') {
-            let is_end = matches!(cursor.peek(), None | Some(b'\n' | b'\r'));
-            if before.len() == brace || is_end {
-                return Some(start..cursor.place);
-            }
-        }
+    std::iter::from_fn(move || loop {
+        let brace = from + text[from..].iter().position(|byte| *byte == b'{')?;
         from = brace + 1;
+        let found = entry_outside(text, brace);
+        if found.is_some() {
+            return found;
+        }
+    })
+}
+
+/// The entry without an "@" whose brace this is. Only the brace of a word that begins a line is followed,
+/// so that no byte is looked at for many of them.
+fn entry_outside(text: &[u8], brace: usize) -> Option<Lost> {
+    let before = without_blanks(&text[..brace]);
+    let start = before.len() - word_before(before);
+    let is_word = start < before.len() && text[start].is_ascii_alphabetic();
+    let line = without_blanks(&text[..start]);
+    if !is_word || !matches!(line.last(), None | Some(b'\n' | b'\r')) {
+        return None;
     }
-    None
+    let mut cursor = Cursor::new(text, brace + 1..text.len());
+    let key = cursor.key();
+    let is_key = !key.is_empty() && cursor.eat(b',');
+    let is_end = matches!(cursor.peek(), None | Some(b'\n' | b'\r'));
+    let is_entry = is_key && (before.len() == brace || is_end);
+    is_entry.then_some(Lost {
+        span: start..cursor.place,
+        key,
+    })
 }
 
 /// What to do about them.
@@ -215,23 +260,33 @@ mod tests {
     }
 
     #[test]
-    fn fields_outside() {
-        assert_eq!(found(field_outside, ", month = jan,"), Some("month"));
-        assert_eq!(found(field_outside, "note ={x}"), Some("note"));
-        assert_eq!(found(field_outside, "the value of x = 3"), None);
-        assert_eq!(found(field_outside, "to say so, type = \"paper\""), None);
-        assert_eq!(found(field_outside, "==== part ===="), None);
+    fn lost_fields() {
+        let all = |text: &'static str| -> Vec<&str> {
+            let names = fields_outside(text.as_bytes());
+            names.map(|name| &text[name]).collect()
+        };
+        assert_eq!(all(", month = jan,"), ["month"]);
+        assert_eq!(all("note ={x}"), ["note"]);
+        assert_eq!(all("the value of x = 3"), [""; 0]);
+        assert_eq!(all("to say so, type = \"paper\""), [""; 0]);
+        assert_eq!(all("==== part ===="), [""; 0]);
+        assert_eq!(
+            all(",\n author = {A},\n title = \"B\"\n}\n"),
+            ["author", "title"]
+        );
     }
 
     #[test]
-    fn entries_outside() {
-        assert_eq!(
-            found(entry_outside, "\n article{k84,\n"),
-            Some("article{k84,")
-        );
-        assert_eq!(found(entry_outside, "book {k84,\n"), Some("book {k84,"));
-        assert_eq!(found(entry_outside, "by {Knuth, D.}"), None);
-        assert_eq!(found(entry_outside, "written by {Knuth,\n"), None);
-        assert_eq!(found(entry_outside, "\\textbf{bold,"), None);
+    fn lost_entries() {
+        let all = |text: &'static str| -> Vec<&str> {
+            let lost = entries_outside(text.as_bytes());
+            lost.map(|lost| &text[lost.span]).collect()
+        };
+        assert_eq!(all("\n article{k84,\n"), ["article{k84,"]);
+        assert_eq!(all("book {k84,\n"), ["book {k84,"]);
+        assert_eq!(all("a{k, t = {x}}\nb{l,}"), ["a{k,", "b{l,"]);
+        assert_eq!(all("by {Knuth, D.}"), [""; 0]);
+        assert_eq!(all("written by {Knuth,\n"), [""; 0]);
+        assert_eq!(all("\\textbf{bold,"), [""; 0]);
     }
 }

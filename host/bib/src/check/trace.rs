@@ -62,8 +62,16 @@ struct Stopped;
 type Step = Result<(), Stopped>;
 
 impl<'a> Trace<'a> {
+    /// Reading of a piece, to where it stops.
     pub fn of(file: &'a [u8], piece: Range<usize>) -> Self {
-        let mut trace = Self {
+        let mut trace = Self::begin(file, piece);
+        while trace.goes_on() {}
+        trace
+    }
+
+    /// Reading of a piece, before its first step.
+    pub fn begin(file: &'a [u8], piece: Range<usize>) -> Self {
+        Self {
             file,
             cursor: Cursor::new(file, piece.clone()),
             stage: Stage::Outside,
@@ -73,9 +81,18 @@ impl<'a> Trace<'a> {
             field: None,
             part: None,
             late: None,
-        };
-        while let Ok(()) = trace.next() {}
-        trace
+        }
+    }
+
+    /// Goes over the next character outside, or over what begins with an "@"; or stops in it.
+    pub fn goes_on(&mut self) -> bool {
+        self.next().is_ok()
+    }
+
+    /// The key of the entry over which the last step went.
+    pub fn entry_passed(&self) -> Option<Range<usize>> {
+        let is_passed = self.stage == Stage::Closing && !is_other(self.text(&self.kind));
+        self.key.clone().filter(|_| is_passed)
     }
 
     /// Where reading stopped.
@@ -285,6 +302,14 @@ impl<'a> Trace<'a> {
         self.read(Form::Number, start, true);
         Err(Stopped)
     }
+}
+
+/// Whether what has this type is no entry.
+pub(crate) fn is_other(kind: &[u8]) -> bool {
+    let others = ["string", "preamble", "comment"];
+    others
+        .iter()
+        .any(|other| kind.eq_ignore_ascii_case(other.as_bytes()))
 }
 
 #[cfg(test)]

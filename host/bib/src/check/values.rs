@@ -7,7 +7,7 @@ use super::explain::Explainer;
 use super::finding::Finding;
 use super::items::Item;
 use super::unresolved::{Once, Unresolved};
-use super::{Checker, Lines, Reading};
+use super::{Checker, Lines, Reading, Standing};
 use crate::{Reason, Refusal};
 
 /// The values that cannot be resolved, one after the other.
@@ -82,7 +82,11 @@ fn is_unknown(one: &Unresolved) -> bool {
 impl<E, S: FnMut(&Finding, &Lines) -> Result<(), E>> Checker<'_, S> {
     /// Why the value of this row cannot be resolved.
     pub(crate) fn value(&mut self, row: usize, item: &Item) -> Result<Option<Finding>, Refusal> {
-        let Some((one, more)) = self.values.next(row)? else {
+        let next = self.values.next(row)?;
+        if self.values.place.is_some() {
+            self.stands(Standing::Unresolved);
+        }
+        let Some((one, more)) = next else {
             return Ok(None);
         };
         let lines = self.lines()?;

@@ -3,8 +3,10 @@
 use std::collections::HashMap;
 use std::io::{self, BufWriter, Stdout, Write};
 
-use bib::check::{self, Code, Finding, Level, Lines, Lint, Reading, Stop};
-use bib::Refusal;
+use bib::check::{
+    self, Checked, Code, Counts, Finding, Level, Lines, Lint, Reading, Standing, Stop,
+};
+use bib::{Kind, Refusal};
 
 use crate::cut::Cut;
 use crate::folder;
@@ -65,7 +67,7 @@ struct Checking<'a> {
 /// What was found in a file.
 #[derive(Default)]
 struct Outcome {
-    entries: usize,
+    entries: Counts,
     errors: usize,
     warnings: usize,
     cut: Cut,
@@ -80,6 +82,8 @@ struct Key {
     start: usize,
     line: usize,
     column: usize,
+    /// Nothing was said of its entry so far.
+    is_sound: bool,
 }
 
 impl Checking<'_> {
@@ -126,10 +130,10 @@ impl Checking<'_> {
             page.write(&text)
         };
         let reading = self.reading(file);
-        let counts = check::check_reading(file, &reading, print)?;
-        outcome.entries = counts.entries;
+        let checked = check::check_reading(file, &reading, self.asked.levels.lints(), print)?;
+        outcome.entries = checked.counts();
         if let Ok(reading) = &reading {
-            outcome.keys = self.keys(file, reading)?;
+            outcome.keys = self.keys(file, reading, &checked)?;
         }
         Ok(())
     }
@@ -143,23 +147,31 @@ impl Checking<'_> {
     }
 
     /// The keys, where those of several files are compared.
-    fn keys(&self, file: &[u8], reading: &Reading) -> Result<Vec<Key>, Stop<Failed>> {
+    fn keys(
+        &self,
+        file: &[u8],
+        reading: &Reading,
+        checked: &Checked,
+    ) -> Result<Vec<Key>, Stop<Failed>> {
         let mut keys = Vec::new();
         if self.sources.len() < 2 || self.asked.levels.of_lint(Lint::KeyInTwoFiles).is_none() {
             return Ok(keys);
         }
         let lines = Lines::of(file)?;
-        for (key, start) in check::keys(file, &reading.rows) {
-            let (line, column) = lines.line_and_column(start);
+        let all = reading.rows.iter().filter(|row| row.kind == Kind::Key);
+        let all = all.zip(&checked.standings);
+        for (key, standing) in all.filter(|(key, _)| key.start < key.end) {
+            let (line, column) = lines.line_and_column(key.start);
             let mut text = Vec::new();
-            text.try_reserve_exact(key.len())?;
-            text.extend_from_slice(key);
+            text.try_reserve_exact(key.end - key.start)?;
+            text.extend_from_slice(&file[key.span()]);
             keys.try_reserve(1)?;
             keys.push(Key {
                 text,
-                start,
+                start: key.start,
                 line,
                 column,
+                is_sound: *standing == Standing::Sound,
             });
         }
         Ok(keys)
@@ -219,8 +231,8 @@ impl Sink for Results<'_> {
         let Checking {
             report, sources, ..
         } = self.checking;
-        for (name, count) in outcome.cut.left_out() {
-            let text = report.left_out(&sources[index], name, count);
+        for cut in outcome.cut.left_out() {
+            let text = report.left_out(&sources[index], cut, "--all");
             self.out.write_all(text.as_bytes())?;
         }
         self.tally.add(&outcome);
@@ -255,6 +267,10 @@ impl Results<'_> {
         };
         let other = format!("{}:{}:{}", sources[first.0], first.1, first.2);
         let finding = key.finding(&other);
+        if key.is_sound {
+            outcome.entries.sound -= 1;
+            outcome.entries.warned += 1;
+        }
         if !outcome.shows(&finding, level, asked) {
             return Ok(());
         }
@@ -288,7 +304,7 @@ impl Key {
 /// What was found in all files so far.
 #[derive(Default)]
 struct Tally {
-    entries: usize,
+    entries: Counts,
     errors: usize,
     warnings: usize,
     /// Files that were read, those of them with findings, and those that were not read.
@@ -304,7 +320,7 @@ impl Tally {
         } else {
             self.read += 1;
         }
-        self.entries += outcome.entries;
+        self.entries.add(&outcome.entries);
         self.errors += outcome.errors;
         self.warnings += outcome.warnings;
         self.found += usize::from(outcome.errors + outcome.warnings > 0);
@@ -321,12 +337,28 @@ impl Tally {
     }
 
     fn summary(&self) -> String {
-        let mut text = format!(
-            "{} sound, {}, {}",
-            counted(self.entries, "entry", "entries"),
-            counted(self.errors, "error", "errors"),
-            counted(self.warnings, "warning", "warnings")
-        );
+        let Counts {
+            sound,
+            warned,
+            unresolved,
+            damaged,
+        } = self.entries;
+        let mut text = counted(sound, "entry", "entries") + " sound";
+        for (count, how) in [
+            (warned, "with warnings"),
+            (unresolved, "with unresolved fields"),
+            (damaged, "damaged"),
+        ] {
+            if count > 0 {
+                text += &format!(", {count} {how}");
+            }
+        }
+        for (count, one, many) in [
+            (self.errors, "error", "errors"),
+            (self.warnings, "warning", "warnings"),
+        ] {
+            text += &format!(", {}", counted(count, one, many));
+        }
         if self.read > 1 {
             text += &format!("; findings in {} of {} files", self.found, self.read);
         }
@@ -337,6 +369,7 @@ impl Tally {
     }
 }
 
-fn counted(n: usize, one: &str, many: &str) -> String {
+/// How many, with the word for one or for several.
+pub fn counted(n: usize, one: &str, many: &str) -> String {
     format!("{n} {}", if n == 1 { one } else { many })
 }

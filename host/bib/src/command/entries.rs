@@ -3,7 +3,7 @@
 use std::cell::OnceCell;
 
 use bib::check::{
-    check_reading, Code, Explainer, Finding, Item, Items, Lines, Reading, Stop, Unresolved, What,
+    check_reading, Explainer, Finding, Item, Items, Lines, Lints, Reading, Stop, Unresolved, What,
 };
 use bib::{Kind, Refusal, ResolvedFile, ResolvedValue};
 
@@ -12,6 +12,8 @@ pub struct Opened<'a> {
     file: &'a [u8],
     pub reading: Reading,
     values: ResolvedFile,
+    /// How many entries its damaged pieces have.
+    pub damaged: usize,
 }
 
 /// The lines of a file, which are made when something is to be said.
@@ -36,20 +38,14 @@ impl<'a> Places<'a> {
     }
 }
 
-/// Reads a file and resolves its values; says what is damaged, as `bib check` does. Nothing where the
-/// file is too long, which is said too.
+/// Reads a file and resolves its values; says what is damaged, and what is lost though it is read, as
+/// `bib check` does. Nothing where the file is too long, which is said too.
 pub fn opened<E>(
     file: &[u8],
-    mut say: impl FnMut(&Finding, &Lines) -> Result<(), E>,
+    say: impl FnMut(&Finding, &Lines) -> Result<(), E>,
 ) -> Result<Option<Opened<'_>>, Stop<E>> {
     let reading = Reading::of(file);
-    let is_damaged = |reading: &Reading| reading.rows.iter().any(|row| row.kind == Kind::Damage);
-    if reading.as_ref().map_or(true, is_damaged) {
-        check_reading(file, &reading, |finding, lines| match finding.code {
-            Code::Refusal(_) => say(finding, lines),
-            Code::Lint(_) => Ok(()),
-        })?;
-    }
+    let damaged = check_reading(file, &reading, Lints::LOST, say)?.damaged;
     let Ok(mut reading) = reading else {
         return Ok(None);
     };
@@ -58,6 +54,7 @@ pub fn opened<E>(
         file,
         reading,
         values,
+        damaged,
     }))
 }
 
@@ -103,6 +100,8 @@ pub struct Entry<'a> {
 pub struct Field<'a> {
     pub name: &'a [u8],
     pub place: usize,
+    /// The number of its value's row.
+    row: usize,
     pub value: Option<ResolvedValue<'a>>,
 }
 
@@ -157,14 +156,31 @@ impl<'a> Entry<'a> {
             file,
             reading,
             values,
+            ..
         } = self.opened;
         let rows = self.item.rows.clone();
-        let rows = rows.filter_map(|row| reading.rows.get(row));
-        let names = rows.filter(|row| row.kind == Kind::FieldName);
-        names.zip(self.first..).map(|(name, value)| Field {
+        let rows = rows.filter_map(|row| Some((row, reading.rows.get(row)?)));
+        let names = rows.filter(|(_, row)| row.kind == Kind::FieldName);
+        names.zip(self.first..).map(|((row, name), value)| Field {
             name: &file[name.span()],
             place: name.start,
+            row: row + 1,
             value: values.get(value).and_then(Result::ok),
         })
+    }
+
+    /// The value of a field as it stands in the file, without the white space and the comment behind it.
+    pub fn source_of(&self, field: &Field) -> &'a [u8] {
+        let Opened { file, reading, .. } = self.opened;
+        let start = reading.rows.get(field.row).map_or(0, |row| row.start);
+        let parts = (field.row + 1..).map_while(|row| reading.rows.get(row));
+        let parts = parts.take_while(|row| matches!(row.kind, Kind::Literal | Kind::Name));
+        let end = parts.last().map_or(start, |part| {
+            // The row of a literal is without its braces or quotation marks; a number has none.
+            let before = part.start.checked_sub(1).map(|before| file[before]);
+            let is_delimited = part.kind == Kind::Literal && matches!(before, Some(b'{' | b'"'));
+            part.end + usize::from(is_delimited)
+        });
+        &file[start..end]
     }
 }

@@ -1,6 +1,6 @@
 //! Which findings are wanted, and how grave they are.
 
-use bib::check::{Code, Finding, Level, Lint};
+use bib::check::{Code, Finding, Level, Lint, Lints};
 
 /// What was asked about the lints.
 #[derive(Debug, Clone, Default, PartialEq, Eq)]
@@ -18,6 +18,13 @@ impl Levels {
             Code::Refusal(_) => Some(Level::Error),
             Code::Lint(lint) => self.of_lint(lint),
         }
+    }
+
+    /// The lints that are wanted.
+    pub fn lints(&self) -> Lints {
+        let is_unwanted = |lint: &&Lint| self.of_lint(**lint).is_none();
+        let unwanted = self.allowed.iter().filter(is_unwanted);
+        unwanted.fold(Lints::ALL, |lints, lint| lints.without(*lint))
     }
 
     pub fn of_lint(&self, lint: Lint) -> Option<Level> {

@@ -1,8 +1,10 @@
 //! The command `bib`: reads files, has the library read them, and prints what it says.
 
+mod back;
 mod check;
 mod cut;
 mod entries;
+mod errors;
 mod excerpt;
 mod folder;
 mod json;
@@ -17,6 +19,7 @@ mod shown;
 mod source;
 mod style;
 mod system;
+mod tally;
 mod turns;
 mod width;
 mod words;
@@ -26,12 +29,13 @@ use std::env;
 use std::io::{self, BufWriter, ErrorKind, Write};
 use std::process::ExitCode;
 
-use bib::Reason;
+use bib::{Kind, Reason};
 use source::Source;
+use system::is_stdout_closed;
 use words::{Words, Work};
 
 /// What a run comes to, as its exit status says it.
-#[derive(Debug, Clone, Copy, PartialEq, Eq)]
+#[derive(Debug, Clone, Copy, PartialEq, Eq, PartialOrd, Ord)]
 pub enum Status {
     Sound = 0,
     Findings = 1,
@@ -92,6 +96,10 @@ pub fn say(sentence: &str) {
 }
 
 fn run(words: Words) -> Result<Status, Trouble> {
+    let is_silent = matches!(&words, Words::Check(asked, _) if asked.quiet);
+    if is_stdout_closed() && !is_silent {
+        return Err(Trouble::Output(io::Error::other("it is closed")));
+    }
     let mut out = BufWriter::with_capacity(BUFFER, io::stdout().lock());
     let status = match words {
         Words::Help => print::help(&mut out)?,
@@ -102,8 +110,8 @@ fn run(words: Words) -> Result<Status, Trouble> {
             drop(out);
             return check::check(&asked, sources);
         }
-        Words::Show(source, keys) => show::show(&source, &keys, &mut out)?,
-        Words::Write(source) => write::write(&source, &mut out)?,
+        Words::Show(showing, source, keys) => show::show(&showing, &source, &keys, &mut out)?,
+        Words::Write(writing, source) => write::write(writing, &source, &mut out)?,
         Words::Resolve(ways, source) => resolve::resolve(ways, &source, &mut out)?,
         Words::One(work, source) => one(work, &source, &mut out)?,
     };
@@ -122,7 +130,13 @@ fn one(work: Work, source: &Source, out: &mut impl Write) -> Result<Status, Trou
     match answer {
         Ok(rows) => {
             print::rows(&rows, out)?;
-            Ok(Status::Sound)
+            let is_damaged = rows.iter().any(|row| row.kind == Kind::Damage);
+            // The rows of salvage that `unpack` prints are what it was asked for.
+            Ok(if is_damaged && work == Work::Salvage {
+                Status::Findings
+            } else {
+                Status::Sound
+            })
         }
         Err(refusal) if refusal.reason == Reason::NoRoom => Err(beyond_memory(work, source)),
         Err(refusal) => {

@@ -41,8 +41,15 @@ refusal; warnings are what is read but surely not meant, with a name:
   --color WHEN          auto, always or never
 
 `bib show` and `bib write` say what they cannot read or resolve as `bib check` does, `bib write` on
-standard error. All three know the English months, and take these fields for verbatim ones: file,
-doi, uri, eprint, verba, verbb, verbc, pdf, url, urlraw. `bib resolve` knows what it is told:
+standard error; there both say which fields and entries are lost in the file, and `bib write` which
+fields are read otherwise once they are written. Its last line there counts the entries that were
+written, changed and left out. Options of the two, where --strict is as above:
+
+  --keep                of `bib write`: an entry with a field that cannot be resolved is written, with
+                        that field as it stands in the file
+
+All three know the English months, and take these fields for verbatim ones: file, doi, uri, eprint,
+verba, verbb, verbc, pdf, url, urlraw. `bib resolve` knows what it is told:
 
   --verbatim WHICH      the verbatim values: none, all, or names for those of the fields above
   --months WHICH        the months that are known: none or english
@@ -57,8 +64,9 @@ Rows are lines `kind detail start end`, and then `rows N`; places are bytes of t
 8 definition name, 9 damaged piece, 10 its cause, whose detail is the number of a refusal.
 A refusal is a line `refused NUMBER START END`; `bib pack` has it on standard error.
 
-Exit status: 0 sound, or with warnings alone; 1 something is wrong in a file, or it has no such key;
-2 a file cannot be read, memory is short, or the words are not known.
+Exit status: 0 sound, or with warnings alone; 1 something is wrong in a file: it is refused or
+damaged, a value cannot be resolved, or it has no such key; 2 a file cannot be read, the output cannot
+be written or is closed, memory is short, or the words are not known.
 ";
 
 /// Every lint and every error, what it means, and a file that has it.

@@ -65,12 +65,12 @@ impl Report {
         }
     }
 
-    /// How many warnings of a name are not shown.
-    pub fn left_out(&self, source: &Source, name: &str, count: usize) -> String {
+    /// How many warnings of a name are not shown, and what shows them.
+    pub fn left_out(&self, source: &Source, (name, count): (&str, usize), all: &str) -> String {
         let Style { bold, plain, .. } = self.style;
         let (colour, level) = (self.style.level(Level::Warning), Level::Warning.name());
         format!(
-            "{bold}{source}:{plain} {colour}{level}:{plain} and {count} more; --all shows every one ({name})\n"
+            "{bold}{source}:{plain} {colour}{level}:{plain} and {count} more; {all} shows every one ({name})\n"
         )
     }
 

@@ -16,7 +16,7 @@ pub const CHUNK: usize = 5;
 pub fn resolve(ways: Ways, source: &Source, out: &mut impl Write) -> Result<Status, Trouble> {
     let file = source.file()?;
     match resolved(ways, &file, out) {
-        Ok(()) => Ok(Status::Sound),
+        Ok(status) => Ok(status),
         Err(Stop::Output(error)) => Err(error.into()),
         Err(Stop::Refused(refusal)) if refusal.reason == Reason::NoRoom => {
             Err(Trouble::Input(source.beyond_memory("resolve")))
@@ -46,7 +46,8 @@ impl From<io::Error> for Stop {
     }
 }
 
-fn resolved(ways: Ways, file: &[u8], out: &mut impl Write) -> Result<(), Stop> {
+/// Prints every value. One that is refused stops no other, but the exit status says it.
+fn resolved(ways: Ways, file: &[u8], out: &mut impl Write) -> Result<Status, Stop> {
     let rows = bib::read(file)?;
     let flags = flags(ways.verbatim, file, &rows)?;
     let months = if ways.english {
@@ -58,6 +59,7 @@ fn resolved(ways: Ways, file: &[u8], out: &mut impl Write) -> Result<(), Stop> {
     drop(flags);
     let mut answers = resolved.iter();
     let mut name = None;
+    let mut status = Status::Sound;
     for row in rows.iter() {
         match row.kind {
             Kind::FieldName | Kind::DefinitionName => name = Some(row),
@@ -65,14 +67,17 @@ fn resolved(ways: Ways, file: &[u8], out: &mut impl Write) -> Result<(), Stop> {
                 head(file, name, row, out)?;
                 match answers.next() {
                     Some(Ok(value)) => chunks(value, out)?,
-                    Some(Err(refusal)) => writeln!(out, "{}", print::refused(&refusal))?,
+                    Some(Err(refusal)) => {
+                        writeln!(out, "{}", print::refused(&refusal))?;
+                        status = Status::Findings;
+                    }
                     None => {}
                 }
             }
             _ => {}
         }
     }
-    Ok(())
+    Ok(status)
 }
 
 fn flags(verbatim: Verbatim, file: &[u8], rows: &Rows) -> Result<Vec<bool>, Refusal> {

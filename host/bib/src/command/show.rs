@@ -4,24 +4,32 @@
 use std::ffi::OsString;
 use std::io::{self, Write};
 
-use bib::check::{self, Explainer, Finding, Level, Lines, Stop};
+use bib::check::{self, Code, Explainer, Finding, Level, Lines, Stop};
 
 use crate::entries::{opened, Entry, Opened, Places};
+use crate::errors::Errors;
 use crate::near::nearest;
 use crate::progress::room;
 use crate::report::Report;
 use crate::source::Source;
 use crate::style::{Color, Style};
 use crate::width::width;
+use crate::words::Showing;
 use crate::{say, shown, Status, Trouble};
 
 /// Names of fields that are wider do not move the texts of the others.
 const WIDEST: usize = 16;
 
-pub fn show(source: &Source, keys: &[OsString], out: &mut impl Write) -> Result<Status, Trouble> {
+pub fn show(
+    showing: &Showing,
+    source: &Source,
+    keys: &[OsString],
+    out: &mut impl Write,
+) -> Result<Status, Trouble> {
     let file = source.file()?;
-    let mut showing = Showing {
+    let mut shower = Shower {
         source,
+        errors: Errors::of(source, showing.strict),
         report: Report {
             style: Style::of(Color::Auto),
             room: room(&io::stdout()),
@@ -33,8 +41,11 @@ pub fn show(source: &Source, keys: &[OsString], out: &mut impl Write) -> Result<
         text: Vec::new(),
         out,
     };
-    match showing.file(&file) {
-        Ok(()) => Ok(showing.status),
+    let shown = shower.file(&file);
+    shower.errors.left_out();
+    shower.errors.flush();
+    match shown {
+        Ok(()) => Ok(shower.status.max(shower.errors.status)),
         Err(Stop::Caller(error)) => Err(Trouble::Output(error)),
         Err(Stop::Refused(_)) => Err(Trouble::Input(source.beyond_memory("show"))),
     }
@@ -63,14 +74,28 @@ impl<'a> Wanted<'a> {
         self.keys.is_empty() || found.is_ok()
     }
 
+    /// Whether what a finding is about is to be shown, by the key that the finding has.
+    fn takes_name(&mut self, name: &str) -> bool {
+        if self.takes(name.as_bytes()) {
+            return true;
+        }
+        // The key may have bytes that are not UTF-8, or be very long.
+        let named = self.keys.iter_mut();
+        let named = named.filter(|(key, _)| check::key_name(key) == name);
+        let found = named.map(|(_, is_there)| *is_there = true).count();
+        found > 0
+    }
+
     fn missing(&self) -> impl Iterator<Item = &'a [u8]> + '_ {
         let missing = self.keys.iter().filter(|(_, is_there)| !is_there);
         missing.map(|(key, _)| *key)
     }
 }
 
-struct Showing<'a, W> {
+struct Shower<'a, W> {
     source: &'a Source,
+    /// What is lost in the file is said on standard error.
+    errors: Errors<'a>,
     report: Report,
     wanted: Wanted<'a>,
     /// Nothing has been shown yet.
@@ -81,9 +106,9 @@ struct Showing<'a, W> {
     out: W,
 }
 
-impl<W: Write> Showing<'_, W> {
+impl<W: Write> Shower<'_, W> {
     fn file(&mut self, file: &[u8]) -> Result<(), Stop<io::Error>> {
-        let opened = opened(file, |finding, lines| self.damage(finding, lines))?;
+        let opened = opened(file, |finding, lines| self.found(finding, lines))?;
         let Some(opened) = opened else {
             return Ok(());
         };
@@ -96,12 +121,18 @@ impl<W: Write> Showing<'_, W> {
         self.missing(file, &opened).map_err(Stop::Caller)
     }
 
-    /// A damaged piece, unless it is known to be another entry than those that are asked for.
-    fn damage(&mut self, finding: &Finding, lines: &Lines) -> io::Result<()> {
+    /// What is damaged or lost, unless it is known to be of another entry than those that are asked for.
+    fn found(&mut self, finding: &Finding, lines: &Lines) -> io::Result<()> {
         let key = finding.key.as_deref().unwrap_or_default();
-        if self.wanted.takes(key.as_bytes()) {
-            self.is_first = false;
-            self.finding(finding, lines)?;
+        if !self.wanted.takes_name(key) {
+            return Ok(());
+        }
+        match finding.code {
+            Code::Lint(_) => self.errors.finding(finding, lines),
+            Code::Refusal(_) => {
+                self.is_first = false;
+                self.finding(finding, lines)?;
+            }
         }
         Ok(())
     }

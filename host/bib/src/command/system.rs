@@ -33,21 +33,29 @@ pub fn columns(stream: &impl AsFd) -> Option<usize> {
 }
 
 static IS_STDIN_CLOSED: AtomicBool = AtomicBool::new(false);
+static IS_STDOUT_CLOSED: AtomicBool = AtomicBool::new(false);
 
-/// Looks at standard input before Rust's library does, which opens one that is closed as an empty
-/// file.
-extern "C" fn look_at_stdin() {
-    // SAFETY: the question takes nothing and changes nothing.
-    let is_closed = unsafe { fcntl(0, F_GETFD) } < 0;
-    IS_STDIN_CLOSED.store(is_closed, Ordering::Relaxed);
+/// Looks at standard input and output before Rust's library does, which opens one that is closed as an
+/// empty file.
+extern "C" fn look_at_streams() {
+    for (stream, is_closed) in [(0, &IS_STDIN_CLOSED), (1, &IS_STDOUT_CLOSED)] {
+        // SAFETY: the question takes nothing and changes nothing.
+        let answer = unsafe { fcntl(stream, F_GETFD) };
+        is_closed.store(answer < 0, Ordering::Relaxed);
+    }
 }
 
 /// The system calls what this section names before the program begins.
 #[used]
 #[link_section = ".init_array"]
-static LOOK_AT_STDIN: extern "C" fn() = look_at_stdin;
+static LOOK_AT_STREAMS: extern "C" fn() = look_at_streams;
 
 /// Whether the command was started with its standard input closed.
 pub fn is_stdin_closed() -> bool {
     IS_STDIN_CLOSED.load(Ordering::Relaxed)
+}
+
+/// Whether the command was started with its standard output closed.
+pub fn is_stdout_closed() -> bool {
+    IS_STDOUT_CLOSED.load(Ordering::Relaxed)
 }

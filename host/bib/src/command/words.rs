@@ -51,6 +51,22 @@ pub struct Ways {
     pub english: bool,
 }
 
+/// How `bib show` is asked.
+#[derive(Debug, Clone, Copy, Default, PartialEq, Eq)]
+pub struct Showing {
+    /// Warnings make the exit status 1 too.
+    pub strict: bool,
+}
+
+/// How `bib write` is asked.
+#[derive(Debug, Clone, Copy, Default, PartialEq, Eq)]
+pub struct Writing {
+    /// A field that cannot be resolved is written as it stands in the file.
+    pub keep: bool,
+    /// Warnings make the exit status 1 too.
+    pub strict: bool,
+}
+
 /// What is asked for.
 #[derive(Debug, Clone, PartialEq, Eq)]
 pub enum Words {
@@ -59,8 +75,8 @@ pub enum Words {
     List,
     Check(Asked, Vec<Source>),
     /// The entries of a file, or those of these keys.
-    Show(Source, Vec<OsString>),
-    Write(Source),
+    Show(Showing, Source, Vec<OsString>),
+    Write(Writing, Source),
     Resolve(Ways, Source),
     One(Work, Source),
 }
@@ -92,7 +108,7 @@ pub fn parse(mut words: impl Iterator<Item = OsString>) -> Result<Words, Trouble
         Some("check") => check(words),
         Some("show") => show(words),
         Some("resolve") => resolve(words),
-        Some("write") => one("write", words, Words::Write),
+        Some("write") => write(words),
         Some("rows") => one("rows", words, |source| Words::One(Work::Rows, source)),
         Some("salvage") => one("salvage", words, |source| Words::One(Work::Salvage, source)),
         Some("pack") => one("pack", words, |source| Words::One(Work::Pack, source)),
@@ -118,14 +134,31 @@ fn one(
 /// The first word is the file, and those behind it are keys.
 fn show(words: impl Iterator<Item = OsString>) -> Result<Words, Trouble> {
     let mut rest = Rest::of(words);
-    match rest.next_option().as_deref() {
-        None => {}
-        Some("--help" | "-h") => return Ok(Words::Help),
-        Some(option) => return Err(unknown(option, &["--help"])),
+    let mut showing = Showing::default();
+    while let Some(option) = rest.next_option() {
+        match option.as_str() {
+            "--strict" => showing.strict = true,
+            "--help" | "-h" => return Ok(Words::Help),
+            _ => return Err(unknown(&option, &["--strict", "--help"])),
+        }
     }
     let mut words = rest.files.into_iter();
     let source = words.next().map_or(Source::Stdin, Source::of);
-    Ok(Words::Show(source, words.collect()))
+    Ok(Words::Show(showing, source, words.collect()))
+}
+
+fn write(words: impl Iterator<Item = OsString>) -> Result<Words, Trouble> {
+    let mut rest = Rest::of(words);
+    let mut writing = Writing::default();
+    while let Some(option) = rest.next_option() {
+        match option.as_str() {
+            "--keep" => writing.keep = true,
+            "--strict" => writing.strict = true,
+            "--help" | "-h" => return Ok(Words::Help),
+            _ => return Err(unknown(&option, &["--keep", "--strict", "--help"])),
+        }
+    }
+    Ok(Words::Write(writing, rest.source("write")?))
 }
 
 fn resolve(words: impl Iterator<Item = OsString>) -> Result<Words, Trouble> {

@@ -1,28 +1,34 @@
 //! `bib write`: every entry again as BibTeX, with its names and accents resolved. What cannot be resolved
-//! is said on standard error, and its entry is not written.
+//! is said on standard error, and its entry is not written, unless it is to be kept; and so is what a reader
+//! of the written file gets otherwise. The last line there says how many entries were written.
 
-use std::io::{self, BufWriter, Stderr, Write};
+use std::io::{self, Write};
 
-use bib::check::{Finding, Level, Lines, Stop};
+use bib::check::{key_name, Explainer, Level, Stop};
 use bib::{is_verbatim_field, Refusal, ResolvedValue};
 
-use crate::entries::{opened, Entry, Field, Opened, Places};
-use crate::progress::room;
-use crate::report::Report;
+use crate::back::{Back, Changed};
+use crate::entries::{opened, Entry, Field, Places};
+use crate::errors::Errors;
 use crate::resolve::CHUNK;
 use crate::source::Source;
-use crate::style::{Color, Style};
-use crate::{shown, Status, Trouble, BUFFER};
+use crate::tally::Tally;
+use crate::words::Writing;
+use crate::{Status, Trouble};
 
 /// The kind of a chunk that is a formula.
 const FORMULA: u32 = 2;
 
-pub fn write(source: &Source, out: &mut impl Write) -> Result<Status, Trouble> {
+pub fn write(how: Writing, source: &Source, out: &mut impl Write) -> Result<Status, Trouble> {
     let file = source.file()?;
-    let mut errors = Errors::of(source);
-    let written = written(&file, &mut errors, out);
-    // Where standard error cannot be written, the exit status is left.
-    let _ = errors.to.flush();
+    let mut errors = Errors::of(source, how.strict);
+    let mut tally = Tally::default();
+    let written = written(&file, how, (&mut errors, &mut tally), out);
+    if written.is_ok() {
+        errors.left_out();
+        errors.line(&tally.line());
+    }
+    errors.flush();
     match written {
         Ok(()) => Ok(errors.status),
         Err(Stop::Caller(error)) => Err(Trouble::Output(error)),
@@ -30,60 +36,192 @@ pub fn write(source: &Source, out: &mut impl Write) -> Result<Status, Trouble> {
     }
 }
 
-fn written(file: &[u8], errors: &mut Errors, out: &mut impl Write) -> Result<(), Stop<io::Error>> {
+fn written(
+    file: &[u8],
+    how: Writing,
+    (errors, tally): (&mut Errors, &mut Tally),
+    out: &mut impl Write,
+) -> Result<(), Stop<io::Error>> {
     let opened = opened(file, |finding, lines| {
-        errors.say(finding, lines);
+        errors.finding(finding, lines);
+        tally.found(finding, lines);
         Ok(())
     })?;
-    match opened {
-        Some(opened) => entries(&opened, &Places::of(file), errors, out),
-        None => Ok(()),
+    let Some(opened) = opened else {
+        return Ok(());
+    };
+    tally.damaged = opened.damaged;
+    let mut writer = Writer {
+        how,
+        explainer: opened.explainer()?,
+        places: Places::of(file),
+        errors,
+        tally,
+        back: Back::new(),
+        out,
+    };
+    for entry in opened.entries() {
+        writer.entry(&entry)?;
+    }
+    writer.read_back()?;
+    writer.out.flush().map_err(Stop::Caller)
+}
+
+/// What entries are written with.
+struct Writer<'a, 'e, 's, W> {
+    how: Writing,
+    explainer: Option<Explainer<'a>>,
+    places: Places<'a>,
+    errors: &'e mut Errors<'s>,
+    tally: &'e mut Tally,
+    back: Back<'a, Mark<'a>>,
+    out: W,
+}
+
+/// A field that was written: the number of its entry among those that were, that entry's key, and its
+/// name with its place.
+#[derive(Clone, Copy)]
+struct Mark<'a> {
+    entry: usize,
+    key: &'a [u8],
+    name: &'a [u8],
+    place: usize,
+}
+
+impl<'a, W: Write> Writer<'a, '_, '_, W> {
+    /// Writes an entry, or says why not.
+    fn entry(&mut self, entry: &Entry<'a>) -> Result<(), Stop<io::Error>> {
+        self.unresolved(entry)?;
+        let unwhole = not_whole(entry)?;
+        if let Some(field) = &unwhole {
+            let place = self.places.lines()?.place(field.place);
+            let why = "cannot be written: the braces of its formulas do not match";
+            let message = said_of(field.name, entry.key(), why);
+            self.errors.say(Level::Error, place, &message);
+        }
+        let is_whole = entry.unresolved.is_empty() && unwhole.is_none();
+        if is_whole || self.how.keep {
+            return self.fields(entry);
+        }
+        let line = self.places.lines()?.number(entry.item.span.start);
+        self.tally.leave_out(entry.key(), line);
+        Ok(())
+    }
+
+    /// Says which fields of an entry cannot be resolved, and why.
+    fn unresolved(&mut self, entry: &Entry) -> Result<(), Refusal> {
+        let Some(explainer) = self.explainer.as_ref() else {
+            return Ok(());
+        };
+        for one in entry.unresolved {
+            let lines = self.places.lines()?;
+            let finding = explainer.finding(one, &entry.item, lines);
+            self.errors.finding(&finding, lines);
+        }
+        Ok(())
+    }
+
+    /// An entry as the Rust's lib.rs lays it out, but with type, key and names as the file has them.
+    fn fields(&mut self, entry: &Entry<'a>) -> Result<(), Stop<io::Error>> {
+        let between: &[u8] = if self.tally.written > 0 { b"\n" } else { b"" };
+        self.tally.written += 1;
+        self.put(&[between, b"@", entry.kind(), b"{", entry.key(), b",\n"])?;
+        for field in entry.fields() {
+            match written_as(&field)? {
+                Some(text) => self.resolved(entry, &field, &text)?,
+                None => self.kept(entry, &field)?,
+            }
+        }
+        self.put(&[b"}\n"])
+    }
+
+    fn put(&mut self, parts: &[&[u8]]) -> Result<(), Stop<io::Error>> {
+        let mut parts = parts.iter();
+        let put = parts.try_for_each(|part| self.out.write_all(part));
+        put.map_err(Stop::Caller)
+    }
+
+    /// Writes a field, and sees to it that it is read back.
+    fn resolved(
+        &mut self,
+        entry: &Entry<'a>,
+        field: &Field<'a>,
+        text: &str,
+    ) -> Result<(), Stop<io::Error>> {
+        self.put(&[field.name, b" = ", text.as_bytes(), b",\n"])?;
+        let mark = Mark {
+            entry: self.tally.written,
+            key: entry.key(),
+            name: field.name,
+            place: field.place,
+        };
+        if let Some(value) = field.value {
+            self.back.add(field.name, text, value, mark)?;
+        }
+        if self.back.is_full() {
+            self.read_back()?;
+        }
+        Ok(())
+    }
+
+    /// Writes a field as it stands in the file.
+    fn kept(&mut self, entry: &Entry<'a>, field: &Field<'a>) -> Result<(), Stop<io::Error>> {
+        self.put(&[field.name, b" = ", entry.source_of(field), b",\n"])?;
+        self.tally.kept += 1;
+        let place = self.places.lines()?.place(field.place);
+        let what = "is written as it stands in the file (kept)";
+        let message = said_of(field.name, entry.key(), what);
+        self.errors.say(Level::Warning, place, &message);
+        Ok(())
+    }
+
+    /// Says which fields do not come back.
+    fn read_back(&mut self) -> Result<(), Stop<io::Error>> {
+        for Changed { mark, why } in self.back.read()? {
+            let place = self.places.lines()?.place(mark.place);
+            let what = format!("is changed by writing: {why} (changed)");
+            let message = said_of(mark.name, mark.key, &what);
+            self.errors.say(Level::Warning, place, &message);
+            self.tally.changed(mark.entry);
+        }
+        Ok(())
     }
 }
 
-fn entries(
-    opened: &Opened,
-    places: &Places,
-    errors: &mut Errors,
-    out: &mut impl Write,
-) -> Result<(), Stop<io::Error>> {
-    let explainer = opened.explainer()?;
-    let mut is_first = true;
-    for one in opened.entries() {
-        if let Some(explainer) = explainer.as_ref().filter(|_| !one.unresolved.is_empty()) {
-            let lines = places.lines()?;
-            for unresolved in one.unresolved {
-                errors.say(&explainer.finding(unresolved, &one.item, lines), lines);
-            }
-            continue;
-        }
-        if let Some(field) = not_whole(&one)? {
-            errors.not_whole(&field, places.lines()?);
-            continue;
-        }
-        if !is_first {
-            out.write_all(b"\n").map_err(Stop::Caller)?;
-        }
-        is_first = false;
-        entry(&one, out)?;
+/// A sentence about a field of the entry that has this key.
+fn said_of(name: &[u8], key: &[u8], what: &str) -> String {
+    let (name, key) = (key_name(name), key_name(key));
+    match key.as_str() {
+        "" => format!("`{name}` of the entry {what}"),
+        _ => format!("`{name}` of entry {key} {what}"),
     }
-    Ok(())
 }
 
 /// The first field that would end too early, or not at all, as it is written. A formula is written as it
 /// stands, with braces that may match no others; the braces of other text get backslashes.
 fn not_whole<'a>(entry: &Entry<'a>) -> Result<Option<Field<'a>>, Refusal> {
     for field in entry.fields() {
-        let value = field.value;
-        let is_formula = |row: &[u32]| row[0] == FORMULA;
-        let has_formula = |value: &ResolvedValue| value.rows.chunks_exact(CHUNK).any(is_formula);
-        if let Some(value) = value.filter(has_formula) {
-            if !is_whole(written_as(&field, value)?.as_bytes()) {
-                return Ok(Some(field));
-            }
+        if field.value.is_some_and(has_formula) && written_as(&field)?.is_none() {
+            return Ok(Some(field));
         }
     }
     Ok(None)
+}
+
+fn has_formula(value: ResolvedValue) -> bool {
+    let mut rows = value.rows.chunks_exact(CHUNK);
+    rows.any(|row| row[0] == FORMULA)
+}
+
+/// The value of a field as BibTeX, if it can be resolved and written.
+fn written_as(field: &Field) -> Result<Option<String>, Refusal> {
+    let Some(value) = field.value else {
+        return Ok(None);
+    };
+    let is_verbatim = is_verbatim_field(field.name);
+    let text = bib::to_biblatex_string(value.text.as_bytes(), value.rows, is_verbatim)?;
+    let is_sure = !has_formula(value) || is_whole(text.as_bytes());
+    Ok(is_sure.then_some(text))
 }
 
 /// Whether the brace that ends a text is the one that closes it, as strict reading counts them.
@@ -100,77 +238,6 @@ fn is_whole(text: &[u8]) -> bool {
         place += 1;
     }
     false
-}
-
-/// The value of a field as BibTeX.
-fn written_as(field: &Field, value: ResolvedValue) -> Result<String, Refusal> {
-    let is_verbatim = is_verbatim_field(field.name);
-    bib::to_biblatex_string(value.text.as_bytes(), value.rows, is_verbatim)
-}
-
-/// An entry as the Rust's lib.rs lays it out, but with type, key and names as the file has them.
-fn entry(entry: &Entry, out: &mut impl Write) -> Result<(), Stop<io::Error>> {
-    let mut put = |parts: &[&[u8]]| {
-        let mut parts = parts.iter();
-        parts
-            .try_for_each(|part| out.write_all(part))
-            .map_err(Stop::Caller)
-    };
-    put(&[b"@", entry.kind(), b"{", entry.key(), b",\n"])?;
-    for field in entry.fields() {
-        let Some(value) = field.value else {
-            continue;
-        };
-        let text = written_as(&field, value)?;
-        put(&[field.name, b" = ", text.as_bytes(), b",\n"])?;
-    }
-    put(&[b"}\n"])
-}
-
-/// What is said on standard error, as `bib check` says it.
-struct Errors<'a> {
-    source: &'a Source,
-    report: Report,
-    to: BufWriter<Stderr>,
-    status: Status,
-    /// A finding as it is printed, over and over.
-    text: Vec<u8>,
-}
-
-impl<'a> Errors<'a> {
-    fn of(source: &'a Source) -> Self {
-        let report = Report {
-            style: Style::of(Color::Never),
-            room: room(&io::stderr()),
-            json: false,
-        };
-        Self {
-            source,
-            report,
-            to: BufWriter::with_capacity(BUFFER, io::stderr()),
-            status: Status::Sound,
-            text: Vec::new(),
-        }
-    }
-
-    fn say(&mut self, finding: &Finding, lines: &Lines) {
-        self.text.clear();
-        self.report
-            .finding(self.source, finding, Level::Error, lines, &mut self.text);
-        let _ = self.to.write_all(&self.text);
-        self.status = Status::Findings;
-    }
-
-    /// The library refuses nothing here, so that there is no number.
-    fn not_whole(&mut self, field: &Field, lines: &Lines) {
-        let (source, place) = (self.source, lines.place(field.place));
-        let name: String = shown::characters(field.name).collect();
-        let _ = writeln!(
-            self.to,
-            "{source}:{place}: error: `{name}` cannot be written: the braces of its formulas do not match"
-        );
-        self.status = Status::Findings;
-    }
 }
 
 #[cfg(test)]

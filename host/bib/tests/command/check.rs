@@ -37,7 +37,7 @@ fn every_damaged_piece() {
 @e{k, y = 1.2.3}
              ^
   hint: a value that is not one number or one name stands in braces: write {1.2.3}
-3 entries sound, 3 errors, 0 warnings
+3 entries sound, 3 damaged, 3 errors, 0 warnings
 ",
     );
 }
@@ -57,7 +57,7 @@ fn what_is_not_closed() {
 @b{k, t = {x
           ^
   hint: the brace opened at 5:11 may lack its `}`
-1 entry sound, 2 errors, 0 warnings
+1 entry sound, 2 damaged, 2 errors, 0 warnings
 ",
     );
 }
@@ -76,10 +76,10 @@ fn levels() {
 @a{k,}
    ^
 ";
-    let both = format!("{field}{key}2 entries sound, 0 errors, 2 warnings\n");
+    let both = format!("{field}{key}0 entries sound, 2 with warnings, 0 errors, 2 warnings\n");
     check(file).is(0, &both);
     bib(&["check", "--strict"], file).is(1, &both);
-    let one = format!("{key}2 entries sound, 0 errors, 1 warning\n");
+    let one = format!("{key}1 entry sound, 1 with warnings, 0 errors, 1 warning\n");
     bib(&["check", "--allow", "duplicate-field"], file).is(0, &one);
     bib(&["check", "--strict", "--allow=duplicate-field"], file).is(1, &one);
     let none = "2 entries sound, 0 errors, 0 warnings\n";
@@ -94,7 +94,7 @@ fn levels() {
     )
     .is(0, none);
     let error = field.replace("warning", "error");
-    let denied = format!("{error}{key}2 entries sound, 1 error, 1 warning\n");
+    let denied = format!("{error}{key}0 entries sound, 2 with warnings, 1 error, 1 warning\n");
     bib(&["check", "--deny", "duplicate-field"], file).is(1, &denied);
 }
 
@@ -108,7 +108,7 @@ fn strict_reading_decides() {
 @home}}
 ^
   hint: put a blank before it, so that damage elsewhere in the file does not reach it
-1 entry sound, 0 errors, 1 warning
+0 entries sound, 1 with warnings, 0 errors, 1 warning
 ",
     );
 }
@@ -163,11 +163,11 @@ fn what_cannot_be_resolved() {
 @string{{x = y}}
             ^
   hint: put a text into braces: {{y}}; or define the name in this file: @string{{y = {{..}}}}
-1 entry sound, 3 errors, 0 warnings
+0 entries sound, 1 with unresolved fields, 1 damaged, 3 errors, 0 warnings
 "
     );
     check(file).is(1, &all);
-    let summary = "1 entry sound, 1 error, 0 warnings\n";
+    let summary = "1 entry sound, 1 damaged, 1 error, 0 warnings\n";
     bib(&["check", "--no-resolve"], file).is(1, &format!("{damage}{summary}"));
     bib(&["check", "--no-resolve"], b"@a{k, t = x}").is(0, "1 entry sound, 0 errors, 0 warnings\n");
     bib(&["check", "--json"], b"@a{k, t = x}").is(
@@ -308,12 +308,12 @@ fn several_files() {
         broken.name()
     );
     bib(&["check", sound.name()], b"").is(0, "2 entries sound, 0 errors, 0 warnings\n");
-    let summary = "3 entries sound, 1 error, 0 warnings; findings in 1 of 2 files\n";
+    let summary = "3 entries sound, 1 damaged, 1 error, 0 warnings; findings in 1 of 2 files\n";
     let both = ["check", broken.name(), sound.name()];
     bib(&both, b"").is(1, &format!("{finding}{summary}"));
     let run = bib(&["check", broken.name(), "no/such.bib", "-"], b"@a{o,}");
     let summary =
-        "2 entries sound, 1 error, 0 warnings; findings in 1 of 2 files; 1 file not read\n";
+        "2 entries sound, 1 damaged, 1 error, 0 warnings; findings in 1 of 2 files; 1 file not read\n";
     let want = Run {
         status: Some(2),
         out: format!("{finding}{summary}").into_bytes(),
@@ -333,7 +333,8 @@ fn keys_of_several_files() {
         two.name(),
         one.name()
     );
-    let summary = "4 entries sound, 0 errors, 1 warning; findings in 1 of 2 files\n";
+    let summary =
+        "3 entries sound, 1 with warnings, 0 errors, 1 warning; findings in 1 of 2 files\n";
     bib(&words, b"").is(0, &format!("{warning}{summary}"));
     let summary = "4 entries sound, 0 errors, 0 warnings; findings in 0 of 2 files\n";
     bib(

@@ -26,11 +26,14 @@ fn end(run: &Run) -> String {
 fn hundred_are_shown() {
     let run = bib(&["check"], &repeated(100));
     assert_eq!(lines(&run, "already"), 100);
-    assert_eq!(end(&run), "1 entry sound, 0 errors, 100 warnings");
+    assert_eq!(
+        end(&run),
+        "0 entries sound, 1 with warnings, 0 errors, 100 warnings"
+    );
     let run = bib(&["check"], &repeated(101));
     assert_eq!((run.status, lines(&run, "already")), (Some(0), 100));
     let more = "<stdin>: warning: and 1 more; --all shows every one (duplicate-field)\n";
-    let summary = "1 entry sound, 0 errors, 101 warnings";
+    let summary = "0 entries sound, 1 with warnings, 0 errors, 101 warnings";
     assert_eq!(end(&run), format!("{more}{summary}"));
 }
 
@@ -39,7 +42,10 @@ fn hundred_are_shown() {
 fn every_one() {
     let run = bib(&["check", "--all"], &repeated(250));
     assert_eq!(lines(&run, "already"), 250);
-    assert_eq!(end(&run), "1 entry sound, 0 errors, 250 warnings");
+    assert_eq!(
+        end(&run),
+        "0 entries sound, 1 with warnings, 0 errors, 250 warnings"
+    );
     let run = bib(&["check", "--json"], &repeated(250));
     assert_eq!((lines(&run, "already"), lines(&run, "")), (250, 250));
     bib(&["check", "--quiet", "--strict"], &repeated(250)).is(1, "");
@@ -53,7 +59,10 @@ fn errors_are_shown() {
     assert_eq!(end(&run).lines().count(), 2);
     let run = bib(&["check", "--deny", "duplicate-field"], &repeated(250));
     assert_eq!(lines(&run, "error: "), 250);
-    assert_eq!(end(&run), "1 entry sound, 250 errors, 0 warnings");
+    assert_eq!(
+        end(&run),
+        "0 entries sound, 1 with warnings, 250 errors, 0 warnings"
+    );
 }
 
 /// Each file has its hundred of each name, and what was left out stands behind it.
@@ -87,6 +96,7 @@ fn each_file_and_each_name() {
     assert_eq!(left, want);
     assert_eq!(lines(&run, "(key-in-two-files)"), 102);
     assert_eq!(lines(&run, "(duplicate-field)"), 202);
-    let summary = "302 entries sound, 0 errors, 374 warnings; findings in 2 of 3 files";
+    let summary =
+        "150 entries sound, 152 with warnings, 0 errors, 374 warnings; findings in 2 of 3 files";
     assert_eq!(run.text().lines().last(), Some(summary));
 }

@@ -31,16 +31,22 @@ fn broken_files() {
         let said = kept("out").expect("it is kept");
         let status = i32::from(said.contains(": error: "));
         run(&root, "check", name).is(status, &said);
-        let shown = [("show", kept("show")), ("write", kept("write"))];
-        let is_shown = shown.iter().any(|(_, kept)| kept.is_ok());
+        let (shown, written) = (kept("show"), kept("write"));
         assert!(
-            is_shown || said.lines().count() > 1,
+            shown.is_ok() || written.is_ok() || said.lines().count() > 1,
             "nothing is said of {name}"
         );
-        for (work, kept) in shown {
-            if let Ok(kept) = kept {
-                run(&root, work, name).is(0, &kept);
-            }
+        if let Ok(shown) = shown {
+            run(&root, "show", name).is(0, &shown);
+        }
+        if let Ok(written) = written {
+            let run = run(&root, "write", name);
+            assert_eq!((run.status, run.text()), (Some(0), written.as_str()));
+            assert!(
+                run.err.ends_with(" written, 0 changed, 0 left out\n"),
+                "{}",
+                run.err
+            );
         }
     }
 }

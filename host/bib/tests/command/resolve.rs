@@ -46,13 +46,13 @@ fn every_value() {
     ]
     .concat();
     let month = "refused 12 59 62\n";
-    bib(&["resolve"], file.as_bytes()).is(0, &format!("{want}{month}"));
+    bib(&["resolve"], file.as_bytes()).is(1, &format!("{want}{month}"));
     let none = ["resolve", "--verbatim", "none", "--months=none", "-"];
-    bib(&none, file.as_bytes()).is(0, &format!("{want}{month}"));
+    bib(&none, file.as_bytes()).is(1, &format!("{want}{month}"));
     let month =
         format!("names 1\nchunk 0 {} 59 62\n", hex("May")) + &written("May", "{May}", "{May}");
     let english = ["resolve", "--months", "english"];
-    bib(&english, file.as_bytes()).is(0, &format!("{want}{month}"));
+    bib(&english, file.as_bytes()).is(1, &format!("{want}{month}"));
 }
 
 /// By the Rust's list of names in small or large letters, or all, definitions too.
@@ -80,7 +80,7 @@ fn refused_files() {
     bib(&["resolve"], &vec![b' '; 16_777_216]).is(1, "refused 1 0 0\n");
 }
 
-/// A value that is refused stops no other, and the file is not refused for it.
+/// A value that is refused stops no other, and the file is not refused for it; the exit status says it.
 #[test]
 fn refused_values() {
     let file = "@b{k,t=\"}\",u={$x},w=w}@string{w=w}";
@@ -98,7 +98,7 @@ fn refused_values() {
         "refused 13 32 33".into(),
     ];
     assert_eq!(lines, want);
-    assert_eq!(run.status, Some(0));
+    assert_eq!(run.status, Some(1));
 }
 
 #[test]

@@ -18,8 +18,8 @@ fn rows() {
 #[test]
 fn salvage() {
     let rows = "9 0 0 4\n10 7 4 4\n1 0 4 9\n2 0 5 6\n3 0 7 8\nrows 5\n";
-    bib(&["salvage"], b"@a{\n@b{k,}").is(0, rows);
-    bib(&["salvage"], b"\xff").is(0, "9 0 0 1\n10 2 0 0\nrows 2\n");
+    bib(&["salvage"], b"@a{\n@b{k,}").is(1, rows);
+    bib(&["salvage"], b"\xff").is(1, "9 0 0 1\n10 2 0 0\nrows 2\n");
 }
 
 /// Every number is printed in full: an entry behind ten million blanks.
@@ -103,12 +103,29 @@ fn closed_pipe() {
     shell(line).is(0, &format!("{finding}\n141\n"));
 }
 
+const WORKS: [&str; 7] = [
+    "rows", "check", "pack", "show", "write", "resolve", "--help",
+];
+
 #[test]
 fn full_device() {
-    for work in [
-        "rows", "check", "pack", "show", "write", "resolve", "--help",
-    ] {
+    let sentence = "bib: cannot write the output: no space left on device\n";
+    for work in WORKS {
         let run = shell(&format!("printf '@a{{k,t=1}}' | $BIB {work} > /dev/full"));
-        run.says(2, "bib: cannot write the output: no space left on device\n");
+        run.says(2, sentence);
     }
+}
+
+/// What is printed is lost: that is no success. Whoever asks for no output needs none.
+#[test]
+fn closed_output() {
+    let sentence = "bib: cannot write the output: it is closed\n";
+    for work in WORKS
+        .into_iter()
+        .chain(["salvage", "--version", "check --list"])
+    {
+        shell(&format!("printf '@a{{k,t=1}}' | $BIB {work} >&-")).says(2, sentence);
+    }
+    shell("printf '@a{k,t=1}' | $BIB check -q >&-").says(0, "");
+    shell("printf '@a{k,t=}' | $BIB check -q >&-").says(1, "");
 }
