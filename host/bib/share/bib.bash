@@ -19,10 +19,10 @@ _bib() {
     --color) mapfile -t COMPREPLY < <(compgen -W 'auto always never' -- "$word") ;;
     *)
         case ${COMP_WORDS[1]}:$word in
-        check:-*) mapfile -t COMPREPLY < <(compgen -W '--allow --deny --strict --all --no-resolve --list --json --quiet --color --help' -- "$word") ;;
-        resolve:-*) mapfile -t COMPREPLY < <(compgen -W '--verbatim --months --help' -- "$word") ;;
-        write:-*) mapfile -t COMPREPLY < <(compgen -W '--keep --strict --help' -- "$word") ;;
-        show:-*) mapfile -t COMPREPLY < <(compgen -W '--strict --help' -- "$word") ;;
+        check:-*) mapfile -t COMPREPLY < <(compgen -W '--allow --deny --strict --all --no-resolve --list --json --quiet --color --limit --help' -- "$word") ;;
+        resolve:-*) mapfile -t COMPREPLY < <(compgen -W '--verbatim --months --limit --help' -- "$word") ;;
+        write:-*) mapfile -t COMPREPLY < <(compgen -W '--keep --strict --limit --help' -- "$word") ;;
+        show:-*) mapfile -t COMPREPLY < <(compgen -W '--strict --limit --help' -- "$word") ;;
         show:*)
             if [ "$COMP_CWORD" -eq 2 ]; then
                 mapfile -t COMPREPLY < <(compgen -f -- "$word")

@@ -43,20 +43,28 @@ _bib() {
             '--json[a JSON object for each finding]' \
             '(-q --quiet)'{-q,--quiet}'[no output, only the exit status]' \
             '--color[when to use colour]:when:(auto always never)' \
+            '--limit[so many bytes the values of a file come to]:bytes:' \
             '--help[what can be asked]' \
             '*:file:_files'
     elif [[ $words[1] == resolve ]]; then
         _arguments \
             '--verbatim[which values are verbatim]:which:(none all names)' \
             '--months[the months that are known]:which:(none english)' \
+            '--limit[so many bytes the values of a file come to]:bytes:' \
             '--help[what can be asked]' \
             ':file:_files'
     elif [[ $words[1] == show ]]; then
-        _arguments '--strict[exit status 1 for warnings too]' '--help[what can be asked]' ':file:_files' '*:key:_bib_keys'
+        _arguments \
+            '--strict[exit status 1 for warnings too]' \
+            '--limit[so many bytes the values of a file come to]:bytes:' \
+            '--help[what can be asked]' \
+            ':file:_files' \
+            '*:key:_bib_keys'
     elif [[ $words[1] == write ]]; then
         _arguments \
             '--strict[exit status 1 for warnings too]' \
             '--keep[writes a field that cannot be resolved as it stands]' \
+            '--limit[so many bytes the values of a file come to]:bytes:' \
             '--help[what can be asked]' \
             ':file:_files'
     else

@@ -46,7 +46,7 @@ use std::collections::TryReserveError;
 use std::ops::Range;
 
 use crate::memory::push;
-use crate::{Kind, Reason, Refusal, ResolvedFile, Rows};
+use crate::{Kind, Reason, Refusal, ResolvedFile, Rows, USUAL_LIMIT};
 use encoding::{Encoding, Format};
 use entries::Repeats;
 use text::field_in_value;
@@ -213,10 +213,15 @@ impl Reading {
 
     /// A reading of which is known what cannot be resolved.
     pub fn resolved(file: &[u8]) -> Result<Self, Refusal> {
+        Self::resolved_within(USUAL_LIMIT, file)
+    }
+
+    /// The same, where all values together come to so many bytes at most.
+    pub fn resolved_within(limit: u64, file: &[u8]) -> Result<Self, Refusal> {
         let mut reading = Self::of(file)?;
         // A file that is all damage needs no memory for it.
         if reading.rows.iter().any(|row| row.kind == Kind::Value) {
-            reading.resolve(file)?;
+            reading.resolve(limit, file)?;
         }
         Ok(reading)
     }
@@ -231,8 +236,10 @@ impl Reading {
 
     /// Resolves every value that was read: with the English months, and with the fields of
     /// [`is_verbatim_field`](crate::is_verbatim_field) as verbatim ones. Damaged pieces count as blanks.
-    pub fn resolve(&mut self, file: &[u8]) -> Result<ResolvedFile, Refusal> {
-        let resolved = unresolved::resolve(file, &self.rows)?;
+    /// Values that would pass the limit, as [`resolve_file_within`](crate::resolve_file_within) counts it,
+    /// are not resolved.
+    pub fn resolve(&mut self, limit: u64, file: &[u8]) -> Result<ResolvedFile, Refusal> {
+        let resolved = unresolved::resolve(limit, file, &self.rows)?;
         self.unresolved = Unresolved::all(&self.rows, &resolved)?;
         Ok(resolved)
     }

@@ -4,7 +4,7 @@ use proved::{File, LentForFile, ANSWER_NUMBERS};
 
 use crate::room::Room;
 use crate::row::NUMBERS;
-use crate::{chunk, memory, Kind, Refusal};
+use crate::{chunk, memory, Kind, Reason, Refusal, Rows};
 
 /// What the values of a file are resolved to, in the order of their rows.
 #[derive(Debug, Clone, PartialEq, Eq)]
@@ -45,6 +45,21 @@ impl ResolvedFile {
     pub fn get(&self, index: usize) -> Option<Result<ResolvedValue<'_>, Refusal>> {
         let mut answers = self.answers.chunks_exact(ANSWER_NUMBERS);
         answers.nth(index).map(|answer| self.value(answer))
+    }
+
+    /// Makes refusals for room of these values' answers: they are beyond a limit. The rows are the file's,
+    /// and those of the values rise.
+    pub(crate) fn refuse(&mut self, rows: &Rows, beyond: &[u32]) {
+        let values = (0..).zip(rows.iter());
+        let values = values.filter(|(_, row)| row.kind == Kind::Value);
+        let answers = self.answers.chunks_exact_mut(ANSWER_NUMBERS);
+        let mut beyond = beyond.iter().peekable();
+        for ((index, row), answer) in values.zip(answers) {
+            if beyond.next_if(|value| **value == index).is_some() {
+                let number = Reason::NoRoom.number();
+                answer[..4].copy_from_slice(&[number, 0, row.start as u32, row.end as u32]);
+            }
+        }
     }
 
     fn value(&self, answer: &[u32]) -> Result<ResolvedValue<'_>, Refusal> {

@@ -16,6 +16,7 @@ pub mod check;
 mod chunk;
 mod fields;
 mod filed;
+mod limit;
 mod memory;
 mod months;
 mod refusal;
@@ -25,6 +26,7 @@ mod row;
 pub use chunk::Resolved;
 pub use fields::{is_verbatim_field, verbatim_flags, ENGLISH_MONTHS};
 pub use filed::{ResolvedFile, ResolvedValue};
+pub use limit::USUAL_LIMIT;
 pub use refusal::{Reason, Refusal};
 pub use row::{Kind, Row, Rows};
 
@@ -161,6 +163,25 @@ pub fn resolve_file(
     months: &[(&str, &str)],
 ) -> Result<ResolvedFile, Refusal> {
     filed::resolve(Months::of(months)?.beside(file, rows), flags)
+}
+
+/// The same, but values that would come to more than so many bytes together are not resolved: each has
+/// refusal 16, with its place. A name counts as four bytes beside its text.
+pub fn resolve_file_within(
+    limit: u64,
+    file: &[u8],
+    rows: &Rows,
+    flags: &[bool],
+    months: &[(&str, &str)],
+) -> Result<ResolvedFile, Refusal> {
+    let beyond = limit::beyond(file, rows, limit)?;
+    if beyond.is_empty() {
+        return resolve_file(file, rows.numbers(), flags, months);
+    }
+    let rest = limit::without(rows, &beyond)?;
+    let mut resolved = resolve_file(file, &rest, flags, months)?;
+    resolved.refuse(rows, &beyond);
+    Ok(resolved)
 }
 
 /// A file of n bytes has at most n + 1 rows (`EnoughRoom` of crates/bib/specs/EnoughRoom.antt).

@@ -13,7 +13,7 @@ pub struct AboutError {
 
 /// All refusals that can be errors, by their numbers: those of reading, and from 11 on those of
 /// resolving, which has 1 and 3 too.
-pub const ERRORS: [AboutError; 15] = [
+pub const ERRORS: [AboutError; 16] = [
     AboutError {
         reason: Reason::TooLong,
         meaning: "The file is longer than 16,777,215 bytes; or a literal, a part of a value in braces or quotation marks, is longer than 16,384.",
@@ -87,6 +87,11 @@ pub const ERRORS: [AboutError; 15] = [
     AboutError {
         reason: Reason::TooManyNames,
         meaning: "A value uses more than 4,096 names, those of its definitions counted too.",
+        example: "",
+    },
+    AboutError {
+        reason: Reason::NoRoom,
+        meaning: "With this value resolved, the values of the file would come to more than its limit, mostly because names that stand for long texts are used very often; --limit sets it.",
         example: "",
     },
 ];

@@ -130,14 +130,25 @@ impl<'a> Explainer<'a> {
             _ => refusal.what(),
         }
         .to_string();
-        if let Reason::UnknownAbbreviation | Reason::Cyclic = refusal.reason {
-            what.extend([": `", &self.used(refusal), "`"]);
+        match refusal.reason {
+            Reason::UnknownAbbreviation | Reason::Cyclic => {
+                what.extend([": `", &self.used(refusal), "`"]);
+            }
+            Reason::NoRoom => what = self.beyond_limit(one),
+            _ => {}
         }
         Words {
             mark: self.open_formula(refusal).unwrap_or(refusal.start),
             what,
             hint: self.hint(one, lines),
         }
+    }
+
+    /// Of a value that would pass the limit its field or its definition is named.
+    fn beyond_limit(&self, one: &Unresolved) -> String {
+        let name = self.rows.get(one.value().wrapping_sub(1));
+        let name = name.map_or(String::new(), |row| quoted(&self.file[row.span()]));
+        format!("with `{name}` resolved, the file would pass its limit")
     }
 
     /// Whether a refusal is in the value itself, its end included.
@@ -199,6 +210,10 @@ impl<'a> Explainer<'a> {
             }
             Reason::TooManyNames => {
                 "those of its definitions count too: write the text itself for some".into()
+            }
+            Reason::NoRoom => {
+                "it uses names that stand for long texts too often: write the text itself, or set --limit"
+                    .into()
             }
             Reason::TooLong => "join it of shorter ones by #: {..} # {..}".into(),
             _ => self.end_hint(refusal, lines),

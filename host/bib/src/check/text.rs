@@ -94,7 +94,7 @@ fn may_follow(next: Option<u8>) -> bool {
 
 /// So far a value is followed for its end: text outside entries may have a million of them, each in the
 /// next one.
-const MOST_OF_VALUE: usize = 512;
+const MOST_OF_VALUE: usize = 256;
 
 /// What follows a value in braces or quotes that is closed on its line.
 fn delimited(text: &[u8]) -> Option<&[u8]> {

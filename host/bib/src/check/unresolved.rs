@@ -54,10 +54,10 @@ impl Unresolved {
 /// All values of a file resolved: the English months are known, the fields of the Rust's list are
 /// verbatim, and damaged pieces count as blanks, so that one author's bytes which are not UTF-8 do
 /// not keep another's field from being resolved.
-pub(crate) fn resolve(file: &[u8], rows: &Rows) -> Result<ResolvedFile, Refusal> {
+pub(crate) fn resolve(limit: u64, file: &[u8], rows: &Rows) -> Result<ResolvedFile, Refusal> {
     let flags = verbatim_flags(file, rows, is_verbatim_field)?;
     let file = without_damage(file, rows)?;
-    crate::resolve_file(&file, rows.numbers(), &flags, &ENGLISH_MONTHS)
+    crate::resolve_file_within(limit, &file, rows, &flags, &ENGLISH_MONTHS)
 }
 
 /// The file with blanks for its damaged pieces: all places stay.

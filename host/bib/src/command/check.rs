@@ -142,7 +142,7 @@ impl Checking<'_> {
         if self.asked.no_resolve {
             Reading::of(file)
         } else {
-            Reading::resolved(file)
+            Reading::resolved_within(self.asked.limit.0, file)
         }
     }
 

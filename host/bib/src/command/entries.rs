@@ -7,6 +7,8 @@ use bib::check::{
 };
 use bib::{Kind, Refusal, ResolvedFile, ResolvedValue};
 
+use crate::words::Limit;
+
 /// A file that was read, and whose values are resolved.
 pub struct Opened<'a> {
     file: &'a [u8],
@@ -41,6 +43,7 @@ impl<'a> Places<'a> {
 /// Reads a file and resolves its values; says what is damaged, and what is lost though it is read, as
 /// `bib check` does. Nothing where the file is too long, which is said too.
 pub fn opened<E>(
+    limit: Limit,
     file: &[u8],
     say: impl FnMut(&Finding, &Lines) -> Result<(), E>,
 ) -> Result<Option<Opened<'_>>, Stop<E>> {
@@ -49,7 +52,7 @@ pub fn opened<E>(
     let Ok(mut reading) = reading else {
         return Ok(None);
     };
-    let values = reading.resolve(file)?;
+    let values = reading.resolve(limit.0, file)?;
     Ok(Some(Opened {
         file,
         reading,

@@ -48,6 +48,11 @@ written, changed and left out. Options of the two, where --strict is as above:
   --keep                of `bib write`: an entry with a field that cannot be resolved is written, with
                         that field as it stands in the file
 
+What would make the values of a file come to more than 32,000,000 bytes is not resolved, and said;
+names that stand for long texts can multiply. For `bib check`, show, write and resolve:
+
+  --limit BYTES         another number; a name counts as four, beside its text
+
 All three know the English months, and take these fields for verbatim ones: file, doi, uri, eprint,
 verba, verbb, verbc, pdf, url, urlraw. `bib resolve` knows what it is told:
 

@@ -55,7 +55,7 @@ fn resolved(ways: Ways, file: &[u8], out: &mut impl Write) -> Result<Status, Sto
     } else {
         &[]
     };
-    let resolved = bib::resolve_file(file, rows.numbers(), &flags, months)?;
+    let resolved = bib::resolve_file_within(ways.limit.0, file, &rows, &flags, months)?;
     drop(flags);
     let mut answers = resolved.iter();
     let mut name = None;

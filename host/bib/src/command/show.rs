@@ -14,7 +14,7 @@ use crate::report::Report;
 use crate::source::Source;
 use crate::style::{Color, Style};
 use crate::width::width;
-use crate::words::Showing;
+use crate::words::{Limit, Showing};
 use crate::{say, shown, Status, Trouble};
 
 /// Names of fields that are wider do not move the texts of the others.
@@ -29,6 +29,7 @@ pub fn show(
     let file = source.file()?;
     let mut shower = Shower {
         source,
+        limit: showing.limit,
         errors: Errors::of(source, showing.strict),
         report: Report {
             style: Style::of(Color::Auto),
@@ -94,6 +95,7 @@ impl<'a> Wanted<'a> {
 
 struct Shower<'a, W> {
     source: &'a Source,
+    limit: Limit,
     /// What is lost in the file is said on standard error.
     errors: Errors<'a>,
     report: Report,
@@ -108,7 +110,9 @@ struct Shower<'a, W> {
 
 impl<W: Write> Shower<'_, W> {
     fn file(&mut self, file: &[u8]) -> Result<(), Stop<io::Error>> {
-        let opened = opened(file, |finding, lines| self.found(finding, lines))?;
+        let opened = opened(self.limit, file, |finding, lines| {
+            self.found(finding, lines)
+        })?;
         let Some(opened) = opened else {
             return Ok(());
         };

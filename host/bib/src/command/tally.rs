@@ -76,6 +76,7 @@ impl Tally {
         match left_out.saturating_sub(self.named.len()) {
             0 => {}
             more if self.named.is_empty() => line += &format!(": {more} without a key"),
+            more if self.named.len() < MOST_NAMED => line += &format!(" and {more} without a key"),
             more => line += &format!(" and {more} more"),
         }
         line

@@ -31,6 +31,17 @@ pub struct Asked {
     pub json: bool,
     pub quiet: bool,
     pub color: Color,
+    pub limit: Limit,
+}
+
+/// So many bytes the values of a file may come to.
+#[derive(Debug, Clone, Copy, PartialEq, Eq)]
+pub struct Limit(pub u64);
+
+impl Default for Limit {
+    fn default() -> Self {
+        Self(bib::USUAL_LIMIT)
+    }
 }
 
 /// Which values `bib resolve` takes for verbatim ones.
@@ -49,6 +60,7 @@ pub struct Ways {
     pub verbatim: Verbatim,
     /// The English months are known.
     pub english: bool,
+    pub limit: Limit,
 }
 
 /// How `bib show` is asked.
@@ -56,6 +68,7 @@ pub struct Ways {
 pub struct Showing {
     /// Warnings make the exit status 1 too.
     pub strict: bool,
+    pub limit: Limit,
 }
 
 /// How `bib write` is asked.
@@ -65,6 +78,7 @@ pub struct Writing {
     pub keep: bool,
     /// Warnings make the exit status 1 too.
     pub strict: bool,
+    pub limit: Limit,
 }
 
 /// What is asked for.
@@ -85,7 +99,7 @@ const WORKS: [&str; 8] = [
     "check", "show", "write", "resolve", "rows", "salvage", "pack", "unpack",
 ];
 
-const OPTIONS: [&str; 10] = [
+const OPTIONS: [&str; 11] = [
     "--allow",
     "--deny",
     "--strict",
@@ -95,6 +109,7 @@ const OPTIONS: [&str; 10] = [
     "--json",
     "--quiet",
     "--color",
+    "--limit",
     "--help",
 ];
 
@@ -136,10 +151,12 @@ fn show(words: impl Iterator<Item = OsString>) -> Result<Words, Trouble> {
     let mut rest = Rest::of(words);
     let mut showing = Showing::default();
     while let Some(option) = rest.next_option() {
-        match option.as_str() {
-            "--strict" => showing.strict = true,
-            "--help" | "-h" => return Ok(Words::Help),
-            _ => return Err(unknown(&option, &["--strict", "--help"])),
+        let (name, value) = parts(&option);
+        match (name, &value) {
+            ("--limit", _) => showing.limit = rest.limit(value)?,
+            ("--strict", None) => showing.strict = true,
+            ("--help" | "-h", None) => return Ok(Words::Help),
+            _ => return Err(unknown(&option, &["--strict", "--limit", "--help"])),
         }
     }
     let mut words = rest.files.into_iter();
@@ -151,11 +168,16 @@ fn write(words: impl Iterator<Item = OsString>) -> Result<Words, Trouble> {
     let mut rest = Rest::of(words);
     let mut writing = Writing::default();
     while let Some(option) = rest.next_option() {
-        match option.as_str() {
-            "--keep" => writing.keep = true,
-            "--strict" => writing.strict = true,
-            "--help" | "-h" => return Ok(Words::Help),
-            _ => return Err(unknown(&option, &["--keep", "--strict", "--help"])),
+        let (name, value) = parts(&option);
+        match (name, &value) {
+            ("--limit", _) => writing.limit = rest.limit(value)?,
+            ("--keep", None) => writing.keep = true,
+            ("--strict", None) => writing.strict = true,
+            ("--help" | "-h", None) => return Ok(Words::Help),
+            _ => {
+                let known = ["--keep", "--strict", "--limit", "--help"];
+                return Err(unknown(&option, &known));
+            }
         }
     }
     Ok(Words::Write(writing, rest.source("write")?))
@@ -169,8 +191,12 @@ fn resolve(words: impl Iterator<Item = OsString>) -> Result<Words, Trouble> {
         match (name, &value) {
             ("--verbatim", _) => ways.verbatim = rest.verbatim(value)?,
             ("--months", _) => ways.english = rest.months(value)?,
+            ("--limit", _) => ways.limit = rest.limit(value)?,
             ("--help" | "-h", None) => return Ok(Words::Help),
-            _ => return Err(unknown(&option, &["--verbatim", "--months", "--help"])),
+            _ => {
+                let known = ["--verbatim", "--months", "--limit", "--help"];
+                return Err(unknown(&option, &known));
+            }
         }
     }
     Ok(Words::Resolve(ways, rest.source("resolve")?))
@@ -185,6 +211,7 @@ fn check(words: impl Iterator<Item = OsString>) -> Result<Words, Trouble> {
             ("--allow", _) => asked.levels.allowed.extend(rest.lints(name, value)?),
             ("--deny", _) => asked.levels.denied.extend(rest.lints(name, value)?),
             ("--color", _) => asked.color = rest.color(value)?,
+            ("--limit", _) => asked.limit = rest.limit(value)?,
             ("--strict", None) => asked.levels.strict = true,
             ("--all", None) => asked.all = true,
             ("--no-resolve", None) => asked.no_resolve = true,
@@ -288,6 +315,13 @@ impl<I: Iterator<Item = OsString>> Rest<I> {
             "english" => Ok(true),
             other => Err(unknown(other, &["none", "english"])),
         }
+    }
+
+    fn limit(&mut self, value: Option<String>) -> Result<Limit, Trouble> {
+        let value = self.value("--limit", value)?;
+        let bytes = value.parse().map(Limit);
+        let word = shown::name(value.as_bytes());
+        bytes.map_err(|_| Trouble::Words(format!("`{word}` is no number of bytes")))
     }
 
     fn color(&mut self, value: Option<String>) -> Result<Color, Trouble> {

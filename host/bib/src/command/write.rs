@@ -42,7 +42,7 @@ fn written(
     (errors, tally): (&mut Errors, &mut Tally),
     out: &mut impl Write,
 ) -> Result<(), Stop<io::Error>> {
-    let opened = opened(file, |finding, lines| {
+    let opened = opened(how.limit, file, |finding, lines| {
         errors.finding(finding, lines);
         tally.found(finding, lines);
         Ok(())

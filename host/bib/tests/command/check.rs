@@ -120,7 +120,7 @@ fn list_of_lints() {
     for name in ["field-outside", "duplicate-key", "late-close", "cut-inside"] {
         assert!(run.text().contains(&format!("{name}\n  ")), "{name}");
     }
-    for number in 1..=15 {
+    for number in 1..=16 {
         assert!(run.text().contains(&format!("\n{number}: ")), "{number}");
     }
     assert!(!run.text().contains('\x1b'));

@@ -8,5 +8,6 @@ mod limits;
 mod resolve;
 mod run;
 mod scripts;
+mod slow;
 mod terminal;
 mod words;
