@@ -63,6 +63,8 @@ _bib() {
     elif [[ $words[1] == write ]]; then
         _arguments \
             '--strict[exit status 1 for warnings too]' \
+            '*--only[writes the entries of these keys]:key,..:' \
+            '(-o --output)'{-o,--output}'[writes into this file]:file:_files' \
             '--keep[writes a field that cannot be resolved as it stands]' \
             '--limit[so many bytes the values of a file come to]:bytes:' \
             '--help[what can be asked]' \

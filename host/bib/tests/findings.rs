@@ -43,6 +43,9 @@ fn lints_outside() {
         "1:1",
         "some {words, here}\n@book{k, title = {T}}",
     );
+    let conflict = "<<<<<<< HEAD\n@book{k, a = 1}\n=======\n@book{l, a = 2}\n>>>>>>> mine\n";
+    let line = "<<<<<<<<< not one\n <<<<<<< nor this\n% <<<<<<< HEAD\n=======\n@book{k, a = 1}";
+    lint(Lint::MergeConflict, conflict, "1:1", line);
     lint(Lint::NoEntries, "to be done", "1:1", " \n\t");
     assert_eq!(lints("@string{a = 1}"), []);
     assert_eq!(lints("@preamble{\"x\"}"), []);
@@ -74,6 +77,14 @@ fn lints_of_keys() {
         "@book{year=1997, title = {T}}",
         "1:7",
         "@book{abnt-doi=link, title = {T}}",
+    );
+    for key in ["{k", "\"k\"", "k;"] {
+        let file = format!("@book{{{key}, title = {{T}}}}");
+        lint(Lint::OddKey, &file, "1:7", "@book{k:1, title = {T}}");
+    }
+    assert_eq!(
+        findings(b"@book{{k, title = {T}}}")[0].1.message,
+        "the key {k has a brace in it"
     );
     // Strict reading takes the second entry's beginning for a key.
     lint(
@@ -214,7 +225,7 @@ fn hints(file: &str) -> Vec<String> {
 }
 
 /// A hint, a file that it is for, and one like it where it must not appear.
-const HINTS: [(&str, &str, &str); 52] = [
+const HINTS: [(&str, &str, &str); 58] = [
     (
         "the entry has no key: write `@article{KEY,` before its first field",
         "@article{\n  author = {A},\n}",
@@ -306,7 +317,7 @@ const HINTS: [(&str, &str, &str); 52] = [
     (
         "a comma is missing behind the value of `title`",
         "@book{k,\n  title = {T}\n  year = 1997\n}",
-        "@book{k,\n  title = {T} year = 1997\n}",
+        "@book{k,\n  title = {T} and year\n}",
     ),
     (
         "a comma is missing behind the key k",
@@ -453,6 +464,36 @@ const HINTS: [(&str, &str, &str); 52] = [
         "damage reaches to the next \"@\" that begins a line: put no blanks and no other entry before this one",
         "@book{k, a = 1} @book{l, )}",
         "@book{k, a = 1}\n@book{l, )}",
+    ),
+    (
+        "a comma is missing behind the value of `title`",
+        "@book{k, title = {T} year = 1997}",
+        "@book{k, title = {T} and year}",
+    ),
+    (
+        "a comma is missing behind the value of `year`",
+        "@book{k, year = 1997 month = jan}",
+        "@book{k, year = 1997 or so}",
+    ),
+    (
+        "a list of names is one value: write \"A and B\"",
+        "@book{k, author = \"A\" and \"B\"}",
+        "@book{k, author = \"A\" of \"B\"}",
+    ),
+    (
+        "a brace is missing behind the type: write `@article{a14,`",
+        "@article a14,\n  title = {T}\n}",
+        "@article a14\n  title = {T}\n}",
+    ),
+    (
+        "no blank stands between the \"@\" and the type",
+        "@ book{k, title = {T}}",
+        "@{k, title = {T}}",
+    ),
+    (
+        "this line was left by a merge: keep one of the two versions, and take the lines of `<`, `=` and `>` out",
+        "@book{k,\n<<<<<<< HEAD\n  year = 1,\n=======\n  year = 2,\n>>>>>>> mine\n}",
+        "@book{k,\n<<< HEAD\n  year = 1,\n}",
     ),
     (
         "the value has escape sequences: the file may be ISO-2022-JP",

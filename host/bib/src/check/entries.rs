@@ -140,6 +140,12 @@ impl<E, S: FnMut(&Finding, &super::Lines) -> Result<(), E>> Checker<'_, S> {
         if is_odd(&self.file[row.span()]) {
             return Ok(Some(self.odd_key(row)));
         }
+        if let Some(mark) = odd_mark(&self.file[row.span()]) {
+            let message = format!("the key {} has a {mark} in it", self.shown(row));
+            let hint = "it is a part of the key, for whoever cites it: take it out";
+            let finding = Finding::of_row(Lint::OddKey, row, message);
+            return Ok(Some(finding.with_hint(Some(hint.into()))));
+        }
         let first = self.keys.first_of(index);
         let words = ("the key ", " is that of another entry");
         self.repeated(Lint::DuplicateKey, row, first, words)
@@ -245,6 +251,17 @@ pub(crate) fn is_odd(key: &[u8]) -> bool {
     };
     let equals = key.iter().position(|byte| *byte == b'=');
     key.starts_with(b"@") || equals.is_some_and(is_field)
+}
+
+/// What a key has in it that was surely not meant as a part of it: a brace, a quotation mark around it, or a
+/// semicolon in place of the comma.
+fn odd_mark(key: &[u8]) -> Option<&'static str> {
+    match key {
+        [b'{', ..] => Some("brace"),
+        [b'"', ..] | [.., b'"'] => Some("quotation mark"),
+        [.., b';'] => Some("semicolon"),
+        _ => None,
+    }
 }
 
 fn is_part(kind: Kind) -> bool {

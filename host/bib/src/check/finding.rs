@@ -26,6 +26,7 @@ pub enum Lint {
     FieldOutside,
     EntryOutside,
     NoEntries,
+    MergeConflict,
     DuplicateKey,
     KeyInTwoFiles,
     EmptyKey,
@@ -84,7 +85,7 @@ pub struct About {
 }
 
 /// All lints, in the order of the enum.
-pub const LINTS: [About; 14] = [
+pub const LINTS: [About; 15] = [
     About {
         lint: Lint::FieldOutside,
         name: "field-outside",
@@ -102,6 +103,12 @@ pub const LINTS: [About; 14] = [
         name: "no-entries",
         meaning: "The file is not blank, and has neither entries nor definitions nor a preamble.",
         example: "to be done",
+    },
+    About {
+        lint: Lint::MergeConflict,
+        name: "merge-conflict",
+        meaning: "A line between entries begins with `<<<<<<<`: a merge left two versions of what follows.",
+        example: "<<<<<<< HEAD\n@book{k, title = {A}}\n=======\n@book{l, title = {B}}\n>>>>>>> mine",
     },
     About {
         lint: Lint::DuplicateKey,
@@ -124,7 +131,7 @@ pub const LINTS: [About; 14] = [
     About {
         lint: Lint::OddKey,
         name: "odd-key",
-        meaning: "A key begins with \"@\", or reads like `year=1997`: the next entry, or a field, is taken for the key.",
+        meaning: "A key begins with \"@\", or reads like `year=1997`: the next entry, or a field, is taken for the key. Or it has a brace, a quotation mark or a semicolon at an end.",
         example: "@book{year=1997, title = {T}}",
     },
     About {

@@ -4,7 +4,8 @@
 use super::cursor::Cursor;
 use super::damage::{subject, Story};
 use super::entries::is_odd;
-use super::text::{is_typographic, quoted, without_blanks, TYPOGRAPHIC};
+use super::heads::head_at;
+use super::text::{is_conflict, is_typographic, quoted, without_blanks, CONFLICT, TYPOGRAPHIC};
 use super::trace::{Form, Part, Stage};
 use crate::Reason;
 
@@ -16,7 +17,8 @@ fn some(hint: &str) -> Hint {
 
 impl Story<'_> {
     pub fn hint(&self) -> Hint {
-        let known = self.no_key().or_else(|| self.not_closed());
+        let known = self.conflict().or_else(|| self.no_key());
+        let known = known.or_else(|| self.not_closed());
         known.or_else(|| match self.trace.stage {
             Stage::Outside | Stage::Comment => None,
             Stage::Type | Stage::Opening => self.opening(),
@@ -31,6 +33,17 @@ impl Story<'_> {
 
     fn next(&self) -> Option<u8> {
         self.trace.next_byte()
+    }
+
+    /// Whether the text goes on with this.
+    fn is_next(&self, text: &[u8]) -> bool {
+        self.file[self.place..].starts_with(text)
+    }
+
+    /// A line that a merge left.
+    fn conflict(&self) -> Hint {
+        let line = self.lines.at(self.place);
+        is_conflict(line.text).then(|| CONFLICT.into())
     }
 
     /// Whether the text goes on with `word =`.
@@ -116,7 +129,21 @@ impl Story<'_> {
         if is_prose {
             return some("outside entries an \"@\" begins an entry, in running text too: put the text behind a \"%\"");
         }
-        None
+        self.no_opening()
+    }
+
+    /// `@article a14,` or `@ article{a14,`: what it should have been.
+    fn no_opening(&self) -> Hint {
+        let head = head_at(self.file, self.trace.at..self.file.len())?;
+        let key = quoted(&self.file[head.key?]);
+        if self.trace.stage == Stage::Type {
+            let is_blank = self.next().is_some_and(|byte| byte.is_ascii_whitespace());
+            return is_blank.then(|| "no blank stands between the \"@\" and the type".into());
+        }
+        let kind = quoted(self.trace.text(&self.trace.kind));
+        Some(format!(
+            "a brace is missing behind the type: write `@{kind}{{{key},`"
+        ))
     }
 
     fn preamble(&self) -> Hint {
@@ -223,9 +250,12 @@ impl Story<'_> {
                 "BibTeX takes a quotation mark inside braces inside quotation marks, but this reader ends the value there: write the value in braces",
             );
         }
-        if self.is_on_later_line(part.span.end) {
+        if self.is_on_later_line(part.span.end) || self.is_field_next() {
             let field = quoted(self.trace.text(self.trace.field.as_ref()?));
             return Some(format!("a comma is missing behind the value of `{field}`"));
+        }
+        if part.form == Form::Quoted && self.is_next(b"and ") {
+            return some("a list of names is one value: write \"A and B\"");
         }
         match part.form {
             Form::Number | Form::Name => self.in_braces(part),

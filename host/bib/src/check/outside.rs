@@ -5,7 +5,7 @@ use std::ops::Range;
 use super::encoding::Format;
 use super::finding::{Finding, Lint};
 use super::items::{Item, What};
-use super::text::{entries_outside, fields_outside, key_name, quoted, Lost};
+use super::text::{entries_outside, fields_outside, is_conflict, key_name, quoted, Lost, CONFLICT};
 use super::{Checker, Lines, Stop};
 
 impl<E, S: FnMut(&Finding, &Lines) -> Result<(), E>> Checker<'_, S> {
@@ -17,6 +17,7 @@ impl<E, S: FnMut(&Finding, &Lines) -> Result<(), E>> Checker<'_, S> {
             let comment = text.iter().position(|byte| *byte == b'%');
             let text = &text[..comment.unwrap_or(text.len())];
             self.lost(text, place, before)?;
+            self.conflicts(text, place)?;
             place += text.len();
             let rest = &self.file[place..item.span.end];
             let line = rest.iter().position(|byte| *byte == b'\n');
@@ -41,6 +42,20 @@ impl<E, S: FnMut(&Finding, &Lines) -> Result<(), E>> Checker<'_, S> {
             let (start, end) = (place + span.start, place + span.end);
             let finding = Finding::lint(Lint::EntryOutside, start, end, message);
             self.say(finding.with_key(Some(key_name(&text[key]))))?;
+        }
+        Ok(())
+    }
+
+    /// Lines that a merge left before the first of two versions.
+    fn conflicts(&mut self, text: &[u8], mut place: usize) -> Result<(), Stop<E>> {
+        for line in text.split_inclusive(|byte| *byte == b'\n') {
+            let is_whole = place == 0 || self.file[place - 1] == b'\n';
+            if is_whole && line.starts_with(b"<") && is_conflict(line.trim_ascii_end()) {
+                let message = "two versions that a merge left".to_string();
+                let finding = Finding::lint(Lint::MergeConflict, place, place + 7, message);
+                self.say(finding.with_hint(Some(CONFLICT.into())))?;
+            }
+            place += line.len();
         }
         Ok(())
     }

@@ -190,6 +190,16 @@ fn entry_outside(text: &[u8], brace: usize) -> Option<Lost> {
     })
 }
 
+/// What to do about a line that a merge left.
+pub(crate) const CONFLICT: &str =
+    "this line was left by a merge: keep one of the two versions, and take the lines of `<`, `=` and `>` out";
+
+/// Whether a line is one of those that a merge leaves around two versions.
+pub(crate) fn is_conflict(line: &[u8]) -> bool {
+    let is_named = |mark: &[u8]| line.starts_with(mark) && matches!(line.get(7), None | Some(b' '));
+    is_named(b"<<<<<<<") || is_named(b">>>>>>>") || line.trim_ascii_end() == b"======="
+}
+
 /// What to do about them.
 pub(crate) const TYPOGRAPHIC: &str =
     "typographic quotation marks delimit nothing: write \"..\" or {..}";

@@ -13,7 +13,7 @@ use crate::style::{Color, Style};
 use crate::{shown, Status, BUFFER};
 
 pub struct Errors<'a> {
-    source: &'a Source,
+    pub source: &'a Source,
     report: Report,
     to: BufWriter<Stderr>,
     /// How many warnings of each name there were: as of `bib check`, the first hundred are shown.

@@ -21,6 +21,7 @@ mod style;
 mod system;
 mod tally;
 mod turns;
+mod wanted;
 mod width;
 mod words;
 mod write;
@@ -96,7 +97,11 @@ pub fn say(sentence: &str) {
 }
 
 fn run(words: Words) -> Result<Status, Trouble> {
-    let is_silent = matches!(&words, Words::Check(asked, _) if asked.quiet);
+    let is_silent = match &words {
+        Words::Check(asked, _) => asked.quiet,
+        Words::Write(writing, _) => writing.to.is_some(),
+        _ => false,
+    };
     if is_stdout_closed() && !is_silent {
         return Err(Trouble::Output(io::Error::other("it is closed")));
     }
@@ -111,7 +116,7 @@ fn run(words: Words) -> Result<Status, Trouble> {
             return check::check(&asked, sources);
         }
         Words::Show(showing, source, keys) => show::show(&showing, &source, &keys, &mut out)?,
-        Words::Write(writing, source) => write::write(writing, &source, &mut out)?,
+        Words::Write(writing, source) => write::write(&writing, &source, &mut out)?,
         Words::Resolve(ways, source) => resolve::resolve(ways, &source, &mut out)?,
         Words::One(work, source) => one(work, &source, &mut out)?,
     };

@@ -4,15 +4,15 @@
 use std::ffi::OsString;
 use std::io::{self, Write};
 
-use bib::check::{self, Code, Explainer, Finding, Level, Lines, Stop};
+use bib::check::{Code, Explainer, Finding, Level, Lines, Stop};
 
 use crate::entries::{opened, Entry, Opened, Places};
 use crate::errors::Errors;
-use crate::near::nearest;
 use crate::progress::room;
 use crate::report::Report;
 use crate::source::Source;
 use crate::style::{Color, Style};
+use crate::wanted::Wanted;
 use crate::width::width;
 use crate::words::{Limit, Showing};
 use crate::{say, shown, Status, Trouble};
@@ -49,47 +49,6 @@ pub fn show(
         Ok(()) => Ok(shower.status.max(shower.errors.status)),
         Err(Stop::Caller(error)) => Err(Trouble::Output(error)),
         Err(Stop::Refused(_)) => Err(Trouble::Input(source.beyond_memory("show"))),
-    }
-}
-
-/// The keys that are asked for, in their order, and whether an entry has them.
-struct Wanted<'a> {
-    keys: Vec<(&'a [u8], bool)>,
-}
-
-impl<'a> Wanted<'a> {
-    fn of(keys: &'a [OsString]) -> Self {
-        let keys = keys.iter().map(|key| (key.as_encoded_bytes(), false));
-        let mut keys: Vec<_> = keys.collect();
-        keys.sort_unstable();
-        keys.dedup();
-        Self { keys }
-    }
-
-    /// Whether what has this key is to be shown. Where none is asked for, everything is.
-    fn takes(&mut self, key: &[u8]) -> bool {
-        let found = self.keys.binary_search_by(|(other, _)| (*other).cmp(key));
-        if let Ok(place) = found {
-            self.keys[place].1 = true;
-        }
-        self.keys.is_empty() || found.is_ok()
-    }
-
-    /// Whether what a finding is about is to be shown, by the key that the finding has.
-    fn takes_name(&mut self, name: &str) -> bool {
-        if self.takes(name.as_bytes()) {
-            return true;
-        }
-        // The key may have bytes that are not UTF-8, or be very long.
-        let named = self.keys.iter_mut();
-        let named = named.filter(|(key, _)| check::key_name(key) == name);
-        let found = named.map(|(_, is_there)| *is_there = true).count();
-        found > 0
-    }
-
-    fn missing(&self) -> impl Iterator<Item = &'a [u8]> + '_ {
-        let missing = self.keys.iter().filter(|(_, is_there)| !is_there);
-        missing.map(|(key, _)| *key)
     }
 }
 
@@ -220,20 +179,14 @@ impl<W: Write> Shower<'_, W> {
 
     /// The keys that no entry has.
     fn missing(&mut self, file: &[u8], opened: &Opened) -> io::Result<()> {
-        for key in self.wanted.missing() {
+        let sentences = self.wanted.missing(self.source, file, &opened.reading.rows);
+        if !sentences.is_empty() {
             self.status = Status::Findings;
             // What was shown comes before.
             self.out.flush()?;
-            let known = check::keys(file, &opened.reading.rows);
-            let known = known.filter_map(|(key, _)| std::str::from_utf8(key).ok());
-            let near = nearest(&String::from_utf8_lossy(key), known);
-            let near =
-                near.map(|near| format!(", did you mean `{}`?", shown::name(near.as_bytes())));
-            let (source, key) = (self.source, shown::name(key));
-            say(&format!(
-                "no entry of {source} has the key `{key}`{}",
-                near.unwrap_or_default()
-            ));
+        }
+        for sentence in sentences {
+            say(&sentence);
         }
         Ok(())
     }

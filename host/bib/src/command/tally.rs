@@ -12,8 +12,10 @@ const MOST_NAMED: usize = 100;
 pub struct Tally {
     /// Entries that were written.
     pub written: usize,
-    /// Entries of damaged pieces.
+    /// Entries of damaged pieces, where all of them count.
     pub damaged: usize,
+    /// Those of them that have keys, and were asked for.
+    named_damaged: usize,
     /// Fields that were written as they stand in the file.
     pub kept: usize,
     /// Entries that cannot be resolved, and were left out.
@@ -31,6 +33,7 @@ impl Tally {
     pub fn found(&mut self, finding: &Finding, lines: &Lines) {
         if let (Code::Refusal(_), Some(key)) = (finding.code, &finding.key) {
             self.name(key.as_bytes(), lines.number(finding.mark));
+            self.named_damaged += 1;
         }
     }
 
@@ -68,7 +71,7 @@ impl Tally {
                 counted(self.kept, "field", "fields")
             );
         }
-        let left_out = self.damaged + self.unresolved;
+        let left_out = self.damaged.max(self.named_damaged) + self.unresolved;
         line += &format!(", {left_out} left out");
         if !self.named.is_empty() {
             line += &format!(": {}", self.named.join(", "));

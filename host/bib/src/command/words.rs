@@ -1,6 +1,7 @@
 //! The words that the command is given.
 
 use std::ffi::OsString;
+use std::path::PathBuf;
 
 use bib::check::{Lint, LINTS};
 
@@ -72,8 +73,12 @@ pub struct Showing {
 }
 
 /// How `bib write` is asked.
-#[derive(Debug, Clone, Copy, Default, PartialEq, Eq)]
+#[derive(Debug, Clone, Default, PartialEq, Eq)]
 pub struct Writing {
+    /// The entries that are written; all where there are none.
+    pub only: Vec<OsString>,
+    /// The file that is written, in place of standard output.
+    pub to: Option<PathBuf>,
     /// A field that cannot be resolved is written as it stands in the file.
     pub keep: bool,
     /// Warnings make the exit status 1 too.
@@ -171,11 +176,15 @@ fn write(words: impl Iterator<Item = OsString>) -> Result<Words, Trouble> {
         let (name, value) = parts(&option);
         match (name, &value) {
             ("--limit", _) => writing.limit = rest.limit(value)?,
+            ("--only", _) => writing.only.extend(rest.keys(value)?),
+            ("--output" | "-o", _) => writing.to = Some(rest.path(name, value)?),
             ("--keep", None) => writing.keep = true,
             ("--strict", None) => writing.strict = true,
             ("--help" | "-h", None) => return Ok(Words::Help),
             _ => {
-                let known = ["--keep", "--strict", "--limit", "--help"];
+                let known = [
+                    "--only", "--output", "--keep", "--strict", "--limit", "--help",
+                ];
                 return Err(unknown(&option, &known));
             }
         }
@@ -315,6 +324,21 @@ impl<I: Iterator<Item = OsString>> Rest<I> {
             "english" => Ok(true),
             other => Err(unknown(other, &["none", "english"])),
         }
+    }
+
+    /// The name of a file, which need not be UTF-8.
+    fn path(&mut self, name: &str, value: Option<String>) -> Result<PathBuf, Trouble> {
+        let missing = || Trouble::Words(format!("`{name}` wants a file behind it"));
+        let path = value.map(PathBuf::from);
+        let next = || self.words.next().map(PathBuf::from);
+        path.or_else(next).ok_or_else(missing)
+    }
+
+    /// Keys, with commas between them: no key has one.
+    fn keys(&mut self, value: Option<String>) -> Result<Vec<OsString>, Trouble> {
+        let value = self.value("--only", value)?;
+        let keys = value.split(',').filter(|key| !key.is_empty());
+        Ok(keys.map(OsString::from).collect())
     }
 
     fn limit(&mut self, value: Option<String>) -> Result<Limit, Trouble> {

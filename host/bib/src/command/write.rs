@@ -2,7 +2,9 @@
 //! is said on standard error, and its entry is not written, unless it is to be kept; and so is what a reader
 //! of the written file gets otherwise. The last line there says how many entries were written.
 
-use std::io::{self, Write};
+use std::fs::{self, File};
+use std::io::{self, BufWriter, Write};
+use std::path::Path;
 
 use bib::check::{key_name, Explainer, Level, Stop};
 use bib::{is_verbatim_field, Refusal, ResolvedValue};
@@ -11,65 +13,129 @@ use crate::back::{Back, Changed};
 use crate::entries::{opened, Entry, Field, Places};
 use crate::errors::Errors;
 use crate::resolve::CHUNK;
-use crate::source::Source;
+use crate::source::{plain, Source};
 use crate::tally::Tally;
+use crate::wanted::Wanted;
 use crate::words::Writing;
-use crate::{Status, Trouble};
+use crate::{say, shown, Status, Trouble, BUFFER};
 
 /// The kind of a chunk that is a formula.
 const FORMULA: u32 = 2;
 
-pub fn write(how: Writing, source: &Source, out: &mut impl Write) -> Result<Status, Trouble> {
+pub fn write(how: &Writing, source: &Source, out: &mut impl Write) -> Result<Status, Trouble> {
     let file = source.file()?;
-    let mut errors = Errors::of(source, how.strict);
-    let mut tally = Tally::default();
-    let written = written(&file, how, (&mut errors, &mut tally), out);
-    if written.is_ok() {
-        errors.left_out();
-        errors.line(&tally.line());
+    match &how.to {
+        None => written(&file, how, source, out),
+        Some(path) => {
+            let mut out = BufWriter::with_capacity(BUFFER, output(path, source)?);
+            let written = written(&file, how, source, &mut out);
+            written.map_err(|trouble| match trouble {
+                Trouble::Output(error) => cannot_write(path, &error),
+                other => other,
+            })
+        }
     }
-    errors.flush();
+}
+
+/// The file that is to be written. It is not the one that is read: what is left out of it would be lost.
+fn output(path: &Path, source: &Source) -> Result<File, Trouble> {
+    if let Source::Named(read) = source {
+        let same = fs::canonicalize(path).ok().zip(fs::canonicalize(read).ok());
+        if same.is_some_and(|(one, other)| one == other) {
+            let sentence = format!("{source} is the file that is read: write another one");
+            return Err(Trouble::Input(sentence));
+        }
+    }
+    File::create(path).map_err(|error| cannot_write(path, &error))
+}
+
+fn cannot_write(path: &Path, error: &io::Error) -> Trouble {
+    let name = shown::name(path.as_os_str().as_encoded_bytes());
+    Trouble::Input(format!("cannot write {name}: {}", plain(error)))
+}
+
+fn written(
+    file: &[u8],
+    how: &Writing,
+    source: &Source,
+    out: &mut impl Write,
+) -> Result<Status, Trouble> {
+    let mut said = Said {
+        errors: Errors::of(source, how.strict),
+        tally: Tally::default(),
+        wanted: Wanted::of(&how.only),
+        missing: Vec::new(),
+    };
+    let written = entries(file, how, &mut said, out);
+    if written.is_ok() {
+        said.errors.left_out();
+        said.errors.line(&said.tally.line());
+    }
+    said.errors.flush();
+    for sentence in &said.missing {
+        say(sentence);
+        said.errors.found(Level::Error);
+    }
     match written {
-        Ok(()) => Ok(errors.status),
+        Ok(()) => Ok(said.errors.status),
         Err(Stop::Caller(error)) => Err(Trouble::Output(error)),
         Err(Stop::Refused(_)) => Err(Trouble::Input(source.beyond_memory("write"))),
     }
 }
 
-fn written(
+/// What is said beside what is written.
+struct Said<'a> {
+    errors: Errors<'a>,
+    tally: Tally,
+    wanted: Wanted<'a>,
+    /// A sentence for each key that no entry has.
+    missing: Vec<String>,
+}
+
+fn entries(
     file: &[u8],
-    how: Writing,
-    (errors, tally): (&mut Errors, &mut Tally),
+    how: &Writing,
+    said: &mut Said,
     out: &mut impl Write,
 ) -> Result<(), Stop<io::Error>> {
     let opened = opened(how.limit, file, |finding, lines| {
-        errors.finding(finding, lines);
-        tally.found(finding, lines);
+        let key = finding.key.as_deref().unwrap_or_default();
+        if said.wanted.takes_name(key) {
+            said.errors.finding(finding, lines);
+            said.tally.found(finding, lines);
+        }
         Ok(())
     })?;
     let Some(opened) = opened else {
         return Ok(());
     };
-    tally.damaged = opened.damaged;
+    if how.only.is_empty() {
+        said.tally.damaged = opened.damaged;
+    }
     let mut writer = Writer {
-        how,
+        keeps: how.keep,
         explainer: opened.explainer()?,
         places: Places::of(file),
-        errors,
-        tally,
+        errors: &mut said.errors,
+        tally: &mut said.tally,
         back: Back::new(),
         out,
     };
     for entry in opened.entries() {
-        writer.entry(&entry)?;
+        if said.wanted.takes(entry.key()) {
+            writer.entry(&entry)?;
+        }
     }
     writer.read_back()?;
+    let rows = &opened.reading.rows;
+    said.missing = said.wanted.missing(writer.errors.source, file, rows);
     writer.out.flush().map_err(Stop::Caller)
 }
 
 /// What entries are written with.
 struct Writer<'a, 'e, 's, W> {
-    how: Writing,
+    /// A field that cannot be resolved is written as it stands.
+    keeps: bool,
     explainer: Option<Explainer<'a>>,
     places: Places<'a>,
     errors: &'e mut Errors<'s>,
@@ -100,7 +166,7 @@ impl<'a, W: Write> Writer<'a, '_, '_, W> {
             self.errors.say(Level::Error, place, &message);
         }
         let is_whole = entry.unresolved.is_empty() && unwhole.is_none();
-        if is_whole || self.how.keep {
+        if is_whole || self.keeps {
             return self.fields(entry);
         }
         let line = self.places.lines()?.number(entry.item.span.start);

@@ -257,6 +257,47 @@ y = {1},
     );
 }
 
+/// For the compositor: some entries, into a file.
+#[test]
+fn write_some_into_a_file() {
+    let file = b"@a{k, t = {x}}\n@b{l, t = }\n@c{m, t = {y}}\n@d{n, t = z}\n";
+    let out = "@a{k,\nt = {x},\n}\n\n@c{m,\nt = {y},\n}\n";
+    let last = "2 entries written, 0 changed, 0 left out\n";
+    writes_by(&["write", "--only", "m,k"], file, 0, out, last);
+    writes_by(&["write", "--only=m", "--only=k"], file, 0, out, last);
+    let run = bib(&["write", "--only", "k,l,n,mm"], file);
+    assert_eq!((run.status, run.text()), (Some(1), "@a{k,\nt = {x},\n}\n"));
+    let end = "\
+<stdin>: 1 entry written, 0 changed, 2 left out: l (line 2), n (line 4)
+bib: no entry of <stdin> has the key `mm`, did you mean `k`?
+";
+    let end = end.replace("`k`?", "`m`?");
+    assert!(run.err.ends_with(&end), "{}", run.err);
+    let written = Scratch::new("written.bib", b"before");
+    let words = ["write", "-o", written.name(), "--only", "k,m"];
+    writes_by(&words, file, 0, "", last);
+    assert_eq!(std::fs::read_to_string(&written.0).unwrap(), out);
+    let name = written.name();
+    shell(&format!(
+        "printf '@a{{k,}}' | $BIB write --output={name} >&- 2> /dev/null"
+    ))
+    .is(0, "");
+    assert_eq!(std::fs::read_to_string(&written.0).unwrap(), "@a{k,\n}\n");
+    let own = format!("bib: {name} is the file that is read: write another one\n");
+    bib(&["write", name, "-o", name], b"").says(2, &own);
+    assert_eq!(std::fs::read_to_string(&written.0).unwrap(), "@a{k,\n}\n");
+    let folder = "bib: cannot write /: is a directory\n";
+    bib(&["write", "-o", "/"], file).says(2, folder);
+    let run = bib(&["write", "-o", "/dev/full"], file);
+    assert_eq!(run.status, Some(2));
+    let full = "bib: cannot write /dev/full: no space left on device\n";
+    assert!(run.err.ends_with(full), "{}", run.err);
+    bib(&["write", "-o"], b"").says(
+        2,
+        "bib: `-o` wants a file behind it; `bib --help` shows what can be asked\n",
+    );
+}
+
 /// It is written as the Rust writes it, and said what that does to a reader.
 #[test]
 fn write_changed() {
