@@ -614,7 +614,9 @@ fn encodings() {
         .collect();
     assert!(hint(&utf16).ends_with("try `iconv -f UTF-16 -t UTF-8`"));
     assert!(hint(&[b"\xff\xfe", &utf16[..]].concat()).ends_with("try `iconv -f UTF-16 -t UTF-8`"));
-    assert_eq!(findings(&utf16).len(), 1);
+    // Each of its entries is named.
+    let keys = findings(&utf16).into_iter().map(|(_, finding)| finding.key);
+    assert!(keys.eq([None, Some("k".to_string()), Some("l".to_string())]));
     let one = findings(b"@a{k, t = {G\xfc}}");
     assert_eq!(one[0].1.message, "bytes that are not UTF-8, in entry k");
     assert_eq!(one[0].1.key.as_deref(), Some("k"));

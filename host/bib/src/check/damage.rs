@@ -8,7 +8,7 @@ use super::items::Item;
 use super::text::{key_name, quoted};
 use super::trace::{Part, Stage, Trace};
 use super::{Checker, Lines, Stop};
-use crate::{Reason, Row};
+use crate::{Reason, Refusal, Row};
 
 impl<E, S: FnMut(&Finding, &Lines) -> Result<(), E>> Checker<'_, S> {
     pub(crate) fn damage(&mut self, item: &Item) -> Result<(), Stop<E>> {
@@ -64,27 +64,53 @@ impl<E, S: FnMut(&Finding, &Lines) -> Result<(), E>> Checker<'_, S> {
     /// Counts the entries of a damaged piece, and names those that the damage is not in: they are lost as
     /// well. The one that begins at this place has been named.
     fn lost_with_it(&mut self, piece: Row, cause: Row, named: usize) -> Result<(), Stop<E>> {
+        if self.encoding.is_utf16() {
+            return self.lost_in_utf16(piece, cause);
+        }
         let mut hint = Some(OWN_LINE.to_string());
         for head in Heads::of(self.file, piece.span()) {
             self.damaged += 1;
-            if head.at == named {
-                continue;
+            if head.at != named {
+                let key = head.key.map(|key| &self.file[key]);
+                let finding = self.lost_entry(head.at, key, cause)?;
+                self.say(finding.with_hint(hint.take()))?;
             }
-            let key = head.key.clone().map(|key| &self.file[key]);
-            let subject = key.map_or("the entry".into(), |key| ["entry ", &quoted(key)].concat());
-            let (place, what) = (self.lines()?.place(cause.start), reason_of(cause).what());
-            let finding = Finding {
-                code: Code::Refusal(reason_of(cause)),
-                start: head.at,
-                end: head.key.map_or(head.at + 1, |key| key.end),
-                mark: head.at,
-                message: format!("{subject} is lost with the damage at {place}: {what}"),
-                hint: hint.take(),
-                key: key.map(key_name),
-            };
+        }
+        Ok(())
+    }
+
+    /// The same where a zero stands between the characters: the entries are found without these.
+    fn lost_in_utf16(&mut self, piece: Row, cause: Row) -> Result<(), Stop<E>> {
+        let mut text = Vec::new();
+        text.try_reserve_exact(piece.end - piece.start)?;
+        let bytes = piece.span().filter(|place| self.file[*place] != 0);
+        text.extend(bytes.clone().map(|place| self.file[place]));
+        let (mut places, mut passed) = (bytes, 0);
+        for head in Heads::of(&text, 0..text.len()) {
+            self.damaged += 1;
+            let at = places.nth(head.at - passed).unwrap_or(piece.start);
+            passed = head.at + 1;
+            let key = head.key.map(|key| &text[key]);
+            let finding = self.lost_entry(at, key, cause)?;
             self.say(finding)?;
         }
         Ok(())
+    }
+
+    /// What is said of an entry that is lost with the damage of its piece.
+    fn lost_entry(&self, at: usize, key: Option<&[u8]>, cause: Row) -> Result<Finding, Refusal> {
+        let subject = key.map_or("the entry".into(), |key| ["entry ", &quoted(key)].concat());
+        let (place, reason) = (self.lines()?.place(cause.start), reason_of(cause));
+        let what = reason.what();
+        Ok(Finding {
+            code: Code::Refusal(reason),
+            start: at,
+            end: at + 1,
+            mark: at,
+            message: format!("{subject} is lost with the damage at {place}: {what}"),
+            hint: None,
+            key: key.map(key_name),
+        })
     }
 }
 

@@ -51,9 +51,13 @@ impl Encoding {
         encoding
     }
 
+    pub fn is_utf16(&self) -> bool {
+        self.guess == Some(Guess::Utf16)
+    }
+
     /// Whether a damaged piece is one that the finding about the encoding speaks of.
     pub fn explains(&self, cause: Row) -> bool {
-        self.guess == Some(Guess::Utf16) || is_not_utf8(cause)
+        self.is_utf16() || is_not_utf8(cause)
     }
 }
 

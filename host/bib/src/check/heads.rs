@@ -96,8 +96,9 @@ pub(crate) fn head_at(file: &[u8], text: Range<usize>) -> Option<Head> {
         return None;
     }
     cursor.white();
-    let is_open = cursor.eat(b'{');
-    let is_begun = is_open || cursor.eat(b'(') || cursor.eat(b'"') || begins_line(file, at);
+    // The reader takes a quotation mark for a brace.
+    let is_open = cursor.eat(b'{') || cursor.eat(b'"');
+    let is_begun = is_open || cursor.eat(b'(') || begins_line(file, at);
     cursor.white();
     let key = cursor.key();
     cursor.white();
