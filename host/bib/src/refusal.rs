@@ -56,6 +56,29 @@ impl Reason {
         self as u32
     }
 
+    /// A short name, for programs that would rather not know numbers.
+    pub fn name(self) -> &'static str {
+        match self {
+            Self::TooLong => "too-long",
+            Self::NotUtf8 => "not-utf8",
+            Self::UnexpectedEof => "unexpected-end",
+            Self::ExpectedIdentifier => "expected-identifier",
+            Self::ExpectedOpeningBrace => "expected-opening-brace",
+            Self::ExpectedClosingBrace => "expected-closing-brace",
+            Self::ExpectedComma => "expected-comma",
+            Self::ExpectedQuotationMark => "expected-quotation-mark",
+            Self::ExpectedEquals => "expected-equals",
+            Self::UnexpectedDecimalPoint => "unexpected-decimal-point",
+            Self::UnexpectedClosingBrace => "unexpected-closing-brace",
+            Self::UnknownAbbreviation => "unknown-name",
+            Self::Cyclic => "cyclic-name",
+            Self::TooDeep => "too-deep",
+            Self::TooManyNames => "too-many-names",
+            Self::NoRoom => "no-room",
+            Self::BadRows => "bad-rows",
+        }
+    }
+
     /// What is wrong, in the words that are used wherever it is said.
     pub fn what(self) -> &'static str {
         match self {

@@ -116,15 +116,23 @@ fn put_number(number: usize, out: &mut Vec<u8>) {
 }
 
 fn json(spot: &Spot, finding: &Finding, level: Level) -> String {
-    let object = Object::new()
-        .text("file", &String::from_utf8_lossy(spot.source.name()))
+    let name = spot.source.name();
+    let mut object = Object::new().text("file", &String::from_utf8_lossy(name));
+    if std::str::from_utf8(name).is_err() {
+        // By the text alone the file could not be found again.
+        let digits = name.iter().map(|byte| format!("{byte:02x}"));
+        object = object.text("file_hex", &digits.collect::<String>());
+    }
+    let object = object
         .number("line", spot.line)
         .number("column", spot.column)
         .number("start", finding.start)
         .number("end", finding.end);
     let object = match finding.code {
-        Code::Refusal(reason) => object.number("number", reason.number() as usize),
-        Code::Lint(lint) => object.text("name", lint.name()),
+        Code::Refusal(reason) => object
+            .number("number", reason.number() as usize)
+            .text("name", reason.name()),
+        Code::Lint(lint) => object.maybe("number", None).text("name", lint.name()),
     };
     object
         .text("level", level.name())

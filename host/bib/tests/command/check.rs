@@ -132,10 +132,10 @@ fn json() {
     bib(&["check", "--json"], file).is(
         1,
         "\
-{\"file\":\"<stdin>\",\"line\":1,\"column\":11,\"start\":10,\"end\":10,\"number\":3,\"level\":\"error\",\
+{\"file\":\"<stdin>\",\"line\":1,\"column\":11,\"start\":10,\"end\":10,\"number\":3,\"name\":\"unexpected-end\",\"level\":\"error\",\
 \"message\":\"expected a value, in entry k\",\
 \"hint\":\"the field `t` has no value: write `t = {}`, or take it out\",\"key\":\"k\"}
-{\"file\":\"<stdin>\",\"line\":2,\"column\":14,\"start\":25,\"end\":26,\"name\":\"duplicate-field\",\
+{\"file\":\"<stdin>\",\"line\":2,\"column\":14,\"start\":25,\"end\":26,\"number\":null,\"name\":\"duplicate-field\",\
 \"level\":\"warning\",\"message\":\"the entry has the field `y` already, at 2:7\",\"hint\":null,\"key\":\"l\"}
 ",
     );
@@ -173,7 +173,7 @@ fn what_cannot_be_resolved() {
     bib(&["check", "--json"], b"@a{k, t = x}").is(
         1,
         "\
-{\"file\":\"<stdin>\",\"line\":1,\"column\":11,\"start\":10,\"end\":11,\"number\":12,\"level\":\"error\",\
+{\"file\":\"<stdin>\",\"line\":1,\"column\":11,\"start\":10,\"end\":11,\"number\":12,\"name\":\"unknown-name\",\"level\":\"error\",\
 \"message\":\"a name without a definition: `x`, in entry k\",\
 \"hint\":\"put a text into braces: {x}; or define the name in this file: @string{x = {..}}\",\"key\":\"k\"}
 ",
@@ -430,6 +430,17 @@ fn names_of_files() {
         run.text()
     );
     assert_eq!((run.status, run.err.as_str()), (Some(1), ""));
+    // In JSON its bytes are there too, where it is not UTF-8.
+    let json = bib(
+        &[
+            OsStr::new("check"),
+            OsStr::new("--json"),
+            file.0.as_os_str(),
+        ],
+        b"",
+    );
+    let hex = "6f6464ff1b5b324a2e626962\",\"line\":1,";
+    assert!(json.text().contains(hex), "{}", json.text());
     let run = bib(&["check", "no\x1bsuch"], b"");
     run.says(
         2,
