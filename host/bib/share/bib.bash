@@ -20,7 +20,7 @@ _bib() {
     *)
         case ${COMP_WORDS[1]}:$word in
         check:-*) mapfile -t COMPREPLY < <(compgen -W '--allow --deny --strict --all --no-resolve --list --json --quiet --color --limit --help' -- "$word") ;;
-        resolve:-*) mapfile -t COMPREPLY < <(compgen -W '--verbatim --months --limit --help' -- "$word") ;;
+        resolve:-*) mapfile -t COMPREPLY < <(compgen -W '--verbatim --months --salvage --limit --help' -- "$word") ;;
         write:-*) mapfile -t COMPREPLY < <(compgen -W '--only --output --keep --strict --limit --help' -- "$word") ;;
         show:-*) mapfile -t COMPREPLY < <(compgen -W '--strict --limit --help' -- "$word") ;;
         show:*)

@@ -50,6 +50,7 @@ _bib() {
         _arguments \
             '--verbatim[which values are verbatim]:which:(none all names)' \
             '--months[the months that are known]:which:(none english)' \
+            '--salvage[reads piece by piece]' \
             '--limit[so many bytes the values of a file come to]:bytes:' \
             '--help[what can be asked]' \
             ':file:_files'

@@ -39,7 +39,7 @@ pub use finding::{About, Code, Finding, Level, Lint, Lints, LINTS};
 pub use items::{Item, Items, What};
 pub use lines::{Line, Lines};
 pub use text::key_name;
-pub use unresolved::Unresolved;
+pub use unresolved::{without_damage, Unresolved};
 
 use std::cell::OnceCell;
 use std::collections::TryReserveError;

@@ -60,8 +60,9 @@ pub(crate) fn resolve(limit: u64, file: &[u8], rows: &Rows) -> Result<ResolvedFi
     crate::resolve_file_within(limit, &file, rows, &flags, &ENGLISH_MONTHS)
 }
 
-/// The file with blanks for its damaged pieces: all places stay.
-fn without_damage<'a>(file: &'a [u8], rows: &Rows) -> Result<Cow<'a, [u8]>, TryReserveError> {
+/// The file with blanks for its damaged pieces, by the rows of salvage: all places stay, so that what was
+/// read can be resolved by the same rows.
+pub fn without_damage<'a>(file: &'a [u8], rows: &Rows) -> Result<Cow<'a, [u8]>, TryReserveError> {
     let damage = || rows.iter().filter(|row| row.kind == Kind::Damage);
     if damage().next().is_none() {
         return Ok(Cow::Borrowed(file));

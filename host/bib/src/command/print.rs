@@ -60,9 +60,10 @@ verba, verbb, verbc, pdf, url, urlraw. `bib resolve` knows what it is told:
 
   --verbatim WHICH      the verbatim values: none, all, or names for those of the fields above
   --months WHICH        the months that are known: none or english
+  --salvage             reads piece by piece; a damaged one is a line `damaged NUMBER START END`
 
-It prints a line `field xNAME START END` or `def xNAME START END` for each value, and then `refused
-NUMBER START END`; or `names N`, `chunk KIND xTEXT START END` for each chunk, and how these are
+It prints a line `entry xKEY START END` for each entry, and `field xNAME START END` or `def xNAME
+START END` for each value, and then `refused NUMBER START END`; or `names N`, `chunk KIND xTEXT START END` for each chunk, and how these are
 written: `verbatim xTEXT`, and `bib0 xTEXT` and `bib1 xTEXT` as BibTeX, not verbatim and verbatim.
 Names and texts are in hex behind the x. The kinds of chunks: 0 normal, 1 verbatim, 2 formula.
 

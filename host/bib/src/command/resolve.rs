@@ -3,6 +3,7 @@
 
 use std::io::{self, Write};
 
+use bib::check::without_damage;
 use bib::{is_verbatim_field, Kind, Reason, Refusal, ResolvedValue, Row, Rows, ENGLISH_MONTHS};
 
 use crate::print;
@@ -48,20 +49,31 @@ impl From<io::Error> for Stop {
 
 /// Prints every value. One that is refused stops no other, but the exit status says it.
 fn resolved(ways: Ways, file: &[u8], out: &mut impl Write) -> Result<Status, Stop> {
-    let rows = bib::read(file)?;
+    let rows = if ways.salvage {
+        bib::salvage(file)?
+    } else {
+        bib::read(file)?
+    };
     let flags = flags(ways.verbatim, file, &rows)?;
+    let sound = without_damage(file, &rows).map_err(Refusal::from)?;
     let months = if ways.english {
         &ENGLISH_MONTHS[..]
     } else {
         &[]
     };
-    let resolved = bib::resolve_file_within(ways.limit.0, file, &rows, &flags, months)?;
-    drop(flags);
+    let resolved = bib::resolve_file_within(ways.limit.0, &sound, &rows, &flags, months)?;
+    drop((flags, sound));
     let mut answers = resolved.iter();
-    let mut name = None;
+    let (mut name, mut outer) = (None, None);
     let mut status = Status::Sound;
     for row in rows.iter() {
         match row.kind {
+            Kind::Entry | Kind::Damage => outer = Some(row),
+            Kind::Key => entry(file, outer, row, out)?,
+            Kind::Cause => {
+                damaged(outer, row, out)?;
+                status = Status::Findings;
+            }
             Kind::FieldName | Kind::DefinitionName => name = Some(row),
             Kind::Value => {
                 head(file, name, row, out)?;
@@ -88,6 +100,18 @@ fn flags(verbatim: Verbatim, file: &[u8], rows: &Rows) -> Result<Vec<bool>, Refu
         Verbatim::Names => {}
     }
     Ok(flags)
+}
+
+/// The key of an entry, and where the entry stands.
+fn entry(file: &[u8], entry: Option<Row>, key: Row, out: &mut impl Write) -> io::Result<()> {
+    let place = entry.map_or([0, 0], |row| [row.start as u32, row.end as u32]);
+    line("entry", &[], Some(&file[key.span()]), &place, out)
+}
+
+/// A damaged piece: the number of its refusal, and its bytes.
+fn damaged(piece: Option<Row>, cause: Row, out: &mut impl Write) -> io::Result<()> {
+    let place = piece.map_or([0, 0], |row| [row.start as u32, row.end as u32]);
+    line("damaged", &[cause.detail], None, &place, out)
 }
 
 /// Of what the value is, and where it stands.

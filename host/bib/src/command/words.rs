@@ -61,6 +61,8 @@ pub struct Ways {
     pub verbatim: Verbatim,
     /// The English months are known.
     pub english: bool,
+    /// The file is read piece by piece.
+    pub salvage: bool,
     pub limit: Limit,
 }
 
@@ -201,9 +203,10 @@ fn resolve(words: impl Iterator<Item = OsString>) -> Result<Words, Trouble> {
             ("--verbatim", _) => ways.verbatim = rest.verbatim(value)?,
             ("--months", _) => ways.english = rest.months(value)?,
             ("--limit", _) => ways.limit = rest.limit(value)?,
+            ("--salvage", None) => ways.salvage = true,
             ("--help" | "-h", None) => return Ok(Words::Help),
             _ => {
-                let known = ["--verbatim", "--months", "--limit", "--help"];
+                let known = ["--verbatim", "--months", "--salvage", "--limit", "--help"];
                 return Err(unknown(&option, &known));
             }
         }

@@ -38,6 +38,7 @@ fn every_value() {
     let want = [
         definition,
         written("x", "{x}", "{x}"),
+        format!("entry {} 14 62\n", hex("k")),
         chunks,
         written(text, written_back, written_back),
         dashes,
@@ -74,7 +75,7 @@ fn verbatim_values() {
 #[test]
 fn refused_files() {
     bib(&["resolve"], b"").is(0, "");
-    bib(&["resolve"], b"@a{k,}").is(0, "");
+    bib(&["resolve"], b"@a{k,}").is(0, "entry x6b 0 5\n");
     bib(&["resolve"], b"@a{k, t = x}\n@a{k}").is(1, "refused 7 17 17\n");
     bib(&["resolve"], b"@a{k, t = {\xff}}").is(1, "refused 2 11 11\n");
     bib(&["resolve"], &vec![b' '; 16_777_216]).is(1, "refused 1 0 0\n");
@@ -88,6 +89,7 @@ fn refused_values() {
     let lines: Vec<&str> = run.text().lines().collect();
     let [t, u, w] = ["t", "u", "w"].map(hex);
     let want = [
+        format!("entry {} 0 21", hex("k")),
         format!("field {t} 7 10"),
         "refused 11 8 9".into(),
         format!("field {u} 13 17"),
@@ -108,5 +110,27 @@ fn files_and_pipes() {
     assert_eq!(bib(&["resolve", file.name()], b""), want);
     let line =
         "yes '@a{k,t={x}}' | head -n 200000 | $BIB resolve | head -n 1; echo ${PIPESTATUS[2]}";
-    shell(line).is(0, "field x74 7 10\n141\n");
+    shell(line).is(0, "entry x6b 0 10\n141\n");
+}
+
+/// Of a damaged file the sound pieces are resolved, and the damaged ones said.
+#[test]
+fn damaged_files() {
+    let file = b"@a{k, t = \xff}\n@string{s = {x}}\n@b{l, t = s}\n@c{m}\n";
+    let want = [
+        "damaged 2 0 13\n".to_string(),
+        format!("def {} 25 28\nnames 0\nchunk 0 x78 26 27\n", hex("s")),
+        written("x", "{x}", "{x}"),
+        format!("entry {} 30 41\n", hex("l")),
+        format!("field {} 40 41\nnames 1\nchunk 0 x78 26 27\n", hex("t")),
+        written("x", "{x}", "{x}"),
+        "damaged 7 43 49\n".to_string(),
+    ];
+    bib(&["resolve", "--salvage"], file).is(1, &want.concat());
+    bib(&["resolve"], file).is(1, "refused 2 10 10\n");
+    let sound = b"@a{k, t = {x}}";
+    assert_eq!(
+        bib(&["resolve", "--salvage"], sound),
+        bib(&["resolve"], sound)
+    );
 }
