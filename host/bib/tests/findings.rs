@@ -120,6 +120,28 @@ fn lints_of_fields_and_definitions() {
 }
 
 #[test]
+fn lints_of_lists() {
+    lint(
+        Lint::NameSeparator,
+        "@book{k, author = {Donald E. Knuth; Leslie Lamport}}",
+        "1:35",
+        "@book{k, author = {{Knuth; Sons}}, title = {A; B & C}}",
+    );
+    lint(
+        Lint::NameSeparator,
+        "@book{k, editor = \"L. M. Le Cam & J. Neyman\"}",
+        "1:33",
+        "@book{k, editor = {{Simon & Schuster} and J. Neyman}}",
+    );
+    lint(
+        Lint::EtAl,
+        "@book{k, author = {Knuth, Donald E. and et al.}}",
+        "1:41",
+        "@book{k, author = {Knuth, Donald E. and others}, note = {Knuth et al.}}",
+    );
+}
+
+#[test]
 fn lints_of_values() {
     let late = "@book{k,\n  title = {T,\n  year = {1997}}\n}";
     lint(

@@ -201,12 +201,31 @@ impl<E, S: FnMut(&Finding, &super::Lines) -> Result<(), E>> Checker<'_, S> {
         let is_alone =
             |index: usize| !matches!(self.rows.get(index), Some(row) if is_part(row.kind));
         if is_list && is_alone(index.wrapping_sub(1)) && is_alone(index + 1) {
-            return lone_and(text).map(|(place, message)| {
-                let start = row.start + place;
-                Finding::lint(Lint::AndList, start, start + 3, message.into())
-            });
+            return self.names(row);
         }
         None
+    }
+
+    /// What is wrong in a list of names; the first of it is said.
+    fn names(&self, row: Row) -> Option<Finding> {
+        let text = &self.file[row.span()];
+        let finding = |lint, word: Range<usize>, message: &str| {
+            let (start, end) = (row.start + word.start, row.start + word.end);
+            Finding::lint(lint, start, end, message.into())
+        };
+        if let Some((place, message)) = lone_and(text) {
+            return Some(finding(Lint::AndList, place..place + 3, message));
+        }
+        if let Some(word) = et_al(text) {
+            let hint = "write `and others` for names that are left out";
+            let found = finding(Lint::EtAl, word, "`et al.` is taken for a name");
+            return Some(found.with_hint(Some(hint.into())));
+        }
+        let (word, message) = separator(text)?;
+        let hint =
+            "write `and` between two names, and braces around one that has such a mark in it";
+        let found = finding(Lint::NameSeparator, word, message);
+        Some(found.with_hint(Some(hint.into())))
     }
 
     /// A value that was closed too late. The delimiter stands before the literal.
@@ -293,6 +312,46 @@ fn lone_and(text: &[u8]) -> Option<(usize, &'static str)> {
     Some((last.start, "the list of names ends with `and`"))
 }
 
+/// Where a list of names has `et al`, with or without a point, as words of their own.
+fn et_al(text: &[u8]) -> Option<Range<usize>> {
+    let is = |word: &Range<usize>, other: &str| {
+        let word = text[word.clone()]
+            .strip_suffix(b",")
+            .unwrap_or(&text[word.clone()]);
+        word.strip_suffix(b".")
+            .unwrap_or(word)
+            .eq_ignore_ascii_case(other.as_bytes())
+    };
+    let mut before: Option<Range<usize>> = None;
+    for word in words(text) {
+        if let Some(et) = before.filter(|before| is(before, "et") && is(&word, "al")) {
+            return Some(et.start..word.end);
+        }
+        before = Some(word);
+    }
+    None
+}
+
+/// Where a list of names has another mark than `and` between two of them, and what is said of it. A mark
+/// inside braces is a part of a name; that of `&amp;` is none.
+fn separator(text: &[u8]) -> Option<(Range<usize>, &'static str)> {
+    let mut all = words(text).peekable();
+    // Something stands before it and behind it.
+    all.next_if(|word| !text[word.clone()].ends_with(b";"));
+    while let Some(word) = all.next() {
+        let part = &text[word.clone()];
+        all.peek()?;
+        if matches!(part, b"&" | b"\\&") {
+            return Some((word, "`&` between two names is taken for a part of one"));
+        }
+        if part.ends_with(b";") && !part.contains(&b'&') {
+            let mark = word.end - 1..word.end;
+            return Some((mark, "`;` between two names is taken for a part of one"));
+        }
+    }
+    None
+}
+
 /// The words of a value, between the white space that stands outside braces.
 fn words(text: &[u8]) -> impl Iterator<Item = Range<usize>> + '_ {
     let mut place = 0;
@@ -317,6 +376,23 @@ fn words(text: &[u8]) -> impl Iterator<Item = Range<usize>> + '_ {
 #[cfg(test)]
 mod tests {
     use super::*;
+
+    #[test]
+    fn other_marks_in_lists() {
+        let at = |text: &str| separator(text.as_bytes()).map(|(word, _)| word.start);
+        assert_eq!(at("A. Author; B. Writer"), Some(9));
+        assert_eq!(at("Author; Writer"), Some(6));
+        assert_eq!(at("A. Author & B. Writer"), Some(10));
+        assert_eq!(at("A \\& B"), Some(2));
+        assert_eq!(at("{A & B} and {C; D}"), None);
+        assert_eq!(at("Ren&eacute; Descartes"), None);
+        assert_eq!(at("A. Author;"), None);
+        assert_eq!(at("& A"), None);
+        let at = |text: &str| et_al(text.as_bytes()).map(|word| word.start);
+        assert_eq!(at("A. Author and et al."), Some(14));
+        assert_eq!(at("A. Author et al"), Some(10));
+        assert_eq!(at("Et Alii and Al Et"), None);
+    }
 
     #[test]
     fn lists_of_names() {

@@ -35,6 +35,8 @@ pub enum Lint {
     DuplicateDefinition,
     LateClose,
     AndList,
+    NameSeparator,
+    EtAl,
     TypographicQuotes,
     CutInside,
     Encoding,
@@ -85,7 +87,7 @@ pub struct About {
 }
 
 /// All lints, in the order of the enum.
-pub const LINTS: [About; 15] = [
+pub const LINTS: [About; 17] = [
     About {
         lint: Lint::FieldOutside,
         name: "field-outside",
@@ -157,6 +159,18 @@ pub const LINTS: [About; 15] = [
         name: "and-list",
         meaning: "A list of names begins or ends with `and`, or has `and and`: a name is missing.",
         example: "@book{k, author = {A. Author and}}",
+    },
+    About {
+        lint: Lint::NameSeparator,
+        name: "name-separator",
+        meaning: "A list of names has `;` or `&` between two of them, which is taken for a part of one name.",
+        example: "@book{k, author = {Donald E. Knuth; Leslie Lamport}}",
+    },
+    About {
+        lint: Lint::EtAl,
+        name: "et-al",
+        meaning: "A list of names has `et al.`, which is taken for a name: `and others` stands for those that are left out.",
+        example: "@book{k, author = {Donald E. Knuth and et al.}}",
     },
     About {
         lint: Lint::TypographicQuotes,
