@@ -4,7 +4,10 @@
 use std::io::{self, Write};
 
 use bib::check::without_damage;
-use bib::{is_verbatim_field, Kind, Reason, Refusal, ResolvedValue, Row, Rows, ENGLISH_MONTHS};
+use bib::{
+    is_verbatim_field, Kind, Reason, Refusal, ResolvedFile, ResolvedValue, Row, Rows,
+    ENGLISH_MONTHS,
+};
 
 use crate::print;
 use crate::source::Source;
@@ -54,15 +57,7 @@ fn resolved(ways: Ways, file: &[u8], out: &mut impl Write) -> Result<Status, Sto
     } else {
         bib::read(file)?
     };
-    let flags = flags(ways.verbatim, file, &rows)?;
-    let sound = without_damage(file, &rows).map_err(Refusal::from)?;
-    let months = if ways.english {
-        &ENGLISH_MONTHS[..]
-    } else {
-        &[]
-    };
-    let resolved = bib::resolve_file_within(ways.limit.0, &sound, &rows, &flags, months)?;
-    drop((flags, sound));
+    let resolved = values(ways, file, &rows)?;
     let mut answers = resolved.iter();
     let (mut name, mut outer) = (None, None);
     let mut status = Status::Sound;
@@ -90,6 +85,18 @@ fn resolved(ways: Ways, file: &[u8], out: &mut impl Write) -> Result<Status, Sto
         }
     }
     Ok(status)
+}
+
+/// All values resolved as it was asked for. Damaged pieces count as blanks.
+fn values(ways: Ways, file: &[u8], rows: &Rows) -> Result<ResolvedFile, Refusal> {
+    let flags = flags(ways.verbatim, file, rows)?;
+    let sound = without_damage(file, rows)?;
+    let months = if ways.english {
+        &ENGLISH_MONTHS[..]
+    } else {
+        &[]
+    };
+    bib::resolve_file_within(ways.limit.0, &sound, rows, &flags, months)
 }
 
 fn flags(verbatim: Verbatim, file: &[u8], rows: &Rows) -> Result<Vec<bool>, Refusal> {
