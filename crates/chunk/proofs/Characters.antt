@@ -36,6 +36,9 @@ ends-char u w e = by (u ++ w) (omega (arith, length-append u w, shapes .char-som
     by [] h q = absurd (omega arith)
     by (b ∷ t) h q = ap isWhitespace q
 
+last-code : (u : List ℕ) (c : ℕ) → isScalar c ≡ true → lastCode (u ++ octets c) ≡ c
+last-code u c e = code-last u (octets c) (rfc3629 .writes c e) ∙ shapes .reads c e
+
 ends-code : (u : List ℕ) (c : ℕ) → isScalar c ≡ true → endsWhite (u ++ octets c) ≡ isWhitespace c
 ends-code u c e = ends-char u (octets c) (rfc3629 .writes c e) ∙ ap isWhitespace (shapes .reads c e)
 
@@ -170,4 +173,10 @@ has-chars (next w {s} e o) =
     (value w ∷ h .0, chars.next (c .0) (h .1), ap₂ _++_ (c .1) (h .2))
 
 pub characters : Characters
-characters = record { has = λ t o. has-chars o; lined = λ w cs s. lined-on cs s w []; ended = ended; escapes = escapes-all }
+characters = record {
+  has = λ t o. has-chars o;
+  lined = λ w cs s. lined-on cs s w [];
+  ended = ended;
+  escapes = escapes-all;
+  last = λ u c e. (last-char u (octets c) (rfc3629 .writes c e), last-code u c e);
+}

@@ -9,9 +9,10 @@ use Prim.Native.Nat.{ℕ}
 use mathlib.Core.Path.{_≡_}
 use mathlib.Core.Bool.{Bool, true, false, cond}
 use mathlib.Core.List.{List, [], _∷_, _++_}
+use lib.ListN.{length}
 use Rattle.text.specs.Utf8.{isScalar, octets, Octets}
 use Rattle.text.specs.Class.{isWhitespace}
-use Rattle.chunk.specs.Format.{Written, written, before, isLineEnd, lines, endsWhite, isEscapable, escaped}
+use Rattle.chunk.specs.Format.{lastAt, lastCode, Written, written, before, isLineEnd, lines, endsWhite, isEscapable, escaped}
 
 unfoldable pub utf8Of : List ℕ → List ℕ
 utf8Of [] = []
@@ -45,3 +46,5 @@ pub record Characters : Type 0 where
   pub lined : (w : Bool) (cs : List ℕ) → Scalars cs → lines w [] (utf8Of cs) ≡ written (utf8Of (charLines w cs .text)) (charLines w cs .white)
   pub ended : (cs : List ℕ) → Scalars cs → endsWhite (utf8Of cs) ≡ charEndsWhite cs
   pub escapes : (verb : Bool) (cs : List ℕ) → Scalars cs → escaped verb (utf8Of cs) ≡ utf8Of (charEscaped verb cs)
+  -- the last character is the one whose octets come last, whatever octets stand before them
+  pub last : (u : List ℕ) (c : ℕ) → isScalar c ≡ true → (lastAt (u ++ octets c) ≡ length u) × (lastCode (u ++ octets c) ≡ c)

@@ -6,5 +6,7 @@ pub mod stacks
 pub mod ways
 -- any two outcomes that a contract allows are the same
 pub mod Unique
+-- the proof of specs/LastCharacter.antt: the last character of a text is what the definitions take for it
+pub mod LastCharacter
 -- the proof of specs/WellFormed.antt: what a command writes is UTF-8, and short
 pub mod WellFormed

@@ -2,20 +2,17 @@
 -- Assumes nothing.
 use Prim.Native.Nat.{ℕ, suc, _+_, _-_, _≤_, _<_}
 use native.Mathlib.Omega.{arith}
-use mathlib.Core.Path.{_≡_, refl, sym, ap, _∙_}
-use mathlib.Core.Bool.{Bool, true, false, cond, not}
+use mathlib.Core.Path.{_≡_, refl}
+use mathlib.Core.Bool.{Bool, true, false, cond}
 use mathlib.Core.List.{List, [], _∷_, _++_}
-use lib.ListN.{length, drop, getD, length-append, length-drop}
-use lib.Seq.{length-take-le, drop-cons}
+use lib.ListN.{length, length-append}
+use lib.Seq.{length-take-le}
 use lib.Dec.{eqb}
 use borrow.Author.Tests.{eqb-false}
 use Rattle.text.specs.Range.{within}
-use Rattle.text.specs.Utf8.{tail, isScalar, octets, Octets, none, isBoundary}
+use Rattle.text.specs.Utf8.{tail, isScalar, octets, Octets, none}
 use Rattle.text.specs.Shapes.{one}
-use Rattle.text.proofs.general.Places.{boundary-in}
 use Rattle.text.proofs.Shapes.{shapes}
-use Rattle.text.proofs.Rfc3629.{rfc3629}
-use Rattle.text.proofs.Boundaries.{boundaries}
 use Rattle.chunk.specs.Format.{lastFrom, lastAt, lastCode}
 use Rattle.compose.specs.declared.Composed.{Composed}
 use Rattle.compose.specs.declared.Composed.the-variants as composed
@@ -30,40 +27,24 @@ use Rattle.command.specs.WellFormed.{WellFormed}
 use Rattle.command.proofs.stacks.LaysLaws.{octets-few, octets-one, octets-two, octets-three}
 use Rattle.command.proofs.ways.LastCharacterWays.{composed-fine, dotted-fine, bare-fine}
 use Rattle.command.proofs.ways.ExecuteWays.{meaning-sane}
+use Rattle.command.proofs.LastCharacter.{last-character}
 
 -- ---- the last character of a text
 
-abbrev behind : List ℕ → List ℕ
-behind [] = []
-behind (b ∷ t) = t
-
--- what holds of `best`, and of every place of the text where no tail stands, holds of the place that is found
-last-holds : (P : ℕ → Type 0) (s t : List ℕ) (best i : ℕ) → drop i s ≡ t → P best
-    → ((k : ℕ) → k < length s → within tail (getD s k 0) ≡ false → P k) → P (lastFrom best i t)
+-- the place that is found lies below n where the best so far does, and every place of the text
+last-below : (t : List ℕ) (best i n : ℕ) → best < n → i + length t ≤ n → lastFrom best i t < n
 unfolding lastFrom
-last-holds P s [] best i e h k = h
-last-holds P s (b ∷ t) best i e h k =
-    let l : i < length s = omega (arith, length-drop i s, ap length e) in
-    let q = sym (drop-cons s i 0 l) ∙ e in
-    last-holds P s t (cond (within tail b) best i) (suc i) (ap behind q)
-    (by (within tail b) (λ z. k i l (ap (λ (u : List ℕ). within tail (getD u 0 0)) q ∙ z))) k
+last-below [] best i n h l = h
+last-below (b ∷ t) best i n h l = last-below t (cond (within tail b) best i) (suc i) n (by (within tail b)) (omega arith)
   where
-    by : (w : Bool) → (w ≡ false → P i) → P (cond w best i)
-    by true f = h
-    by false f = f refl
-
-last-boundary : (t : List ℕ) → Octets t → isBoundary t (lastAt t) ≡ true
-last-boundary t o =
-    last-holds (λ k. isBoundary t k ≡ true) t t 0 0 refl (boundaries .first t o)
-    (λ k l e. sym (boundary-in t k l) ∙ ap not e)
-
-front-text : (t : List ℕ) → Octets t → Octets (front t)
-front-text t o = rfc3629 .boundary t (lastAt t) o .0 (last-boundary t o) .before
+    by : (w : Bool) → cond w best i < n
+    by true = h
+    by false = omega arith
 
 -- the text before the last character is at least an octet shorter
 front-short : (b : ℕ) (t : List ℕ) → length (front (b ∷ t)) ≤ length t
 front-short b t =
-    let l : lastAt (b ∷ t) < length (b ∷ t) = last-holds (λ k. k < length (b ∷ t)) (b ∷ t) (b ∷ t) 0 0 refl (omega arith) (λ k l e. l) in
+    let l = last-below (b ∷ t) 0 0 (length (b ∷ t)) (omega arith) (omega arith) in
     omega (arith, length-take-le (lastAt (b ∷ t)) (b ∷ t) (omega (arith, l)), l)
 
 -- ---- a mark on the last character
@@ -73,10 +54,10 @@ dot-text t c o = by (eqb (dotted c) c) refl
   where
     by : (w : Bool) → eqb (dotted c) c ≡ w → Octets (cond w t (front t ++ octets (dotted c)))
     by true e = o
-    by false e = shapes .octets-append (front-text t o) (shapes .char-text (dotted c) (dotted-fine c (eqb-false (dotted c) c e) .0))
+    by false e = shapes .octets-append (last-character .text t o) (shapes .char-text (dotted c) (dotted-fine c (eqb-false (dotted c) c e) .0))
 
 mark-text : (t : List ℕ) (c m : ℕ) (r : Composed) → lookup composites (dotted c) m ≡ r → Octets t → isScalar m ≡ true → Octets (withMark t c m r)
-mark-text t c m (composed.Char x) e o s = shapes .octets-append (front-text t o) (shapes .char-text x (composed-fine (dotted c) m x e .0))
+mark-text t c m (composed.Char x) e o s = shapes .octets-append (last-character .text t o) (shapes .char-text x (composed-fine (dotted c) m x e .0))
 mark-text t c m composed.Nothing e o s = shapes .octets-append (dot-text t c o) (shapes .char-text m s)
 
 combine-text : (arg : Argument) (m : ℕ) → Octets (textOf arg) → isScalar m ≡ true → m ≤ 0x7FF → Octets (lastCharCombine arg m)

@@ -26,7 +26,7 @@ pub data Argument : Type 0 where
 
 -- ---- [resolve.rs:last_char_combine]
 
--- the text before the last character
+-- the text before the last character. That this and `lastCode` cut a text that is UTF-8 before its last character is specs/LastCharacter.antt
 abbrev pub front : List ℕ → List ℕ
 front t = take (lastAt t) t
 
