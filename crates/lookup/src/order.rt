@@ -10,6 +10,7 @@ ghost use mathlib.Core.Path.{_≡_};
 ghost use mathlib.Core.Bool.{true};
 ghost use Prim.Native.Nat.{_+_, _/_, _≤_};
 ghost use lib.ListN.{length, take, drop};
+ghost use lib.Dec.{leb};
 ghost use Rattle.row.specs.Numbers.{rowsOf};
 ghost use Rattle.lookup.specs.Names.{nameOf, rowNo, lastNamed};
 ghost use Rattle.lookup.specs.RowIndex.{fits};
@@ -160,6 +161,7 @@ fn gather(rows: &[u32], next: &mut [u32]) -> usize
 // of `heads` then tells how many there are. It is greater than the number of rows, and the head of a bucket never is.
 pub fn fill(file: &[u8], rows: &[u32], heads: &mut [u32], next: &mut [u32]) -> bool
     requires { ⌜ fits (length (now rows) / 4) (length (now heads)) (length (now next)) ≡ true ⌝ }
+    ensures { λ r. ⌜ r ≡ leb (length (definitions (rowsOf (now (rows .entry))))) (length (now (heads .entry))) ⌝ }
     ensures { λ r. ⌜ (r ≡ true → Ordered (now (file .entry)) (now (rows .entry)) (now (heads .exit)) (now (next .exit))) ⌝ }
 {
     let m = gather(rows, next);

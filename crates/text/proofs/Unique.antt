@@ -23,6 +23,8 @@ use Rattle.text.proofs.class.is_control.Kinds as is-control-kinds
 use Rattle.text.proofs.class.is_control.Reads as is-control
 use Rattle.text.proofs.class.holds.Kinds as holds-kinds
 use Rattle.text.proofs.class.holds.Reads as holds
+use Rattle.text.proofs.class.has.Kinds as class-has-kinds
+use Rattle.text.proofs.class.has.Reads as class-has
 use Rattle.text.proofs.scanner.peek.Kinds as peek-kinds
 use Rattle.text.proofs.scanner.peek.Reads as peek
 use Rattle.text.proofs.scanner.eat.Kinds as eat-kinds
@@ -79,6 +81,9 @@ one-is-control κs a x y s t p q = p ∙ sym q
 
 pub one-holds : One 0 holds-kinds.ps holds-kinds.r holds.Post
 one-holds κs a x y s t p q = p ∙ sym q
+
+pub one-class-has : One 0 class-has-kinds.ps class-has-kinds.r class-has.Post
+one-class-has κs a x y s t p q = p ∙ sym q
 
 pub one-peek : One 1 peek-kinds.ps peek-kinds.r peek.Post
 one-peek κs a x y s t p q = p .0 ∙ sym (q .0)

@@ -1,20 +1,21 @@
 -- A Normal text, run by run between its line ends.
 --     plain-start, plain-on, plain-clear            a run: the empty one, with one octet more, a stretch without bytes below 0x0E
---     stops-at, stops-end                           how far a run goes
+--     stops-at, stops-end, run-once                 how far a run goes, and that it goes no other way
 --     Lining, lining, runs, passes, blanks          the loop that writes the text: its invariant, where it begins, and its three turns
 --     finished                                      where the loop ends
 -- Assumes nothing.
 use Prim.Native.Nat.{ℕ, zero, suc, _+_, _-_, _≤_, _<_}
 use native.Mathlib.Omega.{arith}
 use mathlib.Core.Path.{_≡_, refl, sym, ap, ap₂, subst, _∙_}
-use mathlib.Core.Bool.{Bool, true, false, cond, not, _&&_}
+use mathlib.Core.Bool.{Bool, true, false, cond, not, _&&_, true≢false}
 use mathlib.Core.List.{List, [], _∷_, _++_, append-assoc, append-nil}
 use lib.ListN.{length, getD, take}
 use lib.Seq.{length-take-le, getD-take}
 use native.Mathlib.Nat.{add-zero}
-use borrow.Author.Tests.{ne-eqb}
+use lib.Dec.{ltb}
+use borrow.Author.Tests.{ne-eqb, ltb-true, ltb-false, not-true}
 use Rattle.text.specs.Block.{inSet, lines as lineBytes, Clear}
-use Rattle.text.proofs.general.Tests.{told-apart}
+use Rattle.text.proofs.general.Tests.{told-apart, both-true}
 use Rattle.text.specs.Scan.{part}
 use Rattle.chunk.specs.Format.{Written, written, before, endsWhite, isLineEnd, lines}
 use Rattle.chunk.specs.Inner.{plain, stops}
@@ -74,6 +75,33 @@ stops-at t i e h l q = ap stops (part-head t i e h l) ∙ q
 
 pub stops-end : (t : List ℕ) (i e : ℕ) → i ≡ e → stops (part t i e) ≡ true
 stops-end t i e q = ap stops (ap (λ (n : ℕ). part t n e) q ∙ part-none t e)
+
+-- an octet of a run is no line end
+plain-octet : (u : List ℕ) (b : ℕ) (v : List ℕ) → plain (u ++ b ∷ v) ≡ true → isLineEnd b ≡ false
+unfolding plain
+plain-octet [] b v h = not-true (isLineEnd b) (both-true (not (isLineEnd b)) (plain v) h .0)
+plain-octet (a ∷ u) b v h = plain-octet u b v (both-true (not (isLineEnd a)) (plain (u ++ b ∷ v)) h .1)
+
+-- r is where the run ends that begins at a, in the text t up to e
+abbrev pub RunEnds : List ℕ → ℕ → ℕ → ℕ → Type 0
+RunEnds t a e r = (plain (part t a r) ≡ true) × (stops (part t r e) ≡ true) × (a ≤ r) × (r ≤ e)
+
+module _ (t : List ℕ) (a e : ℕ) (l : e ≤ length t) where
+  no-later : {r q : ℕ} → RunEnds t a e r → RunEnds t a e q → r < q → ⊥
+  no-later {r} {q} x y h =
+      let some = sym (ap stops (part-head t r e (omega (arith, h, y .3)) l)) ∙ x .1 in
+      let cut = part-join t a r q (x .2) (omega (arith, h)) (omega (arith, l, y .3)) in
+      let head = part-head t r q h (omega (arith, l, y .3)) in
+      let none = plain-octet (part t a r) (getD t r 0) (part t (r + 1) q) (sym (ap plain (cut ∙ ap (λ (v : List ℕ). part t a r ++ v) head)) ∙ y .0) in
+      true≢false (sym some ∙ none)
+
+  pub run-once : {r q : ℕ} → RunEnds t a e r → RunEnds t a e q → r ≡ q
+  run-once {r} {q} x y = by (ltb r q) (ltb q r) refl refl
+    where
+      by : (u v : Bool) → ltb r q ≡ u → ltb q r ≡ v → r ≡ q
+      by true v f g = absurd (no-later x y (ltb-true r q f))
+      by false true f g = absurd (no-later y x (ltb-true q r g))
+      by false false f g = omega (arith, ltb-false r q f, ltb-false q r g)
 
 -- ---- the definition's turns
 

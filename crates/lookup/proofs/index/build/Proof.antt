@@ -49,7 +49,7 @@ returns-3 c =
     let k = chained .chain in
     let f = filled .fill in
     built (a .file .now) (a .rows .now) (a .heads .now) (a .next .now) _ _ (f .kept .1 .1 .0 ∙ k .kept .1 .1 .0) (f .kept .1 .1 .1 .0 ∙ k .kept .1 .1 .1 .0) yes
-    (inr (f .ensures (c .if3 .taken)))
+    (inr (f .ensures .1 (c .if3 .taken)))
 
 chain-requires-2 : tie.Need-chain-requires-2
 chain-requires-2 c κs =

@@ -5,7 +5,7 @@ use mathlib.Core.Bool.{false≢true}
 use Prim.Native.Nat.{_/_}
 use lib.ListN.{length}
 use Rattle.lookup.proofs.links.RowBuckets.{room}
-use Rattle.lookup.proofs.loops.FillWays.{gathered-size, gathered-inside, gathered-most, filled}
+use Rattle.lookup.proofs.loops.FillWays.{gathered-size, gathered-inside, gathered-most, too-few, enough, filled}
 use Rattle.lookup.proofs.order.fill.Statement.{statement}
 use Rattle.lookup.proofs.order.fill.Tie as tie
 
@@ -58,8 +58,16 @@ slice-write-heads c =
     let r = room (length (a .rows .now) / 4) (length (a .heads .now)) (length (a .next .now)) (start .pre) in
     omega (arith, r .some, ordered .sort .kept .1 .1 .1 .0)
 
+returns : tie.Need-returns
+returns c =
+    let gathered = c .before .before .before in
+    let start = gathered .before .before .before .before .before .before in
+    let a = start .args in
+    let g = gathered .gather in
+    (too-few (a .rows .now) (g .last .1 .0) (g .result) (g .ensures .0) (g .ensures .1) (a .heads .now) (c .if1 .taken), λ e. absurd (false≢true e))
+
 returns-2 : tie.Need-returns-2
-returns-2 c e =
+returns-2 c =
     let ordered = c .before .before .before .before in
     let gathered = ordered .before .before .before .before .before .before in
     let start = gathered .before .before .before .before .before .before in
@@ -67,8 +75,9 @@ returns-2 c e =
     let g = gathered .gather in
     let o = ordered .sort in
     let r = room (length (a .rows .now) / 4) (length (a .heads .now)) (length (a .next .now)) (start .pre) in
-    filled (a .rows .now) (g .last .1 .0) (g .result) (g .ensures .0) (g .ensures .1)
-    (a .file .now) (o .last .1 .1 .1 .0) (o .last .1 .1 .0) (omega (arith, r .some, o .kept .1 .1 .1 .0)) (o .ensures) (o .kept .1 .1 .0)
+    (enough (a .rows .now) (g .last .1 .0) (g .result) (g .ensures .0) (g .ensures .1) (a .heads .now) (omega (arith, ordered .before .before .before .if1 .left)),
+    λ e. filled (a .rows .now) (g .last .1 .0) (g .result) (g .ensures .0) (g .ensures .1)
+    (a .file .now) (o .last .1 .1 .1 .0) (o .last .1 .1 .0) (omega (arith, r .some, o .kept .1 .1 .1 .0)) (o .ensures) (o .kept .1 .1 .0))
 
 pub fill-spec : {M : Type 1} → statement M
 fill-spec =
@@ -76,7 +85,7 @@ fill-spec =
     (tie.spec
     gather-requires
     (λ c. search needs)
-    (λ c e. absurd (false≢true e))
+    returns
     slice-relend-prefix-sort
     slice-aggregate-sort
     sort-requires
