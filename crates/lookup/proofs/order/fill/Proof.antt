@@ -74,10 +74,11 @@ returns-2 c =
     let a = start .args in
     let g = gathered .gather in
     let o = ordered .sort in
-    let r = room (length (a .rows .now) / 4) (length (a .heads .now)) (length (a .next .now)) (start .pre) in
-    (enough (a .rows .now) (g .last .1 .0) (g .result) (g .ensures .0) (g .ensures .1) (a .heads .now) (omega (arith, ordered .before .before .before .if1 .left)),
-    λ e. filled (a .rows .now) (g .last .1 .0) (g .result) (g .ensures .0) (g .ensures .1)
-    (a .file .now) (o .last .1 .1 .1 .0) (o .last .1 .1 .0) (omega (arith, r .some, o .kept .1 .1 .1 .0)) (o .ensures) (o .kept .1 .1 .0))
+    let r = room (length (a .rows .now) / 4) (length (a .heads .now)) (length (a .next .now)) (start .pre) in (
+      enough (a .rows .now) (g .last .1 .0) (g .result) (g .ensures .0) (g .ensures .1) (a .heads .now) (omega (arith, ordered .before .before .before .if1 .left)),
+      λ e. filled (a .rows .now) (g .last .1 .0) (g .result) (g .ensures .0) (g .ensures .1)
+          (a .file .now) (o .last .1 .1 .1 .0) (o .last .1 .1 .0) (omega (arith, r .some, o .kept .1 .1 .1 .0)) (o .ensures) (o .kept .1 .1 .0),
+    )
 
 pub fill-spec : {M : Type 1} → statement M
 fill-spec =
