@@ -2,6 +2,7 @@
 -- source, so that a contract which said less would fail here.
 --     the same answer                                         `check_file`, `is_span`, `are_lent`, `is_value`, `place`, `progress::answer`
 --     the same answer, chunk rows and text                    `single`
+--     the same chunk rows and text                            `copy_out`
 --     the same answer, scratch, chunk rows and text           `resolve_literal`
 -- Assumes nothing.
 use mathlib.Core.Path.{_≡_, sym, _∙_}
@@ -21,6 +22,8 @@ use Rattle.resolve.proofs.one_literal.resolve_literal.Kinds as resolve-
 use Rattle.resolve.proofs.one_literal.resolve_literal.Reads as resolve-literal
 use Rattle.resolve.proofs.lent.place.Kinds as place-kinds
 use Rattle.resolve.proofs.lent.place.Reads as place
+use Rattle.resolve.proofs.progress.copy_out.Kinds as copy-out-kinds
+use Rattle.resolve.proofs.progress.copy_out.Reads as copy-out
 use Rattle.resolve.proofs.progress.answer.Kinds as answer-kinds
 use Rattle.resolve.proofs.progress.answer.Reads as answer
 
@@ -57,3 +60,7 @@ one-place κs a x y s t p q = p ∙ sym q
 
 pub one-answer : One 0 answer-kinds.ps answer-kinds.r answer.Post
 one-answer κs a x y s t p q = p ∙ sym q
+
+pub one-copy-out : Both 4 copy-out-kinds.ps copy-out-kinds.r copy-out.Post
+    (λ κs x s y t. (now (s .1 .1 .1 .0) ≡ now (t .1 .1 .1 .0)) × (now (s .1 .1 .1 .1 .0) ≡ now (t .1 .1 .1 .1 .0)))
+one-copy-out κs a x y s t p q = (p .0 ∙ sym (q .0), p .1 ∙ sym (q .1))
