@@ -9,8 +9,9 @@ Rows are tuples of kind, detail, start and end; start and end are bytes of the f
 raises `Refusal`, with the number and the place. One file, and nothing but ctypes is needed: copy it
 beside your program, or put its folder on the path.
 
-The library is looked for in the folder that the variable KNURRAVOE_LIB names; then in `lib` beside
-this file's folder and its parents, where host/install puts it; then where the system looks.
+The library is looked for in the folder that the variable KNURRAVOE_LIB names; then in `knurravoe`
+beside this file, where pip puts it; then in `lib` beside this file's folder and its parents, where
+host/install puts it; then where the system looks.
 """
 
 import ctypes
@@ -128,7 +129,8 @@ class Refusal(ValueError):
 
 def _find() -> str:
     folders = [pathlib.Path(os.environ["KNURRAVOE_LIB"])] if "KNURRAVOE_LIB" in os.environ else []
-    folders += [parent / "lib" for parent in pathlib.Path(__file__).resolve().parents]
+    here = pathlib.Path(__file__).resolve().parent
+    folders += [here / "knurravoe"] + [parent / "lib" for parent in here.parents]
     for folder in folders:
         if (folder / "libbib.so").is_file():
             return str(folder / "libbib.so")

@@ -14,6 +14,11 @@ pub use writing::{format_verbatim, to_biblatex_string};
 
 use call::{answer, call};
 
+/// The toolchain that proved and compiled the library, and the sum of the sources that it was made of (`host/sources`). Both are empty
+/// for a library that says neither, as one of `KNURRAVOE_LIB` that is not of lib/.
+pub const KIT: &str = env!("BIB_KIT");
+pub const SOURCES: &str = env!("BIB_SOURCES");
+
 answer! {
     /// All that a function hands back beside what it writes.
     ///

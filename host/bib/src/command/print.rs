@@ -22,7 +22,7 @@ wrong and where.
   bib pack [FILE]       the rows of a file, read strictly, in seven bytes each
   bib unpack [FILE]     the rows out of such bytes
   bib --help            this text
-  bib --version         the version
+  bib --version         the version, and what the library was made of
 
 No FILE, or -, is standard input. Of a folder, `bib check` takes all .bib files below it. After --
 every word is a file, or a key.
@@ -111,6 +111,13 @@ pub fn help(out: &mut impl Write) -> io::Result<Status> {
 
 pub fn version(out: &mut impl Write) -> io::Result<Status> {
     writeln!(out, "bib {}", env!("CARGO_PKG_VERSION"))?;
+    match proved::SOURCES {
+        "" => writeln!(out, "a library that does not say what it was made of")?,
+        sources => {
+            writeln!(out, "library proved and compiled by {}", proved::KIT)?;
+            writeln!(out, "of sources with the sum {sources}")?;
+        }
+    }
     Ok(Status::Sound)
 }
 

@@ -147,7 +147,14 @@ fn manual_and_completions() {
 
 #[test]
 fn version() {
-    let version = format!("bib {}\n", env!("CARGO_PKG_VERSION"));
+    let made_of = match proved::SOURCES {
+        "" => "a library that does not say what it was made of\n".into(),
+        sources => format!(
+            "library proved and compiled by {}\nof sources with the sum {sources}\n",
+            proved::KIT
+        ),
+    };
+    let version = format!("bib {}\n{made_of}", env!("CARGO_PKG_VERSION"));
     bib(&["--version"], b"").is(0, &version);
     bib(&["-V"], b"").is(0, &version);
 }
