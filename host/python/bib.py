@@ -5,23 +5,25 @@
     for row in bib.read(open("mine.bib", "rb").read()):
         print(row.kind, row.start, row.end)
 
-Rows are tuples of kind, detail, start and end; start and end are bytes of the file. What is refused
-raises `Refusal`, with the number and the place. One file, and nothing but ctypes is needed: copy it
-beside your program, or put its folder on the path.
+Rows are a sequence whose items are tuples of kind, detail, start and end; start and end are bytes of
+the file. They are kept as numbers, four a row, which `rows.numbers` lends out. What is refused raises
+`Refusal`, with the number and the place; a file that is not bytes raises `TypeError`.
 
 The library is looked for in the folder that the variable KNURRAVOE_LIB names; then in `knurravoe`
 beside this file, where pip puts it; then in `lib` beside this file's folder and its parents, where
 host/install puts it; then where the system looks.
 """
 
+import collections.abc
 import ctypes
 import ctypes.util
 import enum
+import mmap
 import os
 import pathlib
 from typing import Iterable, NamedTuple, Tuple, Union
 
-__all__ = ["Chunk", "ChunkRow", "Kind", "MOST_BYTES", "MOST_LITERAL", "Refusal", "Resolved", "Row"]
+__all__ = ["Chunk", "ChunkRow", "ChunkRows", "Kind", "MONTHS", "MOST_BYTES", "MOST_LITERAL", "Refusal", "Resolved", "Row", "Rows", "VERBATIM"]
 __all__ += ["format_verbatim", "pack", "read", "resolve_field", "resolve_file", "resolve_literal", "salvage"]
 __all__ += ["to_biblatex_string", "unpack"]
 
@@ -38,6 +40,14 @@ _LEAST_SCRATCH = 32_768
 _MOST_WRITTEN = 4_294_000_000
 
 _NO_ROOM = 16
+
+
+# The fields whose text is taken as it stands, in small letters; and the English months, each word with its text.
+VERBATIM = ("file", "doi", "uri", "eprint", "verba", "verbb", "verbc", "pdf", "url", "urlraw")
+MONTHS = tuple(
+    (month[:3].lower(), month)
+    for month in "January February March April May June July August September October November December".split()
+)
 
 
 class Kind(enum.IntEnum):
@@ -83,12 +93,65 @@ class ChunkRow(NamedTuple):
     end: int
 
 
+class _Numbers(collections.abc.Sequence):
+    """Rows as the library gives them: numbers in a row of memory, of which an item is made when it is asked for. They do not change, and
+    are equal to any sequence of the same tuples."""
+
+    __slots__ = ("numbers",)
+
+    def __init__(self, numbers: memoryview):
+        self.numbers = numbers.toreadonly()
+
+    def __len__(self):
+        return len(self.numbers) // self._WIDTH
+
+    def __getitem__(self, at):
+        if not isinstance(at, slice):
+            start = range(len(self))[at] * self._WIDTH
+            return self._ROW(*self.numbers[start : start + self._WIDTH])
+        first, last, step = at.indices(len(self))
+        if step != 1:
+            return tuple(self[i] for i in range(first, last, step))
+        return type(self)(self.numbers[first * self._WIDTH : max(first, last) * self._WIDTH])
+
+    def __iter__(self):
+        numbers = iter(self.numbers)
+        return map(self._ROW, *[numbers] * self._WIDTH)
+
+    def __eq__(self, other):
+        if isinstance(other, type(self)):
+            return self.numbers == other.numbers
+        if not isinstance(other, collections.abc.Sequence):
+            return NotImplemented
+        return len(self) == len(other) and all(row == tuple(theirs) for row, theirs in zip(self, other))
+
+    def __hash__(self):
+        return hash(tuple(self))
+
+    def __repr__(self):
+        return f"{type(self).__name__}({list(map(tuple, self[:8]))}{', and more' if len(self) > 8 else ''})"
+
+
+class Rows(_Numbers):
+    """Rows of a file. `numbers` has four numbers for each."""
+
+    __slots__ = ()
+    _WIDTH, _ROW = _NUMBERS, Row
+
+
+class ChunkRows(_Numbers):
+    """Rows of chunks. `numbers` has five numbers for each."""
+
+    __slots__ = ()
+    _WIDTH, _ROW = _CHUNK_NUMBERS, ChunkRow
+
+
 class Resolved(NamedTuple):
     """What is resolved: the text of its chunks, their rows, and how many names were resolved, month words included. A literal has
     none."""
 
     text: bytes
-    chunks: Tuple[ChunkRow, ...]
+    chunks: ChunkRows
     names: int
 
 
@@ -160,6 +223,24 @@ _resolve_field = _function("bib_resolve_field", _LENT + _LENT + [ctypes.c_size_t
 _resolve_file = _function("bib_resolve_file", _LENT * 10, 5)
 
 
+def _bytes(given) -> bytes:
+    """What is given as bytes. A number or a text is not taken for some."""
+    try:
+        return bytes(memoryview(given))
+    except TypeError:
+        raise TypeError(f"give the bytes of a file, as open(.., 'rb').read() does, not {type(given).__name__}") from None
+
+
+def _room(numbers: int):
+    """So many numbers of 32 bits, to be lent. They are zeros of the system, which take memory only where they are written."""
+    return (ctypes.c_uint32 * numbers).from_buffer(mmap.mmap(-1, 4 * numbers)) if numbers else (ctypes.c_uint32 * 0)()
+
+
+def _written_numbers(room, count: int) -> memoryview:
+    """The first of the lent numbers, in memory of their own."""
+    return memoryview(bytes(memoryview(room).cast("B")[: 4 * count])).cast("I")
+
+
 def _call(function, given: tuple, room) -> int:
     """How many the call wrote into the room."""
     count, start, end = ctypes.c_uint64(), ctypes.c_uint64(), ctypes.c_uint64()
@@ -169,32 +250,31 @@ def _call(function, given: tuple, room) -> int:
     return count.value
 
 
-def _rows(function, data: bytes, most: int) -> Tuple[Row, ...]:
-    # Zeros of the system, which take memory only where a row is written.
-    room = (ctypes.c_uint32 * (most * _NUMBERS))()
-    count = _call(function, (data, len(data)), room)
-    numbers = room[: count * _NUMBERS]
-    return tuple(Row(*numbers[i : i + _NUMBERS]) for i in range(0, len(numbers), _NUMBERS))
+def _rows(function, data: bytes, most: int) -> Rows:
+    room = _room(most * _NUMBERS)
+    return Rows(_written_numbers(room, _call(function, (data, len(data)), room) * _NUMBERS))
 
 
 def _numbers(rows: Iterable[Tuple[int, ...]]):
     """The numbers of rows, to be lent. What is no number of 32 bits is refused as bad rows are."""
+    if isinstance(rows, _Numbers):
+        return (ctypes.c_uint32 * len(rows.numbers)).from_buffer_copy(rows.numbers)
     numbers = [number for row in rows for number in row]
     if not all(0 <= number < 1 << 32 for number in numbers):
         raise Refusal(17, 0, 0)
     return (ctypes.c_uint32 * len(numbers))(*numbers)
 
 
-def read(file: bytes) -> Tuple[Row, ...]:
+def read(file: bytes) -> Rows:
     """Reads a file strictly: all of its rows, in file order, or the refusal of what is wrong first."""
-    file = bytes(file)
+    file = _bytes(file)
     return _rows(_read, file, min(len(file), MOST_BYTES) + 1)
 
 
-def salvage(file: bytes) -> Tuple[Row, ...]:
+def salvage(file: bytes) -> Rows:
     """Salvages a file: each piece, from an "@" at the beginning of a line to the next, is read alone; of a damaged
     one the damage and its cause remain. Refuses only a file that is too long."""
-    file = bytes(file)
+    file = _bytes(file)
     return _rows(_salvage, file, min(len(file), MOST_BYTES) + 1)
 
 
@@ -202,19 +282,20 @@ def pack(rows: Iterable[Tuple[int, int, int, int]]) -> bytes:
     """Packs rows, seven bytes each."""
     lent = _numbers(rows)
     room = (ctypes.c_uint8 * (len(lent) // _NUMBERS * _BYTES))()
-    return bytes(room[: _call(_pack, (lent, len(lent)), room)])
+    count = _call(_pack, (lent, len(lent)), room)
+    return bytes(memoryview(room)[:count])
 
 
-def unpack(packed: bytes) -> Tuple[Row, ...]:
+def unpack(packed: bytes) -> Rows:
     """Unpacks rows."""
-    packed = bytes(packed)
+    packed = _bytes(packed)
     return _rows(_unpack, packed, len(packed) // _BYTES)
 
 
 def _written(function, text: bytes, chunks: Iterable[Tuple[int, int, int, int, int]], flag: Tuple[int, ...], each: int) -> str:
     """What a writer writes, where each byte of a chunk is written as so many at most. Two more may stand around a chunk, and
     three around all."""
-    text = bytes(text)
+    text = _bytes(text)
     # Numbers that cannot be lent are bad rows, but a text that is not UTF-8 comes first: the call refuses either, since one number is
     # no row.
     try:
@@ -224,7 +305,7 @@ def _written(function, text: bytes, chunks: Iterable[Tuple[int, int, int, int, i
     lengths = (min(max(end - start, 0), len(text)) for start, end in zip(lent[1::_CHUNK_NUMBERS], lent[2::_CHUNK_NUMBERS]))
     room = (ctypes.c_uint8 * (3 + sum(each * length + 2 for length in lengths)))()
     count = _call(function, (text, len(text), lent, len(lent)) + flag, room)
-    return bytes(room[:count]).decode()
+    return bytes(memoryview(room)[:count]).decode()
 
 
 def format_verbatim(text: bytes, chunks: Iterable[Tuple[int, int, int, int, int]]) -> str:
@@ -240,7 +321,7 @@ def to_biblatex_string(text: bytes, chunks: Iterable[Tuple[int, int, int, int, i
 
 def resolve_literal(file: bytes, start: int, end: int, is_verbatim: bool) -> Resolved:
     """Resolves the literal that stands in a file at start..end, of a verbatim field, as `file` or `url`, or another."""
-    file = bytes(file)
+    file = _bytes(file)
     # What cannot be lent as a place lies outside the file.
     start, end = (place if 0 <= place <= len(file) else len(file) + 1 for place in (start, end))
     # A literal of n bytes has at most n + 1 chunks and 2 * n bytes of text. A longer one than the most is refused.
@@ -251,18 +332,14 @@ def resolve_literal(file: bytes, start: int, end: int, is_verbatim: bool) -> Res
 def _resolved(function, given: tuple, most_chunks: int, most_text: int) -> Resolved:
     """What a call that resolves gives, with room for so many chunks and so much text."""
     scratch = (ctypes.c_uint8 * _LEAST_SCRATCH)()
-    rows = (ctypes.c_uint32 * (most_chunks * _CHUNK_NUMBERS))()
+    rows = _room(most_chunks * _CHUNK_NUMBERS)
     text = (ctypes.c_uint8 * most_text)()
     told = [ctypes.c_uint64() for _ in range(5)]
     status = function(*given, scratch, len(scratch), rows, len(rows), text, len(text), *map(ctypes.byref, told))
     count, written, names, place, place_end = (number.value for number in told)
     if status != 0:
         raise Refusal(status, place, place_end)
-    return Resolved(bytes(text[:written]), _chunks(rows[: count * _CHUNK_NUMBERS]), names)
-
-
-def _chunks(numbers: list) -> Tuple[ChunkRow, ...]:
-    return tuple(ChunkRow(*numbers[i : i + _CHUNK_NUMBERS]) for i in range(0, len(numbers), _CHUNK_NUMBERS))
+    return Resolved(bytes(memoryview(text)[:written]), ChunkRows(_written_numbers(rows, count * _CHUNK_NUMBERS)), names)
 
 
 def _months(months: Iterable[Tuple[str, str]]):
@@ -294,7 +371,7 @@ def resolve_field(
     """Resolves the value whose row is number `which` of the file's rows, of a verbatim field, as `file` or `url`, or another. A name
     stands for its last definition or, if it has none, for the text of the first month word that is the same; months are words with
     their texts."""
-    file = bytes(file)
+    file = _bytes(file)
     lent = _numbers(rows)
     # What cannot be lent as a row's number is past the rows.
     which = which if 0 <= which < len(lent) // _NUMBERS else len(lent)
@@ -311,9 +388,9 @@ def resolve_file(
 ) -> Tuple[Union[Resolved, Refusal], ...]:
     """Resolves every value of a file, each as `resolve_field` does, in one call. The flags say of each value, in the order of the rows,
     whether its field is verbatim. A value that is refused has its refusal in the answer; it is not raised, and stops no other."""
-    file = bytes(file)
+    file = _bytes(file)
     lent = _numbers(rows)
-    values = sum(kind == Kind.VALUE for kind in lent[::_NUMBERS])
+    values = list(memoryview(lent).cast("B").cast("I")[::_NUMBERS]).count(Kind.VALUE)
     lent_flags = bytes(bool(flag) for flag in flags)
     month_rows, words = _months(months)
     given = (file, len(file), lent, len(lent), lent_flags, len(lent_flags), month_rows, len(month_rows), words, len(words))
@@ -324,19 +401,19 @@ def _resolved_all(given: tuple, rows: int, values: int, room: int) -> Tuple[Unio
     """What the call over a whole file gives, with room for so many chunks and so much text."""
     number = ctypes.c_uint32
     scratch, heads, next_rows = (ctypes.c_uint8 * _LEAST_SCRATCH)(), (number * (rows // 2 + 1))(), (number * rows)()
-    answers, chunks, text = (number * (values * _ANSWER_NUMBERS))(), (number * (room * _CHUNK_NUMBERS))(), (ctypes.c_uint8 * room)()
+    answers, chunks, text = (number * (values * _ANSWER_NUMBERS))(), _room(room * _CHUNK_NUMBERS), (ctypes.c_uint8 * room)()
     lent = [part for memory in (scratch, heads, next_rows, answers, chunks, text) for part in (memory, len(memory))]
     told = [ctypes.c_uint64() for _ in range(5)]
     status = _resolve_file(*given, *lent, *map(ctypes.byref, told))
     _, chunk_rows, written, place, place_end = (number.value for number in told)
     if status != 0:
         raise Refusal(status, place, place_end)
-    all_chunks, all_text = chunks[: chunk_rows * _CHUNK_NUMBERS], bytes(text[:written])
+    all_chunks, all_text = ChunkRows(_written_numbers(chunks, chunk_rows * _CHUNK_NUMBERS)), bytes(memoryview(text)[:written])
 
     def value(answer: list) -> Union[Resolved, Refusal]:
         status, names, first, last, start, end = answer
         if status != 0:
             return Refusal(status, first, last)
-        return Resolved(all_text[start:end], _chunks(all_chunks[first * _CHUNK_NUMBERS : last * _CHUNK_NUMBERS]), names)
+        return Resolved(all_text[start:end], all_chunks[first:last], names)
 
     return tuple(value(answers[i : i + _ANSWER_NUMBERS]) for i in range(0, len(answers), _ANSWER_NUMBERS))

@@ -17,6 +17,32 @@ class Reading(unittest.TestCase):
         row = bib.read(b"@a{k,}")[2]
         self.assertEqual((row.kind, row.start, row.end), (Kind.KEY, 3, 4))
 
+    def test_rows_are_numbers(self):
+        rows = bib.read(b"@a{k,}@b{l,}")
+        self.assertEqual((len(rows), rows[0], rows[-1]), (6, (1, 0, 0, 5), (3, 0, 9, 10)))
+        self.assertEqual(rows[3].kind, Kind.ENTRY)
+        self.assertEqual(rows[3:], ((1, 0, 6, 11), (2, 0, 7, 8), (3, 0, 9, 10)))
+        self.assertEqual(rows[::3], (rows[0], rows[3]))
+        self.assertEqual(rows[4:2], ())
+        self.assertEqual(list(rows.numbers[:8]), [1, 0, 0, 5, 2, 0, 1, 2])
+        self.assertEqual((rows == bib.read(b"@a{k,}@b{l,}"), rows == rows[:5], rows == 5), (True, False, False))
+        self.assertEqual(hash(rows), hash(tuple(rows)))
+        self.assertEqual(repr(rows[:1]), "Rows([(1, 0, 0, 5)])")
+        with self.assertRaises(IndexError):
+            rows[6]
+        with self.assertRaises(TypeError):
+            rows.numbers[0] = 2
+
+    def test_only_bytes(self):
+        calls = [bib.read, bib.salvage, bib.unpack, lambda file: bib.resolve_file(file, (), ())]
+        calls += [lambda file: bib.resolve_literal(file, 0, 0, False), lambda file: bib.resolve_field(file, (), 0, False)]
+        calls += [lambda text: bib.format_verbatim(text, ()), lambda text: bib.to_biblatex_string(text, (), False)]
+        for call in calls:
+            for given in (5, "@a{k,}", None, [64]):
+                with self.assertRaisesRegex(TypeError, "give the bytes of a file, .* not " + type(given).__name__):
+                    call(given)
+        self.assertEqual(bib.read(memoryview(b"@a{k,}")), bib.read(b"@a{k,}"))
+
     def test_salvage(self):
         rows = bib.salvage(b"@a{\n@b{k,}")
         self.assertEqual([row.kind for row in rows], [9, 10, 1, 2, 3])
@@ -188,6 +214,13 @@ class Words(unittest.TestCase):
         numbers = dict(re.findall(r"    (\w+) = (\d+),", source))
         words = re.findall(r"Self::(\w+) => \"(.*)\",", source[: source.index("what_at")])
         self.assertEqual({int(numbers[name]): what for name, what in words}, bib._WHAT)
+
+    def test_what_is_known(self):
+        """The months and the verbatim fields are those of host/proved."""
+        source = (pathlib.Path(__file__).resolve().parents[1] / "proved/src/known.rs").read_text()
+        verbatim, months = source.split("pub const MONTHS")
+        self.assertEqual(tuple(re.findall(r'"(\w+)"', verbatim)), bib.VERBATIM)
+        self.assertEqual(tuple(re.findall(r'\("(\w+)", "(\w+)"\)', months)), bib.MONTHS)
 
 
 if __name__ == "__main__":
