@@ -15,7 +15,7 @@ use mathlib.Core.List.{List, [], _∷_, _++_, map}
 use lib.ListN.{length, take, getD}
 use lib.Dec.{eqb}
 use Rattle.text.specs.Scan.{part}
-use Rattle.row.specs.Limits.{mostBytes, mostLiteral, leastScratch, mostWritten}
+use Rattle.row.specs.Limits.{mostBytes, mostLiteral, leastScratch}
 use Rattle.raw.specs.Reader.{OutOf, ok, again, bad, more}
 use Rattle.chunk.specs.declared.form.Kind.the-variants.{Normal}
 use Rattle.chunk.specs.Chunk.{Chunk, chunk}
@@ -39,7 +39,7 @@ use Rattle.literal.specs.declared.parse.Parsed.{Parsed}
 use Rattle.literal.specs.declared.parse.Parsed.the-variants as parsed
 use Rattle.turn.specs.Content.{Part, cut, math, Reader, State, beginning, steps, chunksOf, flatten, contentTurn}
 use Rattle.turn.specs.Turns.{turns, Wrote, Placed, Grows, ReadyText}
-use Rattle.literal.specs.Rows.{RowsHold, textsOf}
+use Rattle.literal.specs.Rows.{mostNumber, mostRows, RowsHold, textsOf}
 use Rattle.literal.specs.Literal.{Resolved, chunks, refused, chunkUp, resolveLiteral}
 
 -- ---- content under construction
@@ -75,13 +75,13 @@ abbrev pub Goes : Place → List Part → Making → List ℕ → List ℕ → M
 Goes place xs m o b m′ o′ b′ =
     (t₀ : List ℕ) (ps : List Chunk) (b₀ : List ℕ) (σ : State) → HoldsState place t₀ ps b₀ σ m o b → HoldsState place t₀ ps b₀ (steps σ xs) m′ o′ b′
 
--- what is required to end a chunk: the text lies in the bytes, and the places are small enough for rows
+-- what is required to end a chunk: the text lies in the bytes, the places in the file have 32 bits, and no sum overflows
 pub record Fits (place : Place) (m : Making) (len : ℕ) : Type 0 where
   pub from : m .from ≤ m .len
   pub to : m .len ≤ len
-  pub text : place .text + m .len ≤ 4294967295
-  pub start : place .base + m .start ≤ 4294967295
-  pub rows : m .rows .n ≤ 2000000000000
+  pub text : place .text + m .len ≤ mostNumber + leastScratch
+  pub start : place .base + m .start ≤ mostNumber
+  pub rows : m .rows .n ≤ mostRows + mostLiteral
 
 -- the chunk of m is done and ends at e, and one with d braces open begins at p
 pub record ChunkDone (place : Place) (m : Making) (e d p : ℕ) (o b : List ℕ) (m′ : Making) (o′ b′ : List ℕ) : Type 0 where
@@ -278,8 +278,8 @@ pub record ReadyContent (s : List ℕ) (place : Place) (m : Making) (o byName by
   pub from : m .from ≤ m .len
   pub start : m .start ≤ m .at
   pub braces : m .braces ≤ m .at
-  pub rows : m .rows .n ≤ 1000000000000 + m .at
-  pub value : place .text + m .len + 2 * length s ≤ 4294900000 + 2 * m .at
+  pub rows : m .rows .n ≤ mostRows + m .at
+  pub value : place .text + m .len + 2 * length s ≤ mostNumber + leastScratch + 2 * m .at
   pub file : place .base ≤ mostBytes
 
 -- what a function requires that ends a chunk: what `ReadyContent` has, without the tables
@@ -289,16 +289,16 @@ pub record ReadySign (s : List ℕ) (place : Place) (m : Making) (o : List ℕ) 
   pub from : m .from ≤ m .len
   pub start : m .start ≤ m .at
   pub braces : m .braces ≤ m .at
-  pub rows : m .rows .n ≤ 1000000000000 + m .at
-  pub value : place .text + m .len + 2 * length s ≤ 4294900000 + 2 * m .at
+  pub rows : m .rows .n ≤ mostRows + m .at
+  pub value : place .text + m .len + 2 * length s ≤ mostNumber + leastScratch + 2 * m .at
   pub file : place .base ≤ mostBytes
 
 -- what `parse` requires: a literal s of a file inside 01's limit, at `base` in it; the text of the value before it no longer than a row's
--- places reach; and the tables
+-- numbers reach; and the tables
 pub record ReadyLiteral (s : List ℕ) (base before : ℕ) (have : Rows) (o byName byMark : List ℕ) : Type 0 where
   pub file : base + length s ≤ mostBytes
   pub scratch : leastScratch ≤ length o
-  pub value : before ≤ mostWritten
-  pub rows : have .n ≤ 1000000000000
+  pub value : before ≤ mostNumber
+  pub rows : have .n ≤ mostRows
   pub names : byName ≡ allNames
   pub marks : byMark ≡ numbers composites

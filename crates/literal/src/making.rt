@@ -8,6 +8,7 @@ ghost use mathlib.Core.Path.{_≡_};
 ghost use Prim.Native.Nat.{_+_, _≤_};
 ghost use lib.ListN.{length};
 ghost use Rattle.command.specs.Stack.{defaultChunk as kindAt};
+ghost use Rattle.literal.specs.Rows.{mostNumber};
 ghost use Rattle.literal.specs.Inner.{ChunkDone, MathDone, Fits};
 
 // The bools of `Making` and `Place` stand last: between the numbers they cost a third of the time.
@@ -42,11 +43,11 @@ pub fn default_chunk(braces: usize) -> Kind
     Kind::Verbatim
 }
 
+// A number as a row holds it. Of one that 32 bits do not hold nothing is said: rows are written before it is known how long the text becomes.
 pub fn narrow(n: usize) -> u32
-    requires { ⌜ n ≤ 4294967295 ⌝ }
-    ensures { λ r. ⌜ r ≡ n ⌝ }
+    ensures { λ r. ⌜ (n ≤ mostNumber → r ≡ n) ⌝ }
 {
-    n as u32
+    (n % 4294967296) as u32
 }
 
 // Ends the chunk under construction at `end`, and begins one at `start` with `braces` braces open. In an argument the text of the chunk is
@@ -60,7 +61,7 @@ pub fn turnaround(
     out: &mut [u8],
     numbers: &mut [u32],
 ) -> Making
-    requires { ⌜ Fits place st (length (now out)) × (place .base + end ≤ 4294967295) ⌝ }
+    requires { ⌜ Fits place st (length (now out)) × (place .base + end ≤ mostNumber) ⌝ }
     ensures { λ r. ⌜ ChunkDone place st end braces start (now (out .entry)) (now (numbers .entry)) r (now (out .exit)) (now (numbers .exit)) ⌝ }
 {
     let have = st.rows;
@@ -106,7 +107,7 @@ pub fn put_math(
     numbers: &mut [u32],
 ) -> Making
     requires { ⌜ (from ≤ to) × (to ≤ length (now s)) × (st .len + to + 2 ≤ length (now out) + from) × (st .from ≡ st .len) ⌝ }
-    requires { ⌜ Fits place st (length (now out)) × (place .text + st .len + to ≤ 4294967295) × (place .base + to ≤ 4294967295) ⌝ }
+    requires { ⌜ Fits place st (length (now out)) × (place .base + to ≤ mostNumber) ⌝ }
     ensures { λ r. ⌜ MathDone (now (s .entry)) from to place st (now (out .entry)) (now (numbers .entry)) r (now (out .exit)) (now (numbers .exit))
         ⌝ }
 {

@@ -19,13 +19,13 @@ ghost use mathlib.Core.Bool.{false};
 ghost use Prim.Native.Nat.{_+_, _≤_, _<_};
 ghost use lib.ListN.{length, take};
 ghost use Rattle.text.specs.Scan.{part};
-ghost use Rattle.row.specs.Limits.{mostBytes, mostWritten, leastScratch};
+ghost use Rattle.row.specs.Limits.{mostBytes, leastScratch};
 ghost use Rattle.raw.specs.Strict.{faultUp};
 ghost use Rattle.chunk.specs.declared.form.Kind.the-variants.{Normal};
 ghost use Rattle.command.specs.Commands.{meaningOf};
 ghost use Rattle.turn.specs.Content.{inside};
 ghost use Rattle.literal.specs.Literal.{resolveLiteral};
-ghost use Rattle.literal.specs.Rows.{Pushes};
+ghost use Rattle.literal.specs.Rows.{mostNumber, mostRows, Pushes};
 ghost use Rattle.literal.specs.Inner.{from, ReadyContent, inArgument, Fits, LastChunkDone, SaysContent, SaysArgument, AheadMade};
 ghost use Rattle.literal.specs.Inner.{ReadTo, SaysBegun, ReadyLiteral, SaysParsed, GrowsParsed};
 ghost use Rattle.turn.specs.Turns.{CommandSpans};
@@ -165,7 +165,7 @@ fn up(f: Fault, base: usize) -> Fault
 // The end of a literal's content: the last chunk is done too if it has text, or if there is no other. `out`, where the text stands, is there for
 // the contract.
 fn close(t: Making, place: Place, out: &[u8], numbers: &mut [u32]) -> Rows
-    requires { ⌜ Fits place t (length (now out)) × (place .base + t .at ≤ 4294967295) × (place .argument ≡ false) ⌝ }
+    requires { ⌜ Fits place t (length (now out)) × (place .base + t .at ≤ mostNumber) × (place .argument ≡ false) ⌝ }
     ensures { λ r. ⌜ LastChunkDone place t (now (out .entry)) (now (numbers .entry)) r (now (out .entry)) (now (numbers .exit)) ⌝ }
 {
     let have = t.rows;
@@ -190,7 +190,7 @@ pub fn whole(
     have: Rows,
     numbers: &mut [u32],
 ) -> Rows
-    requires { ⌜ (base ≤ mostBytes) × (end ≤ mostBytes) × (before ≤ mostWritten) × (len ≤ leastScratch) × (have .n ≤ 1000000000000) ⌝ }
+    requires { ⌜ (base ≤ mostBytes) × (end ≤ mostBytes) × (before ≤ mostNumber) × (len ≤ leastScratch) × (have .n ≤ mostRows) ⌝ }
     ensures { λ r. ⌜ Pushes Normal before (before + len) base end have (now (numbers .entry)) r (now (numbers .exit)) ⌝ }
     ensures { λ r. ⌜ r .n ≤ have .n + 1 ⌝ }
 {

@@ -2,7 +2,14 @@
 use chunk::form;
 use chunk::form::Kind;
 ghost use Prim.Native.Nat.{_+_, _≤_};
-ghost use Rattle.literal.specs.Rows.{Pushes};
+ghost use Rattle.row.specs.Limits.{mostLiteral};
+ghost use Rattle.literal.specs.Rows.{mostRows, Pushes};
+
+// The greatest number that a row can hold: it has 32 bits.
+pub const MOST_NUMBER: usize = 4_294_967_295;
+
+// Rows are counted as far as this. It is more than any lent numbers have room for: their length has 64 bits, and a row is five numbers.
+pub const MOST_ROWS: usize = 4_000_000_000_000_000_000;
 
 // The rows of chunks so far: how many; of the last one its kind's number, or 3 where there is none, and where its text and its span begin.
 pub struct Rows {
@@ -23,7 +30,7 @@ pub fn push(
     start: u32,
     end: u32,
 ) -> Rows
-    requires { ⌜ have .n ≤ 2000000000000 ⌝ }
+    requires { ⌜ have .n ≤ mostRows + mostLiteral ⌝ }
     ensures { λ r. ⌜ Pushes kind from to start end have (now (rows .entry)) r (now (rows .exit)) ⌝ }
     ensures { λ r. ⌜ (have .n ≤ r .n) × (r .n ≤ have .n + 1) ⌝ }
 {

@@ -32,10 +32,10 @@ use Rattle.turn.specs.Content.{Part, put, State, beginning, step, steps, pushed
 use Rattle.turn.specs.Turns.{turns, concat, Wrote, Grows}
 use Rattle.turn.proofs.Turning.{turning}
 use Rattle.literal.specs.Literal.{Resolved, chunks, refused, chunkUp, resolvedOf, tooLong, resolveLiteral}
-use Rattle.literal.specs.Rows.{RowsHold, textsOf, Pushes}
+use Rattle.literal.specs.Rows.{RowsHold, textsOf, onto, Ranges, Pushes, mostNumber}
 use Rattle.literal.specs.Inner.{HoldsState, RowsHeld, Goes, ChunkDone, LastChunkDone, standing, some, from, SaysContent, Added, SaysParsed, Fits}
 use Rattle.literal.specs.Inner.{AheadState, AheadMade, ReadyContent, ReadyLiteral, Onto, ReadTo, OneChunk}
-use Rattle.literal.proofs.ways.MakingWays.{texts-append, no-text}
+use Rattle.literal.proofs.ways.MakingWays.{Narrowed, texts-append, no-text}
 use Rattle.literal.proofs.ways.StepWays.{puts-state, text-put}
 use Rattle.literal.proofs.ways.ContentWays.{turn-again}
 use Rattle.literal.proofs.Joining.{joining}
@@ -282,9 +282,17 @@ module _ (base before : ℕ) (have : Rows) (b : List ℕ) where
   -- ---- one chunk
 
   -- the row that is pushed, with places of 32 bits
-  pub whole-row : (end len from to first last : ℕ) (k : Rows) (b′ : List ℕ) → from ≡ before → to ≡ before + len → first ≡ base → last ≡ end
-      → Pushes Normal from to first last have b k b′ → Pushes Normal before (before + len) base end have b k b′
-  whole-row end len from to first last k b′ e f g i h = rw (e, f, g, i) at h
+  pub whole-row : (end len from to first last : ℕ) (k : Rows) (b′ : List ℕ) → Narrowed before from → Narrowed (before + len) to → first ≡ base
+      → last ≡ end → Pushes Normal from to first last have b k b′ → Pushes Normal before (before + len) base end have b k b′
+  whole-row end len from to first last k b′ e f g i h cs t b₀ r =
+      subst (λ (p : ℕ). RowsHold cs b₀ have b → RowsHold (onto cs (chunk Normal t p end)) b₀ k b′) g
+      (subst (λ (q : ℕ). RowsHold cs b₀ have b → RowsHold (onto cs (chunk Normal t first q)) b₀ k b′) i (h cs t b₀ ranges))
+    where
+      ranges : Ranges cs t from to
+      ranges s =
+          let at = r s in
+          let p = e (omega (arith, s, at .0)) in
+          (p ∙ at .0, omega (arith, p, at .1, f (omega (arith, s, at .0, at .1))))
 
   -- a literal that is one chunk, whose row is pushed
   pub parse-whole : (verb : Bool) (s : List ℕ) (n : ℕ) (o : List ℕ) (k : Rows) (b′ : List ℕ) → OneChunk verb s n o → n ≤ length o
@@ -296,7 +304,7 @@ module _ (base before : ℕ) (have : Rows) (b : List ℕ) where
         text = sym (append-nil (take n o));
         bytes = sym (length-take-le n o l) ∙ ap length (sym (append-nil (take n o)));
         rows = subst (λ (cs : List Chunk). RowsHold cs b₀ k b′) (sym (joining ps (chunk Normal (take n o) base (base + length s))))
-            (z (flatten ps) (take n o) b₀ (i ∙ ap length (sym (flattening .texts-flat ps))) (ap (λ (m : ℕ). before + m) (sym (length-take-le n o l))) h);
+            (z (flatten ps) (take n o) b₀ (λ _. (i ∙ ap length (sym (flattening .texts-flat ps)), ap (λ (m : ℕ). before + m) (sym (length-take-le n o l)))) h);
       }
 
 -- ---- bounds
@@ -325,7 +333,7 @@ module _ (s : List ℕ) (base before : ℕ) (have : Rows) (o byName byMark : Lis
     ahead = subst (AheadMade (length s) 0 (first have p n)) e a
 
     pub rest-fits : (m : ℕ) → m ≡ length o
-        → Fits (inLiteral base before) t m × (base + t .at ≤ 4294967295) × (_≡_ {A = Bool} false false)
+        → Fits (inLiteral base before) t m × (base + t .at ≤ mostNumber) × (_≡_ {A = Bool} false false)
     rest-fits m k =
         let a = ahead in (
           record {

@@ -1,4 +1,5 @@
 -- A chunk is done: for `turnaround` and `put_math` of src/making.rt.
+--     Narrowed                             a place as a row has it
 --     texts-append, no-text                the text of chunks and one more; a text of no length
 --     held-text, held-below                what stands in the bytes
 --     argument-holds, literal-done         the two ways through `turnaround`
@@ -26,7 +27,7 @@ use Rattle.literal.specs.declared.making.Making.{Making}
 use Rattle.literal.specs.declared.making.Place.{Place}
 use Rattle.turn.specs.Content.{cut, math, State, steps, flatten}
 use Rattle.literal.specs.Literal.{chunkUp}
-use Rattle.literal.specs.Rows.{RowsHold, textsOf, onto, Pushes}
+use Rattle.literal.specs.Rows.{RowsHold, textsOf, onto, Ranges, Pushes, mostNumber}
 use Rattle.literal.specs.Inner.{HoldsState, RowsHeld, ChunkDone, standing, some}
 use Rattle.literal.proofs.Joining.{joining}
 use Rattle.literal.proofs.Flattening.{flattening}
@@ -48,6 +49,12 @@ some-snoc (c ∷ cs) d = refl
 pub verbatim-some : (n : ℕ) → (n ≡ 0 → ⊥) → Verbatim ≡ defaultChunk n
 verbatim-some zero h = absurd (h refl)
 verbatim-some (suc n) h = refl
+
+-- ---- places
+
+-- r is n, if 32 bits hold it
+abbrev pub Narrowed : ℕ → ℕ → Type 0
+Narrowed n r = n ≤ mostNumber → r ≡ n
 
 -- ---- a state and the bytes
 
@@ -154,7 +161,7 @@ module _ (place : Place) (t₀ : List ℕ) (ps : List Chunk) (b₀ : List ℕ) (
         ap (λ (l : List Chunk). flatten (ps ++ l)) (up-snoc base (σ .done) c₁)
         ∙ ap flatten (sym (append-assoc ps (map (chunkUp base) (σ .done)) (chunkUp base c₁ ∷ []))) ∙ joining all (chunkUp base c₁)
 
-    module _ (i : kind ≡ defaultChunk (m .braces)) (u : from ≡ place .text + m .from) (v : to ≡ place .text + m .len)
+    module _ (i : kind ≡ defaultChunk (m .braces)) (u : Narrowed (place .text + m .from) from) (v : Narrowed (place .text + m .len) to)
         (x : first ≡ place .base + m .start) (y : last ≡ place .base + e) (z : Pushes kind from to first last (m .rows) b k′ b′) where
       lifted : chunk kind (σ .text) first last ≡ chunkUp base c₁
       lifted =
@@ -164,7 +171,12 @@ module _ (place : Place) (t₀ : List ℕ) (ps : List Chunk) (b₀ : List ℕ) (
       now-held : RowsHold (flatten (ps ++ map (chunkUp base) (σ .done ++ c₁ ∷ []))) b₀ k′ b′
       now-held =
           subst (λ (l : List Chunk). RowsHold l b₀ k′ b′) (ap (onto (flatten all)) lifted ∙ sym flat-more)
-          (z (flatten all) (σ .text) b₀ (u ∙ sym texts-all) (omega (arith, u, v, h .len)) (held .0))
+          (z (flatten all) (σ .text) b₀ ranges (held .0))
+        where
+          ranges : Ranges (flatten all) (σ .text) from to
+          ranges s =
+              let p = u (omega (arith, s, texts-all)) in
+              (p ∙ sym texts-all, omega (arith, p, v (omega (arith, s, texts-all, h .len)), h .len))
 
       literal-holds : HoldsState place t₀ ps b₀ (steps σ (cut d e p ∷ []))
           (record { at = p; braces = d; pushed = true; start = p; from = m .len; len = m .len; white = m .white; rows = k′ }) o b′
@@ -183,8 +195,8 @@ module _ (place : Place) (t₀ : List ℕ) (ps : List Chunk) (b₀ : List ℕ) (
 
 -- in a literal the chunk becomes a row
 pub literal-done : (place : Place) (m : Making) (o b : List ℕ) (e d p : ℕ) → m .from ≤ m .len → m .len ≤ length o → place .argument ≡ false → (kind : Kind)
-    (from to first last : ℕ) (k′ : Rows) (b′ : List ℕ) → kind ≡ defaultChunk (m .braces) → from ≡ place .text + m .from → to ≡ place .text + m .len
-    → first ≡ place .base + m .start → last ≡ place .base + e → Pushes kind from to first last (m .rows) b k′ b′ → k′ .n ≤ m .rows .n + 1
+    (from to first last : ℕ) (k′ : Rows) (b′ : List ℕ) → kind ≡ defaultChunk (m .braces) → Narrowed (place .text + m .from) from
+    → Narrowed (place .text + m .len) to → first ≡ place .base + m .start → last ≡ place .base + e → Pushes kind from to first last (m .rows) b k′ b′ → k′ .n ≤ m .rows .n + 1
     → ChunkDone place m e d p o b (record { at = p; braces = d; pushed = true; start = p; from = m .len; len = m .len; white = m .white; rows = k′ })
     o b′
 literal-done place m o b e d p l k a kind from to first last k′ b′ i u v x y z few = record {
@@ -250,8 +262,7 @@ module _ (place : Place) (t₀ : List ℕ) (ps : List Chunk) (b₀ : List ℕ) (
       }
 
   module _ (i : place .argument ≡ false) (x : Lays (m .len) w o l o′) (from to first last : ℕ) (k′ : Rows) (b′ : List ℕ)
-      (u : from ≡ place .text + m .len)
-      (v : to ≡ place .text + l) (y : first ≡ place .base + a) (z : last ≡ place .base + e) (push : Pushes Math from to first last (m .rows) b k′ b′)
+      (u : Narrowed (place .text + m .len) from) (v : Narrowed (place .text + l) to) (y : first ≡ place .base + a) (z : last ≡ place .base + e) (push : Pushes Math from to first last (m .rows) b k′ b′)
     where
       abbrev base₁ : ℕ
       base₁ = place .base
@@ -282,7 +293,12 @@ module _ (place : Place) (t₀ : List ℕ) (ps : List Chunk) (b₀ : List ℕ) (
           (ap (onto (flatten all-chunks)) (ap₂ (λ (p q : ℕ). chunk Math w p q) (omega (arith, y)) (omega (arith, z)))
           ∙ sym (ap (λ (l : List Chunk). flatten (ps ++ l)) (up-snoc base₁ (σ .done) μ)
           ∙ ap flatten (sym (append-assoc ps (map (chunkUp base₁) (σ .done)) (chunkUp base₁ μ ∷ []))) ∙ joining all-chunks (chunkUp base₁ μ)))
-          (push (flatten all-chunks) w b₀ (u ∙ sym texts-all-chunks) (omega (arith, u, v, x .end)) (held-math .0))
+          (push (flatten all-chunks) w b₀ ranges-math (held-math .0))
+        where
+          ranges-math : Ranges (flatten all-chunks) w from to
+          ranges-math s =
+              let p = u (omega (arith, s, texts-all-chunks)) in
+              (p ∙ sym texts-all-chunks, omega (arith, p, v (omega (arith, s, texts-all-chunks, x .end)), x .end))
 
       pub math-literal : HoldsState place t₀ ps b₀ (steps σ (math w a e ∷ [])) (made k′) o′ b′
       unfolding steps

@@ -2,7 +2,7 @@
 --     rows-length               as many rows as chunks
 --     push-new, push-join       the two ways through it
 -- Assumes nothing.
-use Prim.Native.Nat.{ℕ, zero, suc, _+_, _-_, _<_}
+use Prim.Native.Nat.{ℕ, zero, suc, _+_, _-_, _≤_, _<_}
 use native.Mathlib.Omega.{arith}
 use mathlib.Core.Path.{_≡_, refl, sym, ap, ap₂, subst, _∙_}
 use mathlib.Core.Bool.{Bool, true, false, cond, not, _&&_}
@@ -17,7 +17,7 @@ use Rattle.chunk.specs.declared.form.Kind.the-variants.{Normal, Verbatim, Math}
 use Rattle.chunk.specs.Chunk.{Chunk, chunk, kindOf, ChunkRow, chunkRow, putChunk}
 use Rattle.literal.specs.declared.rows.Rows.{Rows}
 use Rattle.turn.specs.Content.{joins, join}
-use Rattle.literal.specs.Rows.{rowsFrom, writes, textsOf, lastKind, lastText, lastStart, RowsHold, onto, Pushes}
+use Rattle.literal.specs.Rows.{rowsFrom, writes, textsOf, lastKind, lastText, lastStart, InReach, RowsHold, onto, Ranges, Pushes, mostNumber}
 
 -- ---- a list and its last chunk
 
@@ -151,27 +151,31 @@ at-last cs b₀ k b kind z h =
     some = omega (arith, h .count, ap length (z .same), length-append (z .front) (z .last ∷ []))
 
 module _ (kind : Kind) (from to start end : ℕ) (k : Rows) (b : List ℕ) (b′ : List ℕ) where
-  module _ (cs : List Chunk) (t b₀ : List ℕ) (f : from ≡ length (textsOf cs)) (g : to ≡ from + length t) (h : RowsHold cs b₀ k b) where
+  module _ (cs : List Chunk) (t b₀ : List ℕ) (f : Ranges cs t from to) (h : RowsHold cs b₀ k b) where
     abbrev d : Chunk
     d = chunk kind t start end
 
     held-new : b′ ≡ putChunk b (k .n) (chunkRow (kindOf kind) from to start end) → RowsHold (cs ++ d ∷ []) b₀
         (rowsOf (k .n + 1) (kindOf kind) from start) b′
     held-new e = record {
-      numbers = e ∙ ap₂ (λ (l : List ℕ) (n : ℕ). putChunk l n (chunkRow (kindOf kind) from to start end)) (h .numbers)
+      numbers = λ s. let r = f (short s) in
+          e ∙ ap₂ (λ (l : List ℕ) (n : ℕ). putChunk l n (chunkRow (kindOf kind) from to start end)) (h .numbers (omega (arith, short s)))
           (h .count ∙ sym (rows-length cs 0) ∙ zeroed (length (rowsFrom 0 cs)))
           ∙ ap₂ (λ (x y : ℕ). putChunk (writes b₀ 0 (rowsFrom 0 cs)) (0 + length (rowsFrom 0 cs)) (chunkRow (kindOf kind) x y start end))
-          (f ∙ zeroed (length (textsOf cs)))
-          (g ∙ ap (λ (n : ℕ). n + length t) (f ∙ zeroed (length (textsOf cs))))
+          (r .0 ∙ zeroed (length (textsOf cs)))
+          (r .1 ∙ ap (λ (n : ℕ). n + length t) (r .0 ∙ zeroed (length (textsOf cs))))
           ∙ sym (writes-snoc (rowsFrom 0 cs) b₀ 0 (rowAt (0 + length (textsOf cs)) d)) ∙ ap (writes b₀ 0) (sym (rows-snoc cs 0 d));
       count = omega (arith, h .count, length-append cs (d ∷ []));
       last = sym (kind-snoc cs d);
-      from = f ∙ zeroed (length (textsOf cs)) ∙ sym (text-snoc cs 0 d);
+      from = λ s. f (short s) .0 ∙ zeroed (length (textsOf cs)) ∙ sym (text-snoc cs 0 d);
       start = sym (start-snoc cs d);
     }
       where
         zeroed : (n : ℕ) → n ≡ 0 + n
         zeroed n = omega arith
+
+        short : InReach (cs ++ d ∷ []) → length (textsOf cs) + length t ≤ mostNumber
+        short s = omega (arith, s, texts-snoc cs d)
 
     onto-new : (l : List Chunk) → l ≡ cs → test k kind ≡ false → onto l d ≡ l ++ d ∷ []
     onto-new [] q e = refl
@@ -194,29 +198,39 @@ module _ (kind : Kind) (from to start end : ℕ) (k : Rows) (b : List ℕ) (b′
       abbrev joined : Chunk
       joined = join c d
 
-      lent : b ≡ putChunk w (0 + length (rowsFrom 0 front)) (rowAt (0 + length (textsOf front)) c)
-      lent = h .numbers ∙ ap (λ (l : List Chunk). writes b₀ 0 (rowsFrom 0 l)) (z .same) ∙ ap (writes b₀ 0) (rows-snoc front 0 c)
+      lent : InReach cs → b ≡ putChunk w (0 + length (rowsFrom 0 front)) (rowAt (0 + length (textsOf front)) c)
+      lent s = h .numbers s ∙ ap (λ (l : List Chunk). writes b₀ 0 (rowsFrom 0 l)) (z .same) ∙ ap (writes b₀ 0) (rows-snoc front 0 c)
           ∙ writes-snoc (rowsFrom 0 front) b₀ 0 (rowAt (0 + length (textsOf front)) c)
 
       held-join : eqb (k .last) (kindOf kind) ≡ true → b′ ≡ putChunk b (k .n - 1) (chunkRow (kindOf kind) (k .from) to (k .start) end)
           → RowsHold (front ++ joined ∷ []) b₀ (rowsOf (k .n) (kindOf kind) (k .from) (k .start)) b′
       held-join q e = record {
-        numbers = e ∙ ap₂ (λ (l : List ℕ) (n : ℕ). putChunk l n (chunkRow (kindOf kind) (k .from) to (k .start) end)) lent place
+        numbers = λ s.
+            e ∙ ap₂ (λ (l : List ℕ) (n : ℕ). putChunk l n (chunkRow (kindOf kind) (k .from) to (k .start) end)) (lent (first s)) place
             ∙ put-twice w (0 + length (rowsFrom 0 front)) (rowAt (0 + length (textsOf front)) c) (chunkRow (kindOf kind) (k .from) to (k .start) end)
-            ∙ ap (putChunk w (0 + length (rowsFrom 0 front))) row
+            ∙ ap (putChunk w (0 + length (rowsFrom 0 front))) (row s)
             ∙ sym (writes-snoc (rowsFrom 0 front) b₀ 0 (rowAt (0 + length (textsOf front)) joined))
             ∙ ap (writes b₀ 0) (sym (rows-snoc front 0 joined));
         count = omega (arith, h .count, ap length (z .same), length-append front (c ∷ []), length-append front (joined ∷ []));
         last = sym kinds ∙ sym (kind-snoc front joined);
-        from = text ∙ sym (text-snoc front 0 joined);
+        from = λ s. text (first s) ∙ sym (text-snoc front 0 joined);
         start = begin ∙ sym (start-snoc front joined);
       }
         where
           kinds : kindOf (c .kind) ≡ kindOf kind
           kinds = sym (h .last ∙ ap lastKind (z .same) ∙ kind-snoc front c) ∙ eqb-true _ _ q
 
-          text : k .from ≡ 0 + length (textsOf front)
-          text = h .from ∙ ap (lastText 0) (z .same) ∙ text-snoc front 0 c
+          all : length (textsOf cs) ≡ length (textsOf front) + length (c .text)
+          all = ap (λ (l : List Chunk). length (textsOf l)) (z .same) ∙ texts-snoc front c
+
+          short : InReach (front ++ joined ∷ []) → length (textsOf cs) + length t ≤ mostNumber
+          short s = omega (arith, s, all, texts-snoc front joined, length-append (c .text) t)
+
+          first : InReach (front ++ joined ∷ []) → InReach cs
+          first s = omega (arith, short s)
+
+          text : InReach cs → k .from ≡ 0 + length (textsOf front)
+          text s = h .from s ∙ ap (lastText 0) (z .same) ∙ text-snoc front 0 c
 
           begin : k .start ≡ c .start
           begin = h .start ∙ ap lastStart (z .same) ∙ start-snoc front c
@@ -224,25 +238,25 @@ module _ (kind : Kind) (from to start end : ℕ) (k : Rows) (b : List ℕ) (b′
           place : k .n - 1 ≡ 0 + length (rowsFrom 0 front)
           place = omega (arith, h .count, ap length (z .same), length-append front (c ∷ []), rows-length front 0)
 
-          to-end : to ≡ 0 + length (textsOf front) + length (c .text ++ t)
-          to-end = omega (arith, g, f, ap (λ (l : List Chunk). length (textsOf l)) (z .same), texts-snoc front c, length-append (c .text) t)
+          to-end : InReach (front ++ joined ∷ []) → to ≡ 0 + length (textsOf front) + length (c .text ++ t)
+          to-end s = let r = f (short s) in omega (arith, r .0, r .1, all, length-append (c .text) t)
 
-          row : chunkRow (kindOf kind) (k .from) to (k .start) end ≡ rowAt (0 + length (textsOf front)) joined
-          row = ap₂ (λ (x y : ℕ). chunkRow x (k .from) y (k .start) end) (sym kinds) to-end
-              ∙ ap₂ (λ (x y : ℕ). chunkRow (kindOf (c .kind)) x (0 + length (textsOf front) + length (c .text ++ t)) y end) text begin
+          row : InReach (front ++ joined ∷ []) → chunkRow (kindOf kind) (k .from) to (k .start) end ≡ rowAt (0 + length (textsOf front)) joined
+          row s = ap₂ (λ (x y : ℕ). chunkRow x (k .from) y (k .start) end) (sym kinds) (to-end s)
+              ∙ ap₂ (λ (x y : ℕ). chunkRow (kindOf (c .kind)) x (0 + length (textsOf front) + length (c .text ++ t)) y end) (text (first s)) begin
 
       onto-join : test k kind ≡ true → onto cs d ≡ front ++ joined ∷ []
       onto-join e = ap (λ (l : List Chunk). onto l d) (z .same) ∙ onto-snoc front c d true (at-last cs b₀ k b kind z h ∙ e)
 
   pub push-new : test k kind ≡ false → b′ ≡ putChunk b (k .n) (chunkRow (kindOf kind) from to start end)
       → Pushes kind from to start end k b (rowsOf (k .n + 1) (kindOf kind) from start) b′
-  push-new e q cs t b₀ f g h =
-      subst (λ (l : List Chunk). RowsHold l b₀ (rowsOf (k .n + 1) (kindOf kind) from start) b′) (sym (onto-new cs t b₀ f g h cs refl e))
-      (held-new cs t b₀ f g h q)
+  push-new e q cs t b₀ f h =
+      subst (λ (l : List Chunk). RowsHold l b₀ (rowsOf (k .n + 1) (kindOf kind) from start) b′) (sym (onto-new cs t b₀ f h cs refl e))
+      (held-new cs t b₀ f h q)
 
   pub push-join : test k kind ≡ true → b′ ≡ putChunk b (k .n - 1) (chunkRow (kindOf kind) (k .from) to (k .start) end)
       → Pushes kind from to start end k b (rowsOf (k .n) (kindOf kind) (k .from) (k .start)) b′
-  push-join e q cs t b₀ f g h = by cs refl
+  push-join e q cs t b₀ f h = by cs refl
     where
       last : eqb (k .last) (kindOf kind) ≡ true
       last = both-true (ltb 0 (k .n)) (eqb (k .last) (kindOf kind)) (both-true (ltb 0 (k .n) && eqb (k .last) (kindOf kind)) (not (eqb (kindOf kind) 2))
@@ -257,8 +271,8 @@ module _ (kind : Kind) (from to start end : ℕ) (k : Rows) (b : List ℕ) (b′
       by (c ∷ l) r =
           let y = snoc-of l c in
           let z : Snoc cs = record { front = y .front; last = y .last; same = r ∙ y .same } in
-          subst (λ (l : List Chunk). RowsHold l b₀ (rowsOf (k .n) (kindOf kind) (k .from) (k .start)) b′) (sym (onto-join cs t b₀ f g h z e))
-          (held-join cs t b₀ f g h z last q)
+          subst (λ (l : List Chunk). RowsHold l b₀ (rowsOf (k .n) (kindOf kind) (k .from) (k .start)) b′) (sym (onto-join cs t b₀ f h z e))
+          (held-join cs t b₀ f h z last q)
 
 -- ---- both ways, over the kind's number as the code has it
 

@@ -33,6 +33,7 @@ use Rattle.literal.specs.declared.content.Made.the-variants as made
 use Rattle.literal.specs.declared.content.SignEnd.{SignEnd}
 use Rattle.literal.specs.declared.content.SignEnd.the-variants as signEnd
 use Rattle.turn.specs.Content.{Part, put, cut, math, Reader, State, refusedByte, step, steps, maths, closing, contentTurn}
+use Rattle.literal.specs.Rows.{mostNumber}
 use Rattle.literal.specs.Inner.{HoldsState, Goes, RowsHeld, standing, formula, SignTurn, SignEnds, SaysSign, ReadySign, Fits, Onto, ChunkDone, MathDone, Further, AheadState}
 use Rattle.turn.specs.Turns.{turns, concat, SaysText, Placed, Grows}
 use Rattle.turn.proofs.Turning.{turning}
@@ -136,7 +137,7 @@ module _ (place : Place) (verb : Bool) (s : List ℕ) (m : Making) (o b : List �
     -- what `put_math` requires
     pub math-ready : getD s (m .at) 0 ≡ 0x24 → ReadySign s place m o → length o₁ ≡ length o
         → ((m .at + 1 ≤ q) × (q ≤ length s) × (m₁ .len + q + 2 ≤ length o₁ + (m .at + 1)) × (m₁ .from ≡ m₁ .len))
-        × (Fits place m₁ (length o₁) × (place .text + m₁ .len + q ≤ 4294967295) × (place .base + q ≤ 4294967295))
+        × (Fits place m₁ (length o₁) × (place .base + q ≤ mostNumber))
     math-ready e r n =
         let f = h .math e in (
           (omega (arith, f), omega (arith, h .inside), omega (arith, f, h .inside, r .room, x .len, n), x .from),
@@ -148,7 +149,6 @@ module _ (place : Place) (verb : Bool) (s : List ℕ) (m : Making) (o b : List �
               start = omega (arith, x .start, r .file, r .literal, h .inside);
               rows = omega (arith, x .rows, r .rows, r .literal, f, h .inside);
             },
-            omega (arith, x .len, r .value, r .literal, f, h .inside),
             omega (arith, r .file, r .literal, h .inside),
           ),
         )

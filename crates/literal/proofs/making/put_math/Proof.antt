@@ -49,7 +49,7 @@ returns-2 c =
           (a .to) _ (copy .copy2 .result) (if1 .if1 .left)
           (copy .copy2 .ensures .0) (begins .narrow .result) (ends .narrow2 .result) (first .narrow3 .result) (last .narrow4 .result)
           (push .push3 .result) _ (begins .narrow .ensures)
-          (ends .narrow2 .ensures) (first .narrow3 .ensures) (last .narrow4 .ensures) (push .push3 .ensures .0);
+          (ends .narrow2 .ensures) (first .narrow3 .ensures (omega (arith, p .0 .0, p .1 .1))) (last .narrow4 .ensures (p .1 .1)) (push .push3 .ensures .0);
       at = refl;
       braces = refl;
       start = refl;

@@ -43,7 +43,7 @@ returns-2 c =
     let p = begin .pre in
     literal-done (a .place) (a .st) (a .out .now) (a .numbers .now) (a .end) (a .braces) (a .start) (p .0 .from) (p .0 .to) (if1 .if1 .left)
     (kind .default-chunk .result) (from .narrow .result) (to .narrow2 .result) (first .narrow3 .result) (last .narrow4 .result) (push .push .result) _
-    (kind .default-chunk .ensures) (from .narrow .ensures) (to .narrow2 .ensures) (first .narrow3 .ensures) (last .narrow4 .ensures)
+    (kind .default-chunk .ensures) (from .narrow .ensures) (to .narrow2 .ensures) (first .narrow3 .ensures (p .0 .start)) (last .narrow4 .ensures (p .1))
     (push .push .ensures .0) (push .push .ensures .1 .1)
 
 pub turnaround-spec : {M : Type 1} → statement M

@@ -13,13 +13,6 @@ add-narrow-3 c =
     let begin = asked .before .before .before .before .before .before in
     omega (arith, begin .pre .0 .start)
 
-narrow-requires-3 : tie.Need-narrow-requires-3
-narrow-requires-3 c κs =
-    let to = c .before .before in
-    let asked = to .before .before .before .before .before .before .before in
-    let begin = asked .before .before .before .before .before .before in
-    begin .pre .0 .start
-
 add-narrow-4 : tie.Need-add-narrow-4
 add-narrow-4 c =
     let first = c .before .before in
@@ -27,14 +20,6 @@ add-narrow-4 c =
     let asked = to .before .before .before .before .before .before .before in
     let begin = asked .before .before .before .before .before .before in
     omega (arith, begin .pre .1)
-
-narrow-requires-4 : tie.Need-narrow-requires-4
-narrow-requires-4 c κs =
-    let first = c .before .before in
-    let to = first .before .before .before in
-    let asked = to .before .before .before .before .before .before .before in
-    let begin = asked .before .before .before .before .before .before in
-    begin .pre .1
 
 push-requires : tie.Need-push-requires
 push-requires c κs =
@@ -60,7 +45,7 @@ returns c =
     closed-done (a .place) (a .t) (a .out .now) (a .numbers .now) (p .2) _ _ _ (asked .if1 .taken)
     (literal-done (a .place) (a .t) (a .out .now) (a .numbers .now) (a .t .at) 0 (a .t .at) (p .0 .from) (p .0 .to) (p .2)
     (kind .default-chunk .result) (from .narrow .result) (to .narrow2 .result) (first .narrow3 .result) (last .narrow4 .result) (push .push .result) _
-    (kind .default-chunk .ensures) (from .narrow .ensures) (to .narrow2 .ensures) (first .narrow3 .ensures) (last .narrow4 .ensures)
+    (kind .default-chunk .ensures) (from .narrow .ensures) (to .narrow2 .ensures) (first .narrow3 .ensures (p .0 .start)) (last .narrow4 .ensures (p .1))
     (push .push .ensures .0) (push .push .ensures .1 .1))
 
 returns-2 : tie.Need-returns-2
@@ -79,9 +64,9 @@ close-spec =
     (λ c. search needs)
     (λ c κs. search needs)
     add-narrow-3
-    narrow-requires-3
+    (λ c κs. search needs)
     add-narrow-4
-    narrow-requires-4
+    (λ c κs. search needs)
     push-requires
     (λ c. search needs)
     returns

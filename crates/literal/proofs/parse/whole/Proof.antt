@@ -1,4 +1,5 @@
 -- `literal::parse::whole` meets its contract. Assumes nothing.
+use native.Mathlib.Omega.{arith}
 use borrow.Author.Needs.{needs}
 use Rattle.literal.proofs.ways.LiteralWays.{whole-row}
 use Rattle.literal.proofs.parse.whole.Statement.{statement}
@@ -11,10 +12,12 @@ returns c =
     let first = last .before in
     let to = first .before in
     let from = to .before in
-    let a = from .before .before .args in (
+    let begin = from .before .before in
+    let a = begin .args in
+    let p = begin .pre in (
       whole-row (a .base) (a .before) (a .have) (a .numbers .now) (a .end) (a .len) (from .narrow .result) (to .narrow2 .result)
           (first .narrow3 .result) (last .narrow4 .result) (push .push .result) _ (from .narrow .ensures) (to .narrow2 .ensures)
-          (first .narrow3 .ensures) (last .narrow4 .ensures) (push .push .ensures .0),
+          (first .narrow3 .ensures (omega (arith, p .0))) (last .narrow4 .ensures (omega (arith, p .1))) (push .push .ensures .0),
       push .push .ensures .1 .1,
     )
 
