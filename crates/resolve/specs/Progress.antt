@@ -1,4 +1,5 @@
 -- What the lent numbers and bytes hold while the elements of a value are resolved one after the other. For src/progress.rt and the crates above.
+--     small             the chunks are no more than are counted
 --     Has               the chunks so far, as the code has them
 --     SaysRun           what a function answers that takes a run further
 --     Counted           what a value came to that was counted and not written
@@ -6,27 +7,32 @@
 -- Assumes nothing.
 use Prim.Native.Nat.{ℕ, _+_, _≤_}
 use mathlib.Core.Path.{_≡_}
-use mathlib.Core.Bool.{false, not}
+use mathlib.Core.Bool.{Bool, false, not, _&&_}
 use mathlib.Core.List.{List, _++_}
 use lib.ListN.{length}
 use lib.Seq.{sets}
+use lib.Dec.{leb}
 use Rattle.text.specs.Scan.{part}
 use Rattle.row.specs.declared.fault.Fault.{Fault}
-use Rattle.row.specs.Limits.{leastScratch, mostNames, mostWritten}
+use Rattle.row.specs.Limits.{leastScratch, mostNames}
 use Rattle.turn.specs.Content.{flatten}
 use Rattle.chunk.specs.Chunk.{Chunk}
 use Rattle.compose.specs.Lookup.{numbers}
 use Rattle.compose.specs.Composites.{composites}
 use Rattle.command.specs.Names.{names as allNames}
 use Rattle.literal.specs.declared.rows.Rows.{Rows}
-use Rattle.literal.specs.Rows.{RowsHold, textsOf}
+use Rattle.literal.specs.Rows.{mostNumber, mostRows, RowsHold, textsOf}
 use Rattle.resolve.specs.declared.answer.Answer.{Answer}
 use Rattle.resolve.specs.declared.answer.Answer.the-variants as answer
 use Rattle.resolve.specs.declared.progress.Progress.{Progress}
 use Rattle.resolve.specs.declared.progress.Went.{Went}
 use Rattle.resolve.specs.declared.progress.Went.the-variants as went
-use Rattle.resolve.specs.Resolves.{Value, resolved, refused, small}
+use Rattle.resolve.specs.Resolves.{Value, resolved, refused}
 use Rattle.resolve.specs.Runs.{Run, done, stop}
+
+-- the chunks are no more than are counted. No room holds more: `small-fits` of proofs/appending/SmallChunks.antt
+unfoldable pub small : List Chunk → Bool
+small cs = leb (length cs) mostRows && leb (length (textsOf cs)) mostNumber
 
 -- st, b and t have the chunks ps: either these are more than can be written, and `over` says so, or they are counted and written exactly. The
 -- lent numbers were b₀ and the lent bytes t₀ before any chunk
@@ -38,8 +44,8 @@ pub record Has (ps : List Chunk) (b₀ t₀ : List ℕ) (st : Progress) (b t : L
 
 -- the counts are small, so that none overflows
 pub record Bounded (st : Progress) : Type 0 where
-  pub bytes : st .bytes ≤ mostWritten
-  pub rows : st .rows .n ≤ mostWritten
+  pub bytes : st .bytes ≤ mostNumber
+  pub rows : st .rows .n ≤ mostRows
   pub names : st .names ≤ mostNames
 
 abbrev pub answerOf : Progress → Answer
@@ -54,7 +60,7 @@ Adds cs st b t st′ b′ t′ = (ps : List Chunk) (b₀ t₀ : List ℕ) → Ha
 abbrev pub Appends : Rows → List ℕ → ℕ → ℕ → Progress → List ℕ → Progress → List ℕ → Type 0
 Appends k s a e st t st′ t′ =
     (ps cs : List Chunk) (b₀ t₀ b b′ : List ℕ) → (st .over ≡ false → textsOf cs ≡ part s a e) → Has ps b₀ t₀ st b t
-    → (st .over ≡ false → st .bytes + e ≤ mostWritten + a → RowsHold (flatten (ps ++ cs)) b₀ k b′) → Has (ps ++ cs) b₀ t₀ st′ b′ t′
+    → (st .over ≡ false → RowsHold (flatten (ps ++ cs)) b₀ k b′) → Has (ps ++ cs) b₀ t₀ st′ b′ t′
 
 abbrev pub SaysRun : Run → Progress → List ℕ → List ℕ → Went → List ℕ → List ℕ → Type 0
 SaysRun (done cs n) st b t (went.Done st′) b′ t′ = (st′ .names ≡ n) × Adds cs st b t st′ b′ t′
@@ -73,7 +79,7 @@ BoundedWent (went.Refused f) = Narrow f
 
 -- the counts of an answer are small, and the places of a refusal have 32 bits
 abbrev pub BoundedAnswer : Answer → Type 0
-BoundedAnswer (answer.Chunks k n m) = (k ≤ mostWritten) × (n ≤ mostWritten) × (m ≤ mostNames)
+BoundedAnswer (answer.Chunks k n m) = (k ≤ mostRows) × (n ≤ mostNumber) × (m ≤ mostNames)
 BoundedAnswer (answer.Refused f) = Narrow f
 
 -- a value that was counted over no room: what it resolves to is counted exactly, or is more than can be written

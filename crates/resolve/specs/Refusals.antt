@@ -1,10 +1,11 @@
 -- Which refusals a call that resolves can answer [01:Numbers a caller can get], and their places. The proofs are `calls` and `refusals` of
 -- proofs/Refusals.antt.
 --     FileFault, CallFault     the refusals of a file, and of a call with what its work can meet
---     FullCall                     when a call answers 16
+--     FullCall                 when a call answers 16
+--     Lacks, NeedsMore, NeedsRoom      what an answer needs and is not lent
 --     Calls                    a call answers no others
 -- Assumes nothing.
-use Prim.Native.Nat.{ℕ, _≤_, _<_}
+use Prim.Native.Nat.{ℕ, _/_, _≤_, _<_}
 use mathlib.Core.Path.{_≡_}
 use mathlib.Core.Logic.{_↔_, _⊎_}
 use mathlib.Core.Bool.{Bool, true, false}
@@ -18,11 +19,13 @@ use Rattle.row.specs.declared.fault.Reason.the-variants.{TooLong, NotUtf8, NoRo
 use Rattle.row.specs.Fault.{numberOf, faultAt, nowhere}
 use Rattle.row.specs.Limits.{mostBytes, leastScratch}
 use Rattle.chunk.specs.declared.answer.Checked.the-variants as checked
+use Rattle.chunk.specs.Chunk.{Chunk}
 use Rattle.literal.specs.Literal.{resolveLiteral}
+use Rattle.literal.specs.Rows.{mostNumber, textsOf}
 use Rattle.literal.specs.Refusals.{LiteralFault}
 use Rattle.resolve.specs.declared.answer.Answer.{Answer}
 use Rattle.resolve.specs.declared.answer.Answer.the-variants as answer
-use Rattle.resolve.specs.Resolves.{Value, resolved, refused, fits, told, Resolves, checkedFile, asked}
+use Rattle.resolve.specs.Resolves.{Value, resolved, refused, told, Resolves, checkedFile, asked}
 use Rattle.resolve.specs.OneLiteral.{isSpan, valueOf, literalOf}
 
 -- 1 at 0..0, and 2 at "n..n, first byte of the first ill-formed sequence"
@@ -46,9 +49,18 @@ pub data CallFault (file : List ℕ) (good : Bool) (Met : Fault → Type 0) : Fa
 abbrev pub FullCall : List ℕ → Bool → ℕ → Type 0 → Type 0
 FullCall file good w More = Admitted file good × ((w < leastScratch) ⊎ More)
 
+-- the chunks need more rows than the numbers b have, or more bytes than t has
+abbrev pub Lacks : List Chunk → List ℕ → List ℕ → Type 0
+Lacks cs b t = (length b / 5 < length cs) ⊎ (length t < length (textsOf cs))
+
 -- the value is an answer that needs more than b and t have
+abbrev pub NeedsRoom : Value → List ℕ → List ℕ → Type 0
+NeedsRoom (resolved cs n) b t = Lacks cs b t
+NeedsRoom (refused f) b t = ⊥
+
+-- or its text is longer than the numbers of a row reach, which have 32 bits: no room is enough for that
 abbrev pub NeedsMore : Value → List ℕ → List ℕ → Type 0
-NeedsMore (resolved cs n) b t = fits cs b t ≡ false
+NeedsMore (resolved cs n) b t = (mostNumber < length (textsOf cs)) ⊎ Lacks cs b t
 NeedsMore (refused f) b t = ⊥
 
 -- a call answers no others, where its work refuses by Met
@@ -68,7 +80,8 @@ pub record Refusals : Type 0 where
   pub literal : (file : List ℕ) (a e : ℕ) (verb : Bool) (w b t w′ b′ t′ : List ℕ) (f : Fault)
       → Resolves (literalOf file a e verb (length w)) w b t (answer.Refused f) w′ b′ t′
       → CallFault file (isSpan file a e) (LiteralFault (part file a e) a) f
+  -- and 16 exactly if the scratch is too small, or an answer exists and needs more than is lent: a literal's text is never too long for a row
   pub literal-full : (file : List ℕ) (a e : ℕ) (verb : Bool) (w b t w′ b′ t′ : List ℕ) (r : Answer)
       → Resolves (literalOf file a e verb (length w)) w b t r w′ b′ t′
       → (r ≡ answer.Refused (nowhere NoRoom))
-      ↔ FullCall file (isSpan file a e) (length w) (NeedsMore (valueOf (resolveLiteral verb (part file a e) a)) b t)
+      ↔ FullCall file (isSpan file a e) (length w) (NeedsRoom (valueOf (resolveLiteral verb (part file a e) a)) b t)

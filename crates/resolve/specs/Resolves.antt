@@ -1,6 +1,6 @@
 -- What a resolving call comes to over lent outputs.
 --     Value                        chunks with the number of names resolved, or a refusal. Nothing is said of buffers
---     fits, told, rowsLeft, textLeft, Resolves
+--     roomy, fits, told, rowsLeft, textLeft, Resolves
 --                                  the answer, and what the lent numbers, bytes and scratch then hold
 --     asked                        the checks that every call makes first
 -- Assumes nothing.
@@ -16,11 +16,11 @@ use Rattle.text.specs.declared.utf8.Validity.the-variants as validity
 use Rattle.row.specs.declared.fault.Fault.{Fault}
 use Rattle.row.specs.declared.fault.Reason.the-variants.{TooLong, NotUtf8, NoRoom, BadRows}
 use Rattle.row.specs.Fault.{faultAt, nowhere}
-use Rattle.row.specs.Limits.{mostBytes, leastScratch, mostWritten}
+use Rattle.row.specs.Limits.{mostBytes, leastScratch}
 use Rattle.chunk.specs.Chunk.{Chunk, flatChunks}
 use Rattle.chunk.specs.declared.answer.Checked.{Checked}
 use Rattle.chunk.specs.declared.answer.Checked.the-variants as checked
-use Rattle.literal.specs.Rows.{rowsFrom, textsOf}
+use Rattle.literal.specs.Rows.{mostNumber, rowsFrom, textsOf}
 use Rattle.resolve.specs.declared.answer.Answer.{Answer}
 use Rattle.resolve.specs.declared.answer.Answer.the-variants as answer
 
@@ -31,13 +31,13 @@ pub data Value : Type 0 where
 
 -- ---- over lent outputs
 
--- the chunks are no more than is ever written, however much is lent
-unfoldable pub small : List Chunk → Bool
-small cs = leb (length cs) mostWritten && leb (length (textsOf cs)) mostWritten
+-- the lent numbers b have room for the rows of the chunks, and the lent bytes t for their text
+abbrev pub roomy : List Chunk → List ℕ → List ℕ → Bool
+roomy cs b t = leb (length cs) (length b / 5) && leb (length (textsOf cs)) (length t)
 
--- the chunks fit into the lent numbers b and the lent bytes t
+-- the chunks fit into the lent numbers b and the lent bytes t: there is room, and the numbers of a row reach to the end of the text
 abbrev pub fits : List Chunk → List ℕ → List ℕ → Bool
-fits cs b t = small cs && (leb (length cs) (length b / 5) && leb (length (textsOf cs)) (length t))
+fits cs b t = leb (length (textsOf cs)) mostNumber && roomy cs b t
 
 -- "16 exactly if an answer exists and needs more rows or bytes than a lent output has" [01:Numbers a caller can get]
 abbrev pub told : Value → List ℕ → List ℕ → Answer

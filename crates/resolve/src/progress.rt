@@ -2,14 +2,17 @@
 use crate::answer::Answer;
 use chunk::form::Kind;
 use chunk::put;
+use literal::making;
 use literal::parse;
 use literal::parse::Parsed;
 use literal::rows;
+use literal::rows::MOST_NUMBER;
+use literal::rows::MOST_ROWS;
 use literal::rows::Rows;
 use row::fault::Fault;
 use row::form;
-use row::limits::MOST_WRITTEN;
 ghost use mathlib.Core.Path.{_≡_};
+ghost use mathlib.Core.Bool.{true};
 ghost use mathlib.Core.List.{List, [], _∷_, _++_};
 ghost use Prim.Native.Nat.{ℕ, _+_, _*_, _≤_};
 ghost use lib.ListN.{length, take, drop};
@@ -23,7 +26,7 @@ ghost use Rattle.literal.specs.Rows.{RowsHold};
 ghost use Rattle.literal.specs.Literal.{resolveLiteral};
 ghost use Rattle.resolve.specs.Resolves.{fits as fitsOf};
 ghost use Rattle.resolve.specs.Runs.{ofLiteral};
-ghost use Rattle.resolve.specs.Progress.{Has, answerOf, Bounded, Adds, Appends, SaysRun, BoundedWent, ReadyTables};
+ghost use Rattle.resolve.specs.Progress.{small, Has, answerOf, Bounded, Adds, Appends, SaysRun, BoundedWent, ReadyTables};
 
 // The rows, bytes of text and names so far; or that there is more of them than can be written.
 pub struct Progress {
@@ -37,13 +40,6 @@ pub struct Progress {
 pub enum Went {
     Done(Progress),
     Refused(Fault),
-}
-
-fn narrow(n: usize) -> u32
-    requires { ⌜ n ≤ 4294967295 ⌝ }
-    ensures { λ r. ⌜ r ≡ n ⌝ }
-{
-    n as u32
 }
 
 // No row so far.
@@ -80,13 +76,13 @@ fn append(
     last: usize,
     text: &mut [u8],
 ) -> Progress
-    requires { ⌜ Bounded st × (rows .n ≤ 1000000000000) × (first ≤ last) × (last ≤ length (now from)) ⌝ }
+    requires { ⌜ Bounded st × (first ≤ last) × (last ≤ length (now from)) ⌝ }
     ensures { λ r. ⌜ Appends rows (now (from .entry)) first last st (now (text .entry)) r (now (text .exit)) ⌝ }
     ensures { λ r. ⌜ Bounded r × (r .names ≡ st .names) ⌝ }
 {
     let at = st.bytes;
     let bytes = at + (last - first);
-    if st.over | (MOST_WRITTEN < bytes) | (MOST_WRITTEN < rows.n) {
+    if st.over | (MOST_NUMBER < bytes) | (MOST_ROWS < rows.n) {
         return Progress {
             rows: none(),
             bytes: 0,
@@ -147,15 +143,12 @@ pub fn month(
     let at = st.bytes;
     let bytes = at + (to - from);
     let have = st.rows;
-    if MOST_WRITTEN < bytes {
-        return append(st, have, words, from, to, text);
-    }
     let rows = rows::push(
         chunks,
         have,
         Kind::Normal,
-        narrow(at),
-        narrow(bytes),
+        making::narrow(at),
+        making::narrow(bytes),
         start,
         end,
     );
@@ -181,7 +174,7 @@ pub fn counted(st: Progress) -> Progress
 pub fn fits(st: Progress, chunks: &[u32], text: &[u8]) -> bool
     requires { ⌜ Bounded st ⌝ }
     ensures { λ r. ⌜ ((ps : List Chunk) (b₀ t₀ b t : List ℕ) → Has ps b₀ t₀ st b t
-        → r ≡ fitsOf (flatten ps) (now (chunks .entry)) (now (text .entry))) ⌝ }
+        → (r ≡ fitsOf (flatten ps) (now (chunks .entry)) (now (text .entry))) × (r ≡ true → small (flatten ps) ≡ true)) ⌝ }
 {
     let rows = st.rows;
     !st.over & (rows.n <= chunks.len() / 5) & (st.bytes <= text.len())

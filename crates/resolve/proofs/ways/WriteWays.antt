@@ -21,18 +21,18 @@ use Rattle.text.proofs.general.Tests.{both-true}
 use Rattle.row.specs.declared.fault.Fault.{Fault}
 use Rattle.row.specs.declared.fault.Reason.the-variants.{NoRoom}
 use Rattle.row.specs.Fault.{nowhere}
-use Rattle.row.specs.Limits.{mostBytes, mostLiteral, leastScratch, mostWritten}
+use Rattle.row.specs.Limits.{mostBytes, mostLiteral, leastScratch}
 use Rattle.raw.specs.Strict.{faultUp}
 use Rattle.chunk.specs.declared.form.Kind.the-variants.{Normal}
 use Rattle.chunk.specs.Chunk.{Chunk, chunk, flatChunks}
-use Rattle.chunk.specs.Put.{Puts}
+use Rattle.chunk.specs.Put.{lastPlace, Puts}
 use Rattle.turn.specs.Content.{flattenFrom, flatten}
 use Rattle.literal.specs.declared.rows.Rows.{Rows}
 use Rattle.literal.specs.declared.parse.Parsed.{Parsed}
 use Rattle.literal.specs.declared.parse.Parsed.the-variants as parsed
 use Rattle.literal.specs.Literal.{Resolved, chunks, resolveLiteral}
 use Rattle.literal.specs.Literal as literal
-use Rattle.literal.specs.Rows.{RowsHold, Pushes, rowsFrom, writes, textsOf, lastKind, lastText, lastStart}
+use Rattle.literal.specs.Rows.{mostNumber, mostRows, InReach, RowsHold, Pushes, rowsFrom, writes, textsOf, lastKind, lastText, lastStart}
 use Rattle.literal.specs.Inner.{OneChunk, Added, SaysParsed, GrowsParsed}
 use Rattle.literal.specs.Refusals.{ContentFault, LiteralFault}
 use Rattle.literal.specs.Refusals as fault
@@ -40,7 +40,7 @@ use Rattle.literal.proofs.Flattening.{flattening}
 use Rattle.literal.proofs.Refusals.{refusals}
 use Rattle.resolve.specs.declared.answer.Answer.{Answer}
 use Rattle.resolve.specs.declared.answer.Answer.the-variants as answer
-use Rattle.resolve.specs.Resolves.{resolved, small, fits, told, Writes}
+use Rattle.resolve.specs.Resolves.{resolved, roomy, fits, told, Writes}
 use Rattle.resolve.specs.Progress.{Narrow, BoundedAnswer}
 use Rattle.resolve.specs.OneLiteral.{valueOf}
 
@@ -51,7 +51,7 @@ none = record { n = 0; last = 3; from = 0; start = 0 }
 
 nothing-held : (b : List ℕ) → RowsHold [] b none b
 unfolding rowsFrom writes lastKind lastText lastStart
-nothing-held b = record { numbers = refl; count = refl; last = refl; from = refl; start = refl }
+nothing-held b = record { numbers = λ _. refl; count = refl; last = refl; from = λ _. refl; start = refl }
 
 -- the first chunks of a value
 first-added : {cs : List Chunk} {k : Rows} {len : ℕ} {o′ b′ : List ℕ} (b : List ℕ)
@@ -76,12 +76,10 @@ neither false y = refl
 abbrev pub full : List ℕ → List ℕ → ℕ → ℕ → Bool
 full b t n len = ltb (length b / 5) n || ltb (length t) len
 
-fits-test : (cs : List Chunk) (b t : List ℕ) (n len : ℕ) → n ≡ length cs → len ≡ length (textsOf cs) → n ≤ mostLiteral + 1 → len ≤ leastScratch
+fits-test : (cs : List Chunk) (b t : List ℕ) (n len : ℕ) → n ≡ length cs → len ≡ length (textsOf cs) → len ≤ leastScratch
     → fits cs b t ≡ not (full b t n len)
-unfolding small
-fits-test cs b t n len e i k l =
-    ap₂ (λ (x y : Bool). (x && y) && (leb (length cs) (length b / 5) && leb (length (textsOf cs)) (length t)))
-    (le-leb (length cs) mostWritten (omega (arith, e, k))) (le-leb (length (textsOf cs)) mostWritten (omega (arith, i, l)))
+fits-test cs b t n len e i l =
+    ap (λ (x : Bool). x && roomy cs b t) (le-leb (length (textsOf cs)) mostNumber (omega (arith, i, l)))
     ∙ ap₂ (λ (x y : ℕ). leb x (length b / 5) && leb y (length t)) (sym e) (sym i)
     ∙ ap₂ _&&_ (leb-not n (length b / 5)) (leb-not len (length t)) ∙ neither (ltb (length b / 5) n) (ltb (length t) len)
 
@@ -95,10 +93,12 @@ enough b t n len = by (ltb (length b / 5) n) (ltb (length t) len) refl refl
 
 -- ---- n chunks, whose text has `len` bytes
 
-module _ (cs : List Chunk) (n len : ℕ) (many : n ≡ length cs) (long : len ≡ length (textsOf cs)) (few : n ≤ mostLiteral + 1) (short : len ≤ leastScratch)
-    (b t : List ℕ) where
+module _ (cs : List Chunk) (n len : ℕ) (many : n ≡ length cs) (long : len ≡ length (textsOf cs)) (short : len ≤ leastScratch) (b t : List ℕ) where
+  in-reach : InReach cs
+  in-reach = omega (arith, long, short)
+
   fits-as : (x : Bool) → full b t n len ≡ x → fits cs b t ≡ not x
-  fits-as x q = fits-test cs b t n len many long few short ∙ ap not q
+  fits-as x q = fits-test cs b t n len many long short ∙ ap not q
 
   full-with : full b t n len ≡ true → Writes (resolved cs 0) b t (answer.Refused (nowhere NoRoom)) b t
   full-with q = record {
@@ -160,19 +160,22 @@ module _ (R : Resolved) (nb : List ℕ) (r : Parsed) (o₁ nb′ : List ℕ) (h 
       long = c .bytes ∙ ap length (sym texts)
 
       full-flat : full b t (k .n) len ≡ true → Writes (resolved flat 0) b t (answer.Refused (nowhere NoRoom)) b t
-      full-flat = full-with flat (k .n) len many long (omega (arith, write-few .1)) (write-few .0) b t
+      full-flat = full-with flat (k .n) len many long (write-few .0) b t
+
+      reach : InReach flat
+      reach = in-reach flat (k .n) len many long (write-few .0) b t
 
       module _ (q : full b t (k .n) len ≡ false) (room : len ≤ length o₁) where
         second : (r₂ : Parsed) (o₂ b′ : List ℕ) → SaysParsed (chunks cs) 0 none b r₂ o₂ b′
             → b′ ≡ flatChunks (rowsFrom 0 flat) ++ drop (length flat * 5) b
         second (parsed.Chunks k₂ len₂) o₂ b′ z =
-            put-rows flat (k .n) len many long (omega (arith, write-few .1)) (write-few .0) b t q b′ (first-added b z .rows .numbers)
+            put-rows flat (k .n) len many long (write-few .0) b t q b′ (first-added b z .rows .numbers reach)
         second (parsed.Refused f) o₂ b′ z = absurd z
 
         -- the rows that the small room holds
         held : k .n * 5 ≤ length nb → take (k .n * 5) nb′ ≡ flatChunks (rowsFrom 0 flat)
         held l =
-            ap (take (k .n * 5)) (c .rows .numbers ∙ flattening .rows-written nb flat (omega (arith, many, l)))
+            ap (take (k .n * 5)) (c .rows .numbers reach ∙ flattening .rows-written nb flat (omega (arith, many, l)))
             ∙ take-at (flatChunks (rowsFrom 0 flat)) (drop (length flat * 5) nb) (k .n * 5) (omega (arith, flattening .numbers-length 0 flat, many))
 
         held-rows : k .n * 5 ≤ length nb → (b′ : List ℕ) → b′ ≡ take (k .n * 5) nb′ ++ drop (k .n * 5) b
@@ -182,7 +185,7 @@ module _ (R : Resolved) (nb : List ℕ) (r : Parsed) (o₁ nb′ : List ℕ) (h 
         done-flat : (p : ℕ) (t′ : List ℕ) → Puts t 0 (part o₁ 0 len) p t′ → (b′ : List ℕ)
             → b′ ≡ flatChunks (rowsFrom 0 flat) ++ drop (length flat * 5) b → Writes (resolved flat 0) b t (answer.Chunks (k .n) len 0) b′ t′
         done-flat p t′ =
-            done-with flat (k .n) len many long (omega (arith, write-few .1)) (write-few .0) b t q (part o₁ 0 len) p t′
+            done-with flat (k .n) len many long (write-few .0) b t q (part o₁ 0 len) p t′
             (part-take o₁ len room ∙ c .text ∙ sym texts)
 
     pub write-full : full b t (k .n) len ≡ true → Writes (valueOf R) b t (answer.Refused (nowhere NoRoom)) b t
@@ -229,16 +232,16 @@ module _ (o : List ℕ) (n a e : ℕ) (few : n ≤ leastScratch) (l : n ≤ leng
   one-long = sym (ap length one-text ∙ length-take-le n o l)
 
   pub one-full : full b t 1 n ≡ true → Writes (resolved one 0) b t (answer.Refused (nowhere NoRoom)) b t
-  one-full = full-with one 1 n refl one-long (omega arith) few b t
+  one-full = full-with one 1 n refl one-long few b t
 
   pub one-done : full b t 1 n ≡ false → (k₀ : Rows) → ((b : List ℕ) → RowsHold [] b k₀ b) → (k : Rows) (b′ : List ℕ)
       → Pushes Normal 0 (0 + n) a e k₀ b k b′ → (p : ℕ) (t′ : List ℕ) → Puts t 0 (part o 0 n) p t′
       → Writes (resolved one 0) b t (answer.Chunks 1 n 0) b′ t′
   unfolding textsOf
   one-done q k₀ h k b′ z p t′ y =
-      done-with one 1 n refl one-long (omega arith) few b t q (part o 0 n) p t′ (part-take o n l ∙ sym one-text) y b′
-      (put-rows one 1 n refl one-long (omega arith) few b t q b′
-      (z [] (take n o) b refl (ap (λ (m : ℕ). 0 + m) (sym (length-take-le n o l))) (h b) .numbers))
+      done-with one 1 n refl one-long few b t q (part o 0 n) p t′ (part-take o n l ∙ sym one-text) y b′
+      (put-rows one 1 n refl one-long few b t q b′
+      (z [] (take n o) b (λ _. (refl, ap (λ (m : ℕ). 0 + m) (sym (length-take-le n o l)))) (h b) .numbers (in-reach one 1 n refl one-long few b t)))
 
 -- ---- `single`
 
@@ -249,8 +252,8 @@ pub whole-writes : (verb : Bool) (s : List ℕ) (n base : ℕ) (o : List ℕ) �
 unfolding flattenFrom
 whole-writes verb s n base o w b t r b′ t′ h = subst (λ (x : Resolved). Writes (valueOf x) b t r b′ t′) (sym (w .is base)) h
 
--- an answer is bounded: as much as is ever written, or a refusal at a place of the file
-module _ (verb : Bool) (s : List ℕ) (base : ℕ) (l : base + length s ≤ mostBytes) (b t : List ℕ) where
+-- an answer is bounded: as much as is ever counted, or a refusal at a place of the file
+module _ (verb : Bool) (s : List ℕ) (base : ℕ) (l : base + length s ≤ mostBytes) (b t : List ℕ) (z : length b ≤ lastPlace) where
   content-narrow : (f : Fault) → ContentFault s f → Narrow (faultUp base f)
   content-narrow f (fault.ended p h) = (omega arith, omega arith)
   content-narrow f (fault.closed p h e) = (omega arith, omega arith)
@@ -262,10 +265,10 @@ module _ (verb : Bool) (s : List ℕ) (base : ℕ) (l : base + length s ≤ most
 
   fits-bounded : (cs : List Chunk) (x : Bool) → fits cs b t ≡ x
       → BoundedAnswer (cond x (answer.Chunks (length cs) (length (textsOf cs)) 0) (answer.Refused (nowhere NoRoom)))
-  unfolding small
   fits-bounded cs true e =
-      let both = both-true (leb (length cs) mostWritten) (leb (length (textsOf cs)) mostWritten) (both-true (small cs) _ e .0) in
-      (leb-true (length cs) mostWritten (both .0), leb-true (length (textsOf cs)) mostWritten (both .1), omega arith)
+      let both = both-true (leb (length (textsOf cs)) mostNumber) (roomy cs b t) e in
+      let room = leb-true (length cs) (length b / 5) (both-true (leb (length cs) (length b / 5)) _ (both .1) .0) in
+      (omega (arith, room, z), leb-true (length (textsOf cs)) mostNumber (both .0), omega arith)
   fits-bounded cs false e = (omega arith, omega arith)
 
   told-bounded : (R : Resolved) → resolveLiteral verb s base ≡ R → BoundedAnswer (told (valueOf R) b t)

@@ -40,7 +40,7 @@ returns c =
     let one = subst (λ (r : Begun). SaysBegun (a .verbatim) (a .s .now) r o) (is .n .given .1) (text .begin .ensures) in
     let w = whole-writes (a .verbatim) (a .s .now) (is .n .given .0 .0) (a .base) o one (a .chunks .now) (a .text .now)
     (written .one-chunk .result) (written .one-chunk .last .1 .1 .1 .1 .0) (written .one-chunk .last .1 .1 .1 .1 .1 .0) (written .one-chunk .ensures) in
-    (w, answer-bounded (a .verbatim) (a .s .now) (a .base) (begin .pre .0) (a .chunks .now) (a .text .now) _ _ w)
+    (w, answer-bounded (a .verbatim) (a .s .now) (a .base) (begin .pre .0) (a .chunks .now) (a .text .now) (omega arith) _ _ w)
 
 returns-2 : tie.Need-returns-2
 returns-2 c =
@@ -48,7 +48,7 @@ returns-2 c =
     let begin = written .before .before .before .before .before .before .before .before .before .before .before .before .before .before .before .before .before in
     let a = begin .args in
     let w = written .write .ensures in
-    (w, answer-bounded (a .verbatim) (a .s .now) (a .base) (begin .pre .0) (a .chunks .now) (a .text .now) _ _ w)
+    (w, answer-bounded (a .verbatim) (a .s .now) (a .base) (begin .pre .0) (a .chunks .now) (a .text .now) (omega arith) _ _ w)
 
 pub single-spec : {M : Type 1} → statement M
 single-spec =

@@ -13,7 +13,7 @@ returns c =
     let a = start .args in
     let p = start .pre in (
       λ ps cs b₀ t₀ b b′ w has held.
-          append-over (a .from .now) (a .st) (a .rows) (a .first) (a .last) (p .2) (p .3) ps cs b₀ t₀ b b′ (a .text .now) _ w has held (decided .if1 .taken) _ refl,
+          append-over (a .from .now) (a .st) (a .rows) (a .first) (a .last) (p .1) (p .2) ps cs b₀ t₀ b b′ (a .text .now) _ w has held (decided .if1 .taken) _ refl,
       (record { bytes = omega arith; rows = omega (arith, c .none .ensures .1); names = p .0 .names }, refl),
     )
 
@@ -24,9 +24,9 @@ returns-2 c =
     let start = decided .before .before .before .before .before in
     let a = start .args in
     let p = start .pre in
-    let i = inside (a .from .now) (a .st) (a .rows) (a .first) (a .last) (p .2) (p .3) (decided .if1 .left) in (
+    let i = inside (a .from .now) (a .st) (a .rows) (a .first) (a .last) (p .1) (p .2) (decided .if1 .left) in (
       λ ps cs b₀ t₀ b b′ w has held.
-          append-on (a .from .now) (a .st) (a .rows) (a .first) (a .last) (p .2) (p .3) ps cs b₀ t₀ b b′ (a .text .now) _ w has held (decided .if1 .left)
+          append-on (a .from .now) (a .st) (a .rows) (a .first) (a .last) (p .1) (p .2) ps cs b₀ t₀ b b′ (a .text .now) _ w has held (decided .if1 .left)
           (copied .copy .ensures .0 .bytes) _ refl refl refl,
       (record { bytes = i .1; rows = i .2; names = p .0 .names }, refl),
     )

@@ -14,7 +14,6 @@ append-requires c κs =
     let p = start .pre in
     let few = literal-few (start .args .st .rows) _ (parsed .parse .ensures .1) _ _ (told .rows .given .1) in (
       p .1,
-      omega (arith, few .1, p .1 .rows),
       omega arith,
       omega (arith, few .0, p .0 .scratch, parsed .parse .kept .1 .1 .1 .1 .1 .0),
     )

@@ -8,32 +8,19 @@ use Rattle.resolve.proofs.progress.month.Tie as tie
 returns : tie.Need-returns
 returns c =
     let appended = c .before .before in
-    let decided = appended .before .before in
-    let start = decided .before .before .before .before .before in
-    let a = start .args in (
-      λ ps b₀ t₀ has.
-          appended .append .ensures .0 ps (one (a .words .now) (a .from) (a .to) (a .start) (a .end)) b₀ t₀ (a .chunks .now) (a .chunks .now)
-          (λ _. month-text (a .words .now) (a .from) (a .to) (a .start) (a .end)) has (λ o h. absurd (omega (arith, decided .if1 .taken))),
-      appended .append .ensures .1,
-    )
-
-returns-2 : tie.Need-returns-2
-returns-2 c =
-    let appended = c .before .before in
     let pushed = appended .before .before .before .before in
     let to = pushed .before in
     let from = to .before in
-    let decided = from .before .before in
-    let start = decided .before .before .before .before .before in
+    let start = from .before .before .before .before .before .before in
     let a = start .args in
     let p = start .pre in (
       λ ps b₀ t₀ has.
-          appended .append2 .ensures .0 ps (one (a .words .now) (a .from) (a .to) (a .start) (a .end)) b₀ t₀ (a .chunks .now) _
+          appended .append .ensures .0 ps (one (a .words .now) (a .from) (a .to) (a .start) (a .end)) b₀ t₀ (a .chunks .now) _
           (λ _. month-text (a .words .now) (a .from) (a .to) (a .start) (a .end)) has
-          (λ o h.
+          (λ o.
           month-row (a .words .now) (a .from) (a .to) (a .start) (a .end) (a .st) ps b₀ t₀ (a .chunks .now) _ (a .text .now) _ _ _ (p .1) (p .2)
           (from .narrow .ensures) (to .narrow2 .ensures) (pushed .push .ensures .0) has o),
-      appended .append2 .ensures .1,
+      appended .append .ensures .1,
     )
 
 pub month-spec : {M : Type 1} → statement M
@@ -43,12 +30,9 @@ month-spec =
     (λ c. search needs)
     (λ c. search needs)
     (λ c κs. search needs)
-    (λ c. search needs)
-    returns
-    (λ c κs. search needs)
     (λ c κs. search needs)
     (λ c κs. search needs)
     (λ c κs. search needs)
     (λ c. search needs)
     (λ c. search needs)
-    returns-2)
+    returns)

@@ -6,7 +6,7 @@ use Rattle.resolve.proofs.progress.none.Tie as tie
 
 returns : tie.Need-returns
 unfolding rowsFrom writes lastKind lastText lastStart
-returns c = (λ b. record { numbers = refl; count = refl; last = refl; from = refl; start = refl }, refl)
+returns c = (λ b. record { numbers = λ _. refl; count = refl; last = refl; from = λ _. refl; start = refl }, refl)
 
 pub none-spec : {M : Type 1} → statement M
 none-spec = tie.close (tie.spec returns)
