@@ -31,18 +31,18 @@ use Rattle.row.proofs.Laid.{laid}
 use Rattle.chunk.specs.Chunk.{Chunk, flatChunks}
 use Rattle.turn.specs.Content.{flatten}
 use Rattle.literal.specs.Literal.{resolveLiteral}
-use Rattle.literal.specs.Rows.{rowsFrom, textsOf}
+use Rattle.literal.specs.Rows.{mostNumber, InReach, rowsFrom, textsOf}
 use Rattle.literal.proofs.Flattening.{flattening}
 use Rattle.resolve.specs.declared.answer.Answer.{Answer}
 use Rattle.resolve.specs.declared.answer.Answer.the-variants as answer
 use Rattle.resolve.specs.declared.progress.Progress.{Progress}
 use Rattle.resolve.specs.declared.progress.Went.{Went}
 use Rattle.resolve.specs.declared.progress.Went.the-variants as went
-use Rattle.resolve.specs.Resolves.{Value, resolved, small, fits, told, rowsLeft, textLeft, Writes}
+use Rattle.resolve.specs.Resolves.{Value, resolved, roomy, fits, told, rowsLeft, textLeft, Writes}
 use Rattle.resolve.specs.OneLiteral.{valueOf}
 use Rattle.resolve.specs.Checks.{Lent, isValue, areLent, isRight}
 use Rattle.resolve.specs.Runs.{Run, done, stop}
-use Rattle.resolve.specs.Progress.{Has, answerOf, Bounded, SaysRun, BoundedAnswer, Counted}
+use Rattle.resolve.specs.Progress.{small, Has, answerOf, Bounded, SaysRun, BoundedAnswer, Counted}
 use Rattle.resolve.proofs.Asking.{asking}
 use Rattle.values.specs.declared.elements.Only.the-variants as only
 use Rattle.values.specs.Field.{flattened, ofRun, fieldOf}
@@ -63,12 +63,15 @@ module _ (cs : List Chunk) (b₀ t₀ : List ℕ) (st : Progress) (b t : List �
   texts = flattening .texts-flat cs
 
   -- what the chunks come to, where they fit into the numbers c and the bytes s
-  module _ (c s : List ℕ) (x : fits flat c s ≡ true) where
-    both : (small flat ≡ true) × ((leb (length flat) (length c / 5) && leb (length (textsOf flat)) (length s)) ≡ true)
-    both = both-true (small flat) (leb (length flat) (length c / 5) && leb (length (textsOf flat)) (length s)) x
+  module _ (c s : List ℕ) (x : fits flat c s ≡ true) (z : small flat ≡ true) where
+    both : (leb (length (textsOf flat)) mostNumber ≡ true) × (roomy flat c s ≡ true)
+    both = both-true (leb (length (textsOf flat)) mostNumber) (roomy flat c s) x
+
+    reach : InReach flat
+    reach = leb-true (length (textsOf flat)) mostNumber (both .0)
 
     right : st .over ≡ false
-    right = has .over ∙ ap not (both .0)
+    right = has .over ∙ ap not z
 
     many : st .rows .n ≡ length flat
     many = has .rows right .count
@@ -104,23 +107,23 @@ module _ (cs : List Chunk) (b₀ t₀ : List ℕ) (st : Progress) (b t : List �
 -- ---- what the room holds over which the chunks were counted, where they fit into it
 
 module _ (cs : List Chunk) (b₀ t₀ : List ℕ) (st : Progress) (b t : List ℕ) (has : Has cs b₀ t₀ st b t) (n : length b ≡ length b₀)
-    (m : length t ≡ length t₀) (x : fits (flatten cs) b t ≡ true) where
+    (m : length t ≡ length t₀) (x : fits (flatten cs) b t ≡ true) (z : small (flatten cs) ≡ true) where
   held-rows : take (st .rows .n * 5) b ≡ flatChunks (rowsFrom 0 (flatten cs))
   held-rows =
       ap (take (st .rows .n * 5))
-      (has .rows (right cs b₀ t₀ st b t has b t x) .numbers
-      ∙ flattening .rows-written b₀ (flatten cs) (omega (arith, rows-room cs b₀ t₀ st b t has b t x, n)))
+      (has .rows (right cs b₀ t₀ st b t has b t x z) .numbers (reach cs b₀ t₀ st b t has b t x z)
+      ∙ flattening .rows-written b₀ (flatten cs) (omega (arith, rows-room cs b₀ t₀ st b t has b t x z, n)))
       ∙ take-at (flatChunks (rowsFrom 0 (flatten cs))) (drop (length (flatten cs) * 5) b₀) (st .rows .n * 5)
-      (omega (arith, flattening .numbers-length 0 (flatten cs), many cs b₀ t₀ st b t has b t x))
+      (omega (arith, flattening .numbers-length 0 (flatten cs), many cs b₀ t₀ st b t has b t x z))
 
   held-text : part t 0 (st .bytes) ≡ textsOf cs
   held-text =
-      part-take t (st .bytes) (enough cs b₀ t₀ st b t has b t x .1)
-      ∙ ap (take (st .bytes)) (has .text (right cs b₀ t₀ st b t has b t x) ∙ sets-eq (textsOf cs) t₀ 0 room)
-      ∙ take-at (textsOf cs) (drop (0 + length (textsOf cs)) t₀) (st .bytes) (sym (has .bytes (right cs b₀ t₀ st b t has b t x)))
+      part-take t (st .bytes) (enough cs b₀ t₀ st b t has b t x z .1)
+      ∙ ap (take (st .bytes)) (has .text (right cs b₀ t₀ st b t has b t x z) ∙ sets-eq (textsOf cs) t₀ 0 room)
+      ∙ take-at (textsOf cs) (drop (0 + length (textsOf cs)) t₀) (st .bytes) (sym (has .bytes (right cs b₀ t₀ st b t has b t x z)))
     where
       room : 0 + length (textsOf cs) ≤ length t₀
-      room = omega (arith, has .bytes (right cs b₀ t₀ st b t has b t x), enough cs b₀ t₀ st b t has b t x .1, m)
+      room = omega (arith, has .bytes (right cs b₀ t₀ st b t has b t x z), enough cs b₀ t₀ st b t has b t x z .1, m)
 
 -- ---- the ways through `several`
 
@@ -162,14 +165,15 @@ module _ (run : Run) (first : Progress) (begins : (b t : List ℕ) → Has [] b 
 
     -- what `fits` answers for a room
     abbrev pub Fitted : Bool → List ℕ → List ℕ → Type 0
-    Fitted x c s = (ps : List Chunk) (b₀ t₀ b t : List ℕ) → Has ps b₀ t₀ st b t → x ≡ fits (flatten ps) c s
+    Fitted x c s =
+        (ps : List Chunk) (b₀ t₀ b t : List ℕ) → Has ps b₀ t₀ st b t → (x ≡ fits (flatten ps) c s) × (x ≡ true → small (flatten ps) ≡ true)
 
     pub several-full : (x : Bool) → Fitted x c s → not x ≡ true → Writes (value run) c s (answer.Refused (nowhere NoRoom)) c s
     several-full x l q = by run counted
       where
         by : (run : Run) → SaysRun run first b₀ t₀ (went.Done st) b t → Writes (value run) c s (answer.Refused (nowhere NoRoom)) c s
         by (done cs n) k =
-            let y : fits (flatten cs) c s ≡ false = sym (l cs b₀ t₀ b t (k .1 [] b₀ t₀ (begins b₀ t₀))) ∙ not-true x q in
+            let y : fits (flatten cs) c s ≡ false = sym (l cs b₀ t₀ b t (k .1 [] b₀ t₀ (begins b₀ t₀)) .0) ∙ not-true x q in
             record { answer = rw y; rows = rw y; text = rw y }
         by (stop g) k = absurd k
 
@@ -179,7 +183,8 @@ module _ (run : Run) (first : Progress) (begins : (b t : List ℕ) → Has [] b 
         by : (run : Run) → SaysRun run first b₀ t₀ (went.Done st) b t → (st .rows .n * 5 ≤ length d) × (st .bytes ≤ length u)
         by (done cs n) k =
             let has = k .1 [] b₀ t₀ (begins b₀ t₀) in
-            enough cs b₀ t₀ st b t has d u (sym (l cs b₀ t₀ b t has) ∙ q)
+            let told = l cs b₀ t₀ b t has in
+            enough cs b₀ t₀ st b t has d u (sym (told .0) ∙ q) (told .1 q)
         by (stop g) k = absurd k
 
     module _ (x : Bool) (l : Fitted x c s) (q : x ≡ true) (d : Answer) (o : d ≡ answerOf st) where
@@ -191,13 +196,14 @@ module _ (run : Run) (first : Progress) (begins : (b t : List ℕ) → Has [] b 
           by : (run : Run) → SaysRun run first b₀ t₀ (went.Done st) b t → Writes (value run) c s d c′ s′
           by (done cs n) k =
               let has = k .1 [] b₀ t₀ (begins b₀ t₀) in
-              let fit : fits (flatten cs) c s ≡ true = sym (l cs b₀ t₀ b t has) ∙ q in
-              let few : fits (flatten cs) b t ≡ true = sym (m cs b₀ t₀ b t has) ∙ z in
+              let fit : fits (flatten cs) c s ≡ true = sym (l cs b₀ t₀ b t has .0) ∙ q in
+              let within = l cs b₀ t₀ b t has .1 q in
+              let few : fits (flatten cs) b t ≡ true = sym (m cs b₀ t₀ b t has .0) ∙ z in
               record {
-                answer = o ∙ answered cs b₀ t₀ st b t has c s fit n (k .0);
-                rows = rows-as cs b₀ t₀ st b t has c s fit n c′
-                    (p ∙ ap₂ _++_ (held-rows cs b₀ t₀ st b t has i j few) (ap (λ (n : ℕ). drop (n * 5) c) (many cs b₀ t₀ st b t has c s fit)));
-                text = text-as cs b₀ t₀ st b t has c s fit n s′ (w ∙ ap (sets s 0) (held-text cs b₀ t₀ st b t has i j few));
+                answer = o ∙ answered cs b₀ t₀ st b t has c s fit within n (k .0);
+                rows = rows-as cs b₀ t₀ st b t has c s fit within n c′
+                    (p ∙ ap₂ _++_ (held-rows cs b₀ t₀ st b t has i j few within) (ap (λ (n : ℕ). drop (n * 5) c) (many cs b₀ t₀ st b t has c s fit within)));
+                text = text-as cs b₀ t₀ st b t has c s fit within n s′ (w ∙ ap (sets s 0) (held-text cs b₀ t₀ st b t has i j few within));
               }
           by (stop g) k = absurd k
 
@@ -209,13 +215,14 @@ module _ (run : Run) (first : Progress) (begins : (b t : List ℕ) → Has [] b 
           by (done cs n) k (went.Done st₂) k₂ =
               let has = k .1 [] b₀ t₀ (begins b₀ t₀) in
               let has₂ = k₂ .1 [] c s (begins c s) in
-              let fit : fits (flatten cs) c s ≡ true = sym (l cs b₀ t₀ b t has) ∙ q in
-              let right₂ = right cs c s st₂ c′ s′ has₂ c s fit in
+              let fit : fits (flatten cs) c s ≡ true = sym (l cs b₀ t₀ b t has .0) ∙ q in
+              let within = l cs b₀ t₀ b t has .1 q in
+              let right₂ = right cs c s st₂ c′ s′ has₂ c s fit within in
               record {
-                answer = o ∙ answered cs b₀ t₀ st b t has c s fit n (k .0);
-                rows = rows-as cs b₀ t₀ st b t has c s fit n c′
-                    (has₂ .rows right₂ .numbers ∙ flattening .rows-written c (flatten cs) (rows-room cs b₀ t₀ st b t has c s fit));
-                text = text-as cs b₀ t₀ st b t has c s fit n s′ (has₂ .text right₂);
+                answer = o ∙ answered cs b₀ t₀ st b t has c s fit within n (k .0);
+                rows = rows-as cs b₀ t₀ st b t has c s fit within n c′
+                    (has₂ .rows right₂ .numbers (reach cs b₀ t₀ st b t has c s fit within) ∙ flattening .rows-written c (flatten cs) (rows-room cs b₀ t₀ st b t has c s fit within));
+                text = text-as cs b₀ t₀ st b t has c s fit within n s′ (has₂ .text right₂);
               }
           by (done cs n) k (went.Refused f) k₂ = absurd k₂
           by (stop g) k r₂ k₂ = absurd k

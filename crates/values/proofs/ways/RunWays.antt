@@ -17,9 +17,8 @@ use Rattle.literal.proofs.Flattening.{flattening}
 use Rattle.resolve.specs.declared.progress.Progress.{Progress}
 use Rattle.resolve.specs.declared.progress.Went.{Went}
 use Rattle.resolve.specs.declared.progress.Went.the-variants as went
-use Rattle.resolve.specs.Resolves.{small}
 use Rattle.resolve.specs.Runs.{Run, done, stop}
-use Rattle.resolve.specs.Progress.{Has, Adds, SaysRun}
+use Rattle.resolve.specs.Progress.{small, Has, Adds, SaysRun}
 use Rattle.values.specs.Field.{behind, onward, flattened}
 
 -- ---- one behind the other
