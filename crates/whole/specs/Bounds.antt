@@ -12,8 +12,7 @@ use mathlib.Core.Bool.{Bool, false, not}
 use mathlib.Core.List.{List, [], _∷_, _++_}
 use lib.ListN.{length, getD}
 use Rattle.row.specs.Row.{Row}
-use Rattle.row.specs.Limits.{mostWritten}
-use Rattle.literal.specs.Rows.{textsOf}
+use Rattle.literal.specs.Rows.{mostNumber, textsOf}
 use Rattle.resolve.specs.declared.progress.Went.{Went}
 use Rattle.resolve.specs.declared.progress.Went.the-variants as went
 use Rattle.resolve.specs.Resolves.{Value}
@@ -50,7 +49,7 @@ MostOf u rs most.Unknown = Unit {0}
 
 -- no more than can be written, so that no sum overflows
 abbrev pub SmallMost : Most → Type 0
-SmallMost (most.Literals n m) = (n ≤ mostWritten) × (m ≤ mostWritten)
+SmallMost (most.Literals n m) = (n ≤ mostNumber) × (m ≤ mostNumber)
 SmallMost most.Unknown = Unit {0}
 
 -- ---- names

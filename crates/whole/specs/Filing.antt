@@ -11,16 +11,16 @@ use mathlib.Core.List.{List, [], _∷_, _++_}
 use lib.ListN.{length, drop}
 use Rattle.row.specs.Fault.{numberOf}
 use Rattle.row.specs.Numbers.{rowsOf}
-use Rattle.row.specs.Limits.{mostBytes, mostWritten}
+use Rattle.row.specs.Limits.{mostBytes}
 use Rattle.lookup.specs.RowIndex.{Indexed}
-use Rattle.literal.specs.Rows.{textsOf}
+use Rattle.literal.specs.Rows.{mostNumber, textsOf}
 use Rattle.resolve.specs.declared.answer.Answer.{Answer}
 use Rattle.resolve.specs.declared.answer.Answer.the-variants as answer
 use Rattle.resolve.specs.declared.progress.Went.{Went}
 use Rattle.resolve.specs.declared.progress.Went.the-variants as went
-use Rattle.resolve.specs.Resolves.{Value, small}
+use Rattle.resolve.specs.Resolves.{Value}
 use Rattle.resolve.specs.Checks.{Lent, areLent}
-use Rattle.resolve.specs.Progress.{ReadyTables}
+use Rattle.resolve.specs.Progress.{small, ReadyTables}
 use Rattle.whole.specs.declared.file.Totals.{Totals}
 use Rattle.whole.specs.WholeFile.{resultsFrom, results, values, chunksIn, texts, chunkNumbers, countRows, answerNumbers, smallAll}
 
@@ -33,8 +33,8 @@ pub record Filing (file rows flags months words heads next w byName byMark : Lis
 
 -- the counts are small, so that none overflows
 pub record BoundedTotals (t : Totals) : Type 0 where
-  pub rows : t .rows ≤ mostWritten
-  pub bytes : t .bytes ≤ mostWritten
+  pub rows : t .rows ≤ mostNumber
+  pub bytes : t .bytes ≤ mostNumber
 
 -- t counts the values vs: either they are more than can be written, and `over` says so, or they are counted exactly
 pub record CountsAll (vs : List Value) (t : Totals) : Type 0 where
@@ -79,7 +79,7 @@ AddsAnswer t (answer.Refused f) r = AddsTo t 0 0 false r
 
 -- what is written of a value fits behind what was written before
 abbrev pub FitsBehind : Totals → Answer → Type 0
-FitsBehind t (answer.Chunks n m names) = (t .rows + n ≤ mostWritten) × (t .bytes + m ≤ mostWritten)
+FitsBehind t (answer.Chunks n m names) = (t .rows + n ≤ mostNumber) × (t .bytes + m ≤ mostNumber)
 FitsBehind t (answer.Refused f) = Unit {0}
 
 -- the values vs are written over the answers q, the chunk rows b and the text t, which become q′, b′ and t′

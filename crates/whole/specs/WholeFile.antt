@@ -16,11 +16,11 @@ use Rattle.row.specs.Fault.{numberOf, nowhere}
 use Rattle.row.specs.Row.{Row}
 use Rattle.row.specs.Rules.{isKind}
 use Rattle.row.specs.Numbers.{rowsOf}
-use Rattle.row.specs.Limits.{leastScratch, mostWritten}
+use Rattle.row.specs.Limits.{leastScratch}
 use Rattle.chunk.specs.Chunk.{Chunk, flatChunks}
 use Rattle.chunk.specs.declared.answer.Checked.{Checked}
 use Rattle.chunk.specs.declared.answer.Checked.the-variants as checked
-use Rattle.literal.specs.Rows.{rowsFrom, textsOf}
+use Rattle.literal.specs.Rows.{mostNumber, rowsFrom, textsOf}
 use Rattle.whole.specs.declared.file.Filed.{Filed}
 use Rattle.whole.specs.declared.file.Filed.the-variants as filed
 use Rattle.resolve.specs.Resolves.{Value, resolved, refused, checkedFile}
@@ -83,9 +83,9 @@ answerNumbers a t (v ∷ vs) = six a t v ++ answerNumbers (a + length (chunksIn 
 
 -- ---- the call
 
--- no more rows and text than can be written, however much is lent
+-- the numbers of an answer row, which have 32 bits, reach to the end of the chunk rows and of the text
 unfoldable pub smallAll : List Value → Bool
-smallAll vs = leb (countRows vs) mostWritten && leb (length (texts vs)) mostWritten
+smallAll vs = leb (countRows vs) mostNumber && leb (length (texts vs)) mostNumber
 
 -- the values fit into the answers q, the chunk rows b and the text t
 unfoldable pub fitsAll : List Value → List ℕ → List ℕ → List ℕ → Bool

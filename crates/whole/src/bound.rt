@@ -1,8 +1,8 @@
 // How much a value can come to at most, told from the places of its literals and of those of the definitions. That is little work beside
 // resolving it.
+use literal::rows::MOST_NUMBER;
 use resolve::lent;
 use row::form::DEFINITION_NAME;
-use row::limits::MOST_WRITTEN;
 use values::elements;
 use values::elements::Element;
 ghost use Prim.Native.Nat.{ℕ, _+_, _-_, _/_, _≤_};
@@ -45,14 +45,14 @@ pub fn most_of(rows: &[u32], i: usize, name: Most) -> Most
                 }
             },
             Element::Literal { start, end } => {
-                if (end < start) | (MOST_WRITTEN < end) {
+                if (end < start) | (MOST_NUMBER < end) {
                     return Most::Unknown;
                 }
                 n += end - start + 1;
                 m += 2 * (end - start);
             }
         }
-        if (MOST_WRITTEN < n) | (MOST_WRITTEN < m) {
+        if (MOST_NUMBER < n) | (MOST_NUMBER < m) {
             return Most::Unknown;
         }
     }
@@ -84,7 +84,7 @@ fn either(a: Most, b: Most) -> Most
 fn most_of_text(from: usize, to: usize) -> Most
     ensures { λ r. ⌜ TextMost (to - from) r × SmallMost r ⌝ }
 {
-    if (to < from) | (MOST_WRITTEN < to) {
+    if (to < from) | (MOST_NUMBER < to) {
         return Most::Unknown;
     }
     Most::Literals {

@@ -9,6 +9,7 @@ use command::names as commands;
 use command::stack;
 use compose;
 use fields::field;
+use literal::rows::MOST_NUMBER;
 use lookup::index;
 use resolve::answer;
 use resolve::answer::Answer;
@@ -19,7 +20,6 @@ use row::fault::Fault;
 use row::fault::Reason;
 use row::form::VALUE;
 use row::limits::LEAST_SCRATCH;
-use row::limits::MOST_WRITTEN;
 ghost use mathlib.Core.Path.{_≡_};
 ghost use mathlib.Core.Bool.{true, false};
 ghost use mathlib.Core.List.{List, [], _∷_};
@@ -28,7 +28,8 @@ ghost use lib.ListN.{length, drop};
 ghost use lib.Seq.{sets};
 ghost use Rattle.row.specs.Fault.{nowhere as nowhereOf};
 ghost use Rattle.row.specs.Numbers.{rowsOf};
-ghost use Rattle.row.specs.Limits.{mostBytes, leastScratch, mostWritten};
+ghost use Rattle.row.specs.Limits.{mostBytes, leastScratch};
+ghost use Rattle.literal.specs.Rows.{mostNumber, mostRows};
 ghost use Rattle.lookup.specs.Names.{rowNo};
 ghost use Rattle.lookup.specs.RowIndex.{Indexed};
 ghost use Rattle.resolve.specs.Resolves.{Value};
@@ -58,7 +59,7 @@ pub struct Totals {
 }
 
 fn narrow(n: usize) -> u32
-    requires { ⌜ n ≤ 4294967295 ⌝ }
+    requires { ⌜ n ≤ mostNumber ⌝ }
     ensures { λ r. ⌜ r ≡ n ⌝ }
 {
     n as u32
@@ -97,12 +98,12 @@ fn flag_at(flags: &[u8], k: usize) -> bool
 
 // One value more. Where there is more than can be written, it is no longer counted.
 fn add(t: Totals, rows: usize, bytes: usize, over: bool) -> Totals
-    requires { ⌜ BoundedTotals t × (rows ≤ mostWritten) × (bytes ≤ mostWritten) × (t .values ≤ 4611686018427387904) ⌝ }
+    requires { ⌜ BoundedTotals t × (rows ≤ mostRows) × (bytes ≤ mostNumber) × (t .values ≤ 4611686018427387904) ⌝ }
     ensures { λ r. ⌜ AddsTo t rows bytes over r × BoundedTotals r × CoversTo t rows bytes over r ⌝ }
 {
     let n = t.rows + rows;
     let m = t.bytes + bytes;
-    if t.over | over | (MOST_WRITTEN < n) | (MOST_WRITTEN < m) {
+    if t.over | over | (MOST_NUMBER < n) | (MOST_NUMBER < m) {
         return Totals {
             values: t.values + 1,
             rows: 0,

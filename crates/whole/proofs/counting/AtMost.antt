@@ -23,12 +23,12 @@ use Rattle.row.specs.Rules.{isKind}
 use Rattle.row.specs.Numbers.{rowsOf}
 use Rattle.row.specs.Laid.{rowAt}
 use Rattle.row.proofs.Laid.{laid}
-use Rattle.row.specs.Limits.{mostOpen, mostWritten}
+use Rattle.row.specs.Limits.{mostOpen}
 use Rattle.chunk.specs.Chunk.{Chunk}
 use Rattle.turn.specs.Content.{joins, join, flattenFrom, flatten}
 use Rattle.literal.specs.Literal.{Resolved, chunks, resolveLiteral}
 use Rattle.literal.specs.Literal as literal
-use Rattle.literal.specs.Rows.{textsOf}
+use Rattle.literal.specs.Rows.{mostNumber, textsOf}
 use Rattle.literal.proofs.Flattening.{flattening}
 use Rattle.literal.proofs.WellFormed.{well-formed}
 use Rattle.resolve.specs.Checks.{Lent}
@@ -152,11 +152,11 @@ there rows i h = by (leb (i + 4) (length rows)) refl
     by false p = absurd (h (ap firstElement (laid .rows-end rows i (leb-false (i + 4) (length rows) p))))
 
 -- the tests of the code
-pub spans : (a e : ℕ) → (ltb e a || ltb mostWritten e) ≡ false → (a ≤ e) × (e ≤ mostWritten)
-spans a e h = let t = both-false (ltb e a) (ltb mostWritten e) h in (ltb-false e a (t .0), ltb-false mostWritten e (t .1))
+pub spans : (a e : ℕ) → (ltb e a || ltb mostNumber e) ≡ false → (a ≤ e) × (e ≤ mostNumber)
+spans a e h = let t = both-false (ltb e a) (ltb mostNumber e) h in (ltb-false e a (t .0), ltb-false mostNumber e (t .1))
 
-pub sums : (n m : ℕ) → (ltb mostWritten n || ltb mostWritten m) ≡ false → (n ≤ mostWritten) × (m ≤ mostWritten)
-sums n m h = let t = both-false (ltb mostWritten n) (ltb mostWritten m) h in (ltb-false mostWritten n (t .0), ltb-false mostWritten m (t .1))
+pub sums : (n m : ℕ) → (ltb mostNumber n || ltb mostNumber m) ≡ false → (n ≤ mostNumber) × (m ≤ mostNumber)
+sums n m h = let t = both-false (ltb mostNumber n) (ltb mostNumber m) h in (ltb-false mostNumber n (t .0), ltb-false mostNumber m (t .1))
 
 -- the elements from number i to number j add at most n chunks and m bytes to what the elements from j on come to
 abbrev pub Summed : Most → List ℕ → ℕ → ℕ → ℕ → ℕ → Type 0

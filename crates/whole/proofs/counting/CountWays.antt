@@ -15,13 +15,13 @@ use lib.ListN.{length, drop, length-append}
 use lib.Dec.{ltb}
 use borrow.Author.Tests.{ltb-false, le-ltb, le-leb}
 use Rattle.text.proofs.general.Tests.{true-not-false, both-false}
-use Rattle.literal.specs.Rows.{textsOf}
+use Rattle.literal.specs.Rows.{mostNumber, mostRows, textsOf}
 use Rattle.lookup.specs.Names.{rowNo}
 use Rattle.resolve.specs.declared.progress.Went.{Went}
 use Rattle.resolve.specs.declared.progress.Went.the-variants as went
-use Rattle.resolve.specs.Resolves.{Value, resolved, refused, small}
+use Rattle.resolve.specs.Resolves.{Value, resolved, refused}
 use Rattle.resolve.specs.Checks.{Lent}
-use Rattle.resolve.specs.Progress.{Counted}
+use Rattle.resolve.specs.Progress.{small, Counted}
 use Rattle.values.specs.Field.{fieldOf}
 use Rattle.fields.specs.OneField.{Resolving}
 use Rattle.whole.specs.declared.file.Totals.{Totals}
@@ -30,7 +30,6 @@ use Rattle.whole.specs.Filing.{Filing, CountsAll, CountedTo, Sized, Adds
 use Rattle.whole.proofs.values.Appended.{rows-one, text-more}
 use Rattle.whole.proofs.values.Fitting.{small-counts, counts-small, full-front}
 use Rattle.whole.proofs.values.RowByRow.{valueOf, so-start, so-other, so-value, so-flag, so-end}
-use Rattle.row.specs.Limits.{mostWritten}
 
 -- ---- no value
 
@@ -43,22 +42,22 @@ none-counted t n r m o = record { values = n; over = o; rows = λ _. r; bytes = 
 module _ (t : Totals) (n m : ℕ) (over : Bool) where
   -- the code's test
   abbrev pub much : Bool
-  much = ((t .over || over) || ltb mostWritten (t .rows + n)) || ltb mostWritten (t .bytes + m)
+  much = ((t .over || over) || ltb mostNumber (t .rows + n)) || ltb mostNumber (t .bytes + m)
 
-  pub much-not : much ≡ false → (t .over ≡ false) × (over ≡ false) × (t .rows + n ≤ mostWritten) × (t .bytes + m ≤ mostWritten)
+  pub much-not : much ≡ false → (t .over ≡ false) × (over ≡ false) × (t .rows + n ≤ mostNumber) × (t .bytes + m ≤ mostNumber)
   much-not e =
-      let a = both-false ((t .over || over) || ltb mostWritten (t .rows + n)) (ltb mostWritten (t .bytes + m)) e in
-      let b = both-false (t .over || over) (ltb mostWritten (t .rows + n)) (a .0) in
+      let a = both-false ((t .over || over) || ltb mostNumber (t .rows + n)) (ltb mostNumber (t .bytes + m)) e in
+      let b = both-false (t .over || over) (ltb mostNumber (t .rows + n)) (a .0) in
       let d = both-false (t .over) over (b .0) in
-      (d .0, d .1, ltb-false mostWritten (t .rows + n) (b .1), ltb-false mostWritten (t .bytes + m) (a .1))
+      (d .0, d .1, ltb-false mostNumber (t .rows + n) (b .1), ltb-false mostNumber (t .bytes + m) (a .1))
 
   module _ (vs : List Value) (v : Value) (k : CountsAll vs t) (z : Sized v n m over) where
     abbrev more : List Value
     more = vs ++ v ∷ []
 
-    own-small : length (chunksIn v) ≤ mostWritten → length (textsOf (chunksIn v)) ≤ mostWritten → small (chunksIn v) ≡ true
+    own-small : length (chunksIn v) ≤ mostNumber → length (textsOf (chunksIn v)) ≤ mostNumber → small (chunksIn v) ≡ true
     unfolding small
-    own-small h l = rw (le-leb (length (chunksIn v)) mostWritten h, le-leb (length (textsOf (chunksIn v))) mostWritten l)
+    own-small h l = rw (le-leb (length (chunksIn v)) mostRows (omega (arith, h)), le-leb (length (textsOf (chunksIn v))) mostNumber l)
 
     -- values that can be written are not too much
     small-then : smallAll more ≡ true → much ≡ false
@@ -69,8 +68,8 @@ module _ (t : Totals) (n m : ℕ) (over : Bool) where
         let a : t .over ≡ false = k .over ∙ ap not (counts-small vs (omega (arith, s .0)) (omega (arith, s .1))) in
         let b : over ≡ false = z .0 ∙ ap not (own-small (omega (arith, s .0)) (omega (arith, s .1))) in
         let e = z .1 b in
-        let p = le-ltb mostWritten (t .rows + n) (omega (arith, s .0, k .rows a, e .0)) in
-        let q = le-ltb mostWritten (t .bytes + m) (omega (arith, s .1, k .bytes a, e .1)) in
+        let p = le-ltb mostNumber (t .rows + n) (omega (arith, s .0, k .rows a, e .0)) in
+        let q = le-ltb mostNumber (t .bytes + m) (omega (arith, s .1, k .bytes a, e .1)) in
         rw (a, b, p, q)
 
     one-longer : (r : Totals) → r .values ≡ t .values + 1 → r .values ≡ length more

@@ -23,13 +23,13 @@ use Rattle.row.specs.declared.fault.Fault.{Fault}
 use Rattle.row.specs.Row.{Row}
 use Rattle.row.specs.Rules.{isKind}
 use Rattle.row.specs.Numbers.{rowsOf}
-use Rattle.row.specs.Limits.{mostWritten, mostNames}
+use Rattle.row.specs.Limits.{mostNames}
 use Rattle.row.proofs.Laid.{laid}
 use Rattle.lookup.specs.declared.plain.Found.{Found}
 use Rattle.lookup.specs.declared.plain.Found.the-variants as found
 use Rattle.lookup.specs.Names.{nameOf, isNamed, lastNamed, rowNo}
 use Rattle.lookup.proofs.Lookup.{lookup}
-use Rattle.literal.specs.Rows.{textsOf}
+use Rattle.literal.specs.Rows.{mostNumber, textsOf}
 use Rattle.resolve.specs.Checks.{Lent, Month, monthIn, monthsOf, lentOf}
 use Rattle.resolve.specs.Runs.{Run, done, stop}
 use Rattle.values.specs.Field.{Meaning, definition, month, unknown, monthOf, orMonth, spelt, meaningOf, onPath, known, opened, elementsOf, walk, element}
@@ -51,7 +51,7 @@ module _ (a b : Most) where
       (record {
         one = (h .0, i .0);
         other = (h .1, i .1);
-        small = λ s t. (h .2 mostWritten (s .0) (t .0), i .2 mostWritten (s .1) (t .1));
+        small = λ s t. (h .2 mostNumber (s .0) (t .0), i .2 mostNumber (s .1) (t .1));
       }))
 
 -- ---- what is within a is within what is wider

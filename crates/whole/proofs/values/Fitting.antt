@@ -13,28 +13,28 @@ use lib.ListN.{length, length-append}
 use lib.Dec.{leb}
 use borrow.Author.Tests.{leb-true, le-leb}
 use Rattle.text.proofs.general.Tests.{both-true, true-not-false}
-use Rattle.row.specs.Limits.{mostWritten}
+use Rattle.literal.specs.Rows.{mostNumber}
 use Rattle.resolve.specs.Resolves.{Value}
 use Rattle.whole.specs.WholeFile.{texts, countRows, smallAll, fitsAll}
 use Rattle.whole.proofs.values.Appended.{rows-append, texts-append}
 
 -- there is room for the values
 pub record ValuesRoom (vs : List Value) (q b t : List ℕ) : Type 0 where
-  pub few : countRows vs ≤ mostWritten
-  pub short : length (texts vs) ≤ mostWritten
+  pub few : countRows vs ≤ mostNumber
+  pub short : length (texts vs) ≤ mostNumber
   pub answers : length vs ≤ length q / 6
   pub chunks : countRows vs ≤ length b / 5
   pub text : length (texts vs) ≤ length t
 
-pub small-counts : (vs : List Value) → smallAll vs ≡ true → (countRows vs ≤ mostWritten) × (length (texts vs) ≤ mostWritten)
+pub small-counts : (vs : List Value) → smallAll vs ≡ true → (countRows vs ≤ mostNumber) × (length (texts vs) ≤ mostNumber)
 unfolding smallAll
 small-counts vs h =
-    let e = both-true (leb (countRows vs) mostWritten) (leb (length (texts vs)) mostWritten) h in
-    (leb-true (countRows vs) mostWritten (e .0), leb-true (length (texts vs)) mostWritten (e .1))
+    let e = both-true (leb (countRows vs) mostNumber) (leb (length (texts vs)) mostNumber) h in
+    (leb-true (countRows vs) mostNumber (e .0), leb-true (length (texts vs)) mostNumber (e .1))
 
-pub counts-small : (vs : List Value) → countRows vs ≤ mostWritten → length (texts vs) ≤ mostWritten → smallAll vs ≡ true
+pub counts-small : (vs : List Value) → countRows vs ≤ mostNumber → length (texts vs) ≤ mostNumber → smallAll vs ≡ true
 unfolding smallAll
-counts-small vs h k = rw (le-leb (countRows vs) mostWritten h, le-leb (length (texts vs)) mostWritten k)
+counts-small vs h k = rw (le-leb (countRows vs) mostNumber h, le-leb (length (texts vs)) mostNumber k)
 
 pub fits-room : (vs : List Value) (q b t : List ℕ) → fitsAll vs q b t ≡ true → ValuesRoom vs q b t
 unfolding fitsAll

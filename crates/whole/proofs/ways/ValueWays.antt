@@ -15,16 +15,16 @@ use lib.Seq.{sets}
 use borrow.Author.Tests.{le-leb, not-false}
 use borrow.Rule.Slice.PartMut.{midOf, putMid}
 use Rattle.chunk.specs.Chunk.{Chunk, flatChunks}
-use Rattle.literal.specs.Rows.{rowsFrom, textsOf}
+use Rattle.literal.specs.Rows.{mostNumber, mostRows, rowsFrom, textsOf}
 use Rattle.row.specs.declared.fault.Fault.{Fault}
 use Rattle.row.specs.Fault.{numberOf}
 use Rattle.row.specs.Numbers.{rowsOf}
-use Rattle.row.specs.Limits.{mostWritten}
 use Rattle.lookup.specs.Names.{rowNo}
 use Rattle.resolve.specs.declared.answer.Answer.{Answer}
 use Rattle.resolve.specs.declared.answer.Answer.the-variants as answer
-use Rattle.resolve.specs.Resolves.{Value, resolved, refused, small, fits, Writes}
+use Rattle.resolve.specs.Resolves.{Value, resolved, refused, fits, Writes}
 use Rattle.resolve.specs.Checks.{Lent, lentOf}
+use Rattle.resolve.specs.Progress.{small}
 use Rattle.values.specs.Field.{fieldOf}
 use Rattle.whole.specs.declared.file.Totals.{Totals}
 use Rattle.whole.specs.WholeFile.{isValueRow, flag, results, values, chunksIn, texts, chunkNumbers, countRows, six, answerNumbers, smallAll, fitsAll}
@@ -47,22 +47,22 @@ pub record One (v : Value) (b t : List ℕ) (a : Answer) (b′ t′ : List ℕ) 
   pub rows : b′ ≡ flatChunks (rowsFrom 0 (chunksIn v)) ++ drop (length (chunksIn v) * 5) b
   pub text : t′ ≡ textsOf (chunksIn v) ++ drop (length (textsOf (chunksIn v))) t
 
-small-is : (cs : List Chunk) → length cs ≤ mostWritten → length (textsOf cs) ≤ mostWritten → small cs ≡ true
+small-is : (cs : List Chunk) → length cs ≤ mostNumber → length (textsOf cs) ≤ mostNumber → small cs ≡ true
 unfolding small
-small-is cs h k = rw (le-leb (length cs) mostWritten h, le-leb (length (textsOf cs)) mostWritten k)
+small-is cs h k = rw (le-leb (length cs) mostRows (omega (arith, h)), le-leb (length (textsOf cs)) mostNumber k)
 
-fits-is : (cs : List Chunk) (b t : List ℕ) → length cs ≤ mostWritten → length (textsOf cs) ≤ mostWritten → length cs ≤ length b / 5
-    → length (textsOf cs) ≤ length t → fits cs b t ≡ true
-fits-is cs b t h k n m = rw (small-is cs h k, le-leb (length cs) (length b / 5) n, le-leb (length (textsOf cs)) (length t) m)
+fits-is : (cs : List Chunk) (b t : List ℕ) → length (textsOf cs) ≤ mostNumber → length cs ≤ length b / 5 → length (textsOf cs) ≤ length t
+    → fits cs b t ≡ true
+fits-is cs b t k n m = rw (le-leb (length (textsOf cs)) mostNumber k, le-leb (length cs) (length b / 5) n, le-leb (length (textsOf cs)) (length t) m)
 
 pub one-is : (v : Value) (b t : List ℕ) (a : Answer) (b′ t′ : List ℕ) → Writes v b t a b′ t′
-    → length (chunksIn v) ≤ mostWritten → length (textsOf (chunksIn v)) ≤ mostWritten → length (chunksIn v) ≤ length b / 5
-    → length (textsOf (chunksIn v)) ≤ length t → One v b t a b′ t′
+    → length (textsOf (chunksIn v)) ≤ mostNumber → length (chunksIn v) ≤ length b / 5 → length (textsOf (chunksIn v)) ≤ length t
+    → One v b t a b′ t′
 unfolding flatChunks rowsFrom textsOf
-one-is (resolved cs n) b t a b′ t′ w h k p m =
-    let e = fits-is cs b t h k p m in
+one-is (resolved cs n) b t a b′ t′ w k p m =
+    let e = fits-is cs b t k p m in
     record { told = w .answer ∙ (rw e); rows = w .rows ∙ (rw e); text = w .text ∙ (rw e) }
-one-is (refused f) b t a b′ t′ w h k p m = record { told = w .answer; rows = w .rows; text = w .text }
+one-is (refused f) b t a b′ t′ w k p m = record { told = w .answer; rows = w .rows; text = w .text }
 
 six-is : (t : Totals) (v : Value) → sixOf t (toldOf v) ≡ six (t .rows) (t .bytes) v
 six-is t (resolved cs n) = refl
@@ -77,7 +77,7 @@ unfolding textsOf
 adds-one t r vs (resolved cs n) k e g = g vs (resolved cs n) k (not-small cs e, λ h. (refl, refl))
 adds-one t r vs (refused f) k e g = g vs (refused f) k (not-small [] e, λ h. (refl, refl))
 
-fits-one : (t : Totals) (v : Value) → t .rows + length (chunksIn v) ≤ mostWritten → t .bytes + length (textsOf (chunksIn v)) ≤ mostWritten
+fits-one : (t : Totals) (v : Value) → t .rows + length (chunksIn v) ≤ mostNumber → t .bytes + length (textsOf (chunksIn v)) ≤ mostNumber
     → FitsBehind t (toldOf v)
 fits-one t (resolved cs n) h k = (h, k)
 fits-one t (refused f) h k = tt
@@ -87,8 +87,8 @@ fits-one t (refused f) h k = tt
 -- what is required of the counts, with the flags, the answers q, the chunk rows b and the text x
 pub record Here (t : Totals) (flags q b x : List ℕ) : Type 0 where
   pub flag : t .values < length flags
-  pub few : t .rows ≤ mostWritten
-  pub short : t .bytes ≤ mostWritten
+  pub few : t .rows ≤ mostNumber
+  pub short : t .bytes ≤ mostNumber
   pub answers : t .values < length q / 6
   pub chunks : t .rows * 5 ≤ length b
   pub text : t .bytes ≤ length x
@@ -149,7 +149,7 @@ module _ (l : Lent) (flags : List ℕ) (i : ℕ) (t : Totals) (q b x : List ℕ)
           let w₂ = subst (λ (u : List ℕ). Writes v u (midOf (t .bytes) (length x - t .bytes) x) a b′ x′) (mid-rest (t .rows * 5) b) w₁ in
           let w₃ = subst (λ (u : List ℕ). Writes v (drop (t .rows * 5) b) u a b′ x′) (mid-rest (t .bytes) x) w₂ in
           one-is v (drop (t .rows * 5) b) (drop (t .bytes) x) a b′ x′ w₃
-          (omega (arith, z .0, r .few)) (omega (arith, z .1, r .short))
+          (omega (arith, z .1, r .short))
           (omega (arith, z .0, r .chunks, length-drop (t .rows * 5) b)) (omega (arith, z .1, r .text, length-drop (t .bytes) x))
 
       pub row-behind-by : FitsBehind t a

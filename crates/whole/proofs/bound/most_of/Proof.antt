@@ -5,7 +5,7 @@ use mathlib.Core.Path.{_≡_, refl, sym, subst, _∙_}
 use mathlib.Core.Logic.{⊎-elim}
 use lib.ListN.{length}
 use borrow.Author.Needs.{needs}
-use Rattle.row.specs.Limits.{mostWritten}
+use Rattle.literal.specs.Rows.{mostNumber}
 use Rattle.whole.specs.Bounds.{SmallMost}
 use Rattle.whole.proofs.counting.AtMost.{spans, sums, Summed, summed-none, summed-literal, summed-name, summed-end}
 use Rattle.whole.proofs.bound.most_of.Statement.{statement}
@@ -14,7 +14,7 @@ use Rattle.whole.proofs.bound.most_of.Tie as tie
 -- the elements before number `at` are summed up
 abbrev Inv-loop : tie.InvT-loop
 Inv-loop rows i name₀ n₀ m₀ at₀ name n m at =
-    (name ≡ name₀) × Summed name₀ rows (i * 4 + 4) n m at × (n ≤ mostWritten) × (m ≤ mostWritten) × (at ≤ length rows + 4)
+    (name ≡ name₀) × Summed name₀ rows (i * 4 + 4) n m at × (n ≤ mostNumber) × (m ≤ mostNumber) × (at ≤ length rows + 4)
 
 abbrev μ-loop : tie.MeasureT-loop
 μ-loop rows i name₀ n₀ m₀ at₀ name n m at = length rows - at

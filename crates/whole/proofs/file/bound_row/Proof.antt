@@ -41,7 +41,7 @@ add-requires c κs =
     let lent = lentOf (a .file .now) (a .rows .now) (a .months .now) (a .words .now) in
     let most = subst SmallMost (is .1) (told .most-of .ensures .1) in
     let few = cover-few lent (a .flags .now) (a .i) (a .t) (p .3) in
-    (p .2, most .0, most .1, omega (arith, few, p .1))
+    (p .2, omega (arith, most .0), most .1, omega (arith, few, p .1))
 
 flag-at-requires : tie.Need-flag-at-requires
 flag-at-requires c κs =
