@@ -199,7 +199,8 @@ uint32_t bib_resolve_literal(const uint8_t *file, size_t file_len,
  * months of no whole count of words; then with 16 if scratch has fewer than BIB_LEAST_SCRATCH bytes;
  * then with 3, 11 to 15, or 1 at the place of a literal that is too long, whichever comes first as the
  * value is resolved from left to right, and at one name with the least of them; then with 16 if chunks
- * or text are too short. */
+ * or text are too short, or if the text has more than 4,294,967,295 bytes, whose places are no numbers
+ * of 32 bits. */
 uint32_t bib_resolve_field(const uint8_t *file, size_t file_len,
                            const uint32_t *rows, size_t rows_len,
                            size_t which,
@@ -240,7 +241,8 @@ uint32_t bib_resolve_field(const uint8_t *file, size_t file_len,
  *
  * Refuses with 1 a file that is too long; then with 2; then with 17 rows or months as in
  * bib_resolve_field, or fewer flags than value rows; then with 16 if scratch has fewer than
- * BIB_LEAST_SCRATCH bytes; then with 16 if answers, chunks or text are too short for all values. */
+ * BIB_LEAST_SCRATCH bytes; then with 16 if answers, chunks or text are too short for all values, or if
+ * these have more than 4,294,967,295 chunk rows or bytes of text together. */
 uint32_t bib_resolve_file(const uint8_t *file, size_t file_len,
                           const uint32_t *rows, size_t rows_len,
                           const uint8_t *flags, size_t flags_len,

@@ -36,8 +36,8 @@ _BYTES = 7
 _CHUNK_NUMBERS = 5
 _ANSWER_NUMBERS = 6
 _LEAST_SCRATCH = 32_768
-# More chunks or bytes of text than this are never written, however much is lent.
-_MOST_WRITTEN = 4_294_000_000
+# More text than this is refused however much is lent, since the numbers of a chunk row have 32 bits; and no more chunks are lent.
+_MOST_LENT = 4_294_967_295
 
 _NO_ROOM = 16
 
@@ -358,7 +358,7 @@ def _in_more_room(resolve, room: int):
         try:
             return resolve(room)
         except Refusal as refusal:
-            if refusal.number != _NO_ROOM or room >= _MOST_WRITTEN:
+            if refusal.number != _NO_ROOM or room >= _MOST_LENT:
                 raise
         except MemoryError:
             raise Refusal(_NO_ROOM, 0, 0) from None

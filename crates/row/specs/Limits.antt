@@ -1,4 +1,4 @@
--- Document 01's limits [01:From file to field], and one of our own.
+-- Document 01's limits [01:From file to field].
 -- Assumes nothing.
 use Prim.Native.Nat.{ℕ}
 
@@ -21,7 +21,3 @@ mostOpen = 32
 
 abbrev pub mostNames : ℕ
 mostNames = 4096
-
--- our own: the most chunk rows and the most bytes of text that are written, however much is lent, since the numbers of a chunk row have 32 bits
-abbrev pub mostWritten : ℕ
-mostWritten = 4294000000

@@ -1,5 +1,4 @@
-// Document 01's limits [01:From file to field], and one of our own. Each is said here once for the code, and in specs/Limits.antt once for the
-// contracts.
+// Document 01's limits [01:From file to field]. Each is said here once for the code, and in specs/Limits.antt once for the contracts.
 
 // The longest file.
 pub const MOST_BYTES: usize = 16_777_215;
@@ -20,6 +19,3 @@ pub const MOST_ARGUMENTS: usize = 64;
 pub const MOST_OPEN: usize = 32;
 
 pub const MOST_NAMES: usize = 4_096;
-
-// Our own: the most chunk rows and the most bytes of text that are written, since the numbers of a chunk row have 32 bits.
-pub const MOST_WRITTEN: usize = 4_294_000_000;

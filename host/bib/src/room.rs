@@ -10,9 +10,10 @@ use crate::{memory, Refusal};
 /// Chunks, and bytes of text, that are lent beside what the value's own literals can need.
 const FOR_NAMES: usize = 256;
 
-/// The most chunks, and the most text, that are ever written (`mostWritten` of
-/// crates/resolve/specs/Resolves.antt). More is refused whatever is lent.
-const MOST_WRITTEN: usize = 4_294_000_000;
+/// The most text, and of all values of a file also the most chunks, that are given: the numbers of their
+/// rows have 32 bits (`mostNumber` of crates/literal/specs/Rows.antt), and more is refused whatever is
+/// lent. One value could have more chunks, and is not lent the 86 GB that their rows would take.
+const MOST_LENT: usize = 4_294_967_295;
 
 pub(crate) struct Room {
     pub(crate) chunks: usize,
@@ -65,7 +66,7 @@ impl Room {
     }
 
     /// More of both, since the refusal does not say which was short. Where it is as much as is ever
-    /// written there is no more.
+    /// lent there is no more.
     pub(crate) fn grow(&mut self) -> Result<(), Refusal> {
         // Memory is taken only where something is written, but each try goes over all values.
         if let Some((chunks, text)) = self.literals.take() {
@@ -73,11 +74,11 @@ impl Room {
             self.text = self.text.max(text);
             return Ok(());
         }
-        if self.chunks >= MOST_WRITTEN && self.text >= MOST_WRITTEN {
+        if self.chunks >= MOST_LENT && self.text >= MOST_LENT {
             return Err(Refusal::NO_MEMORY);
         }
-        self.chunks = (4 * self.chunks).min(MOST_WRITTEN);
-        self.text = (4 * self.text).min(MOST_WRITTEN);
+        self.chunks = (4 * self.chunks).min(MOST_LENT);
+        self.text = (4 * self.text).min(MOST_LENT);
         Ok(())
     }
 

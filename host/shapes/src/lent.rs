@@ -15,8 +15,9 @@ const CHUNK_NUMBERS: usize = 5;
 
 const NO_ROOM: u32 = 16;
 
-/// More than this is never written (`mostWritten` of crates/resolve/specs/Resolves.antt).
-const MOST_WRITTEN: usize = 4_294_000_000;
+/// More text than this is refused whatever is lent: the numbers of a chunk row have 32 bits (`mostNumber` of
+/// crates/literal/specs/Rows.antt).
+const MOST_TEXT: usize = 4_294_967_295;
 
 /// What a call is refused with: 01's number and place.
 pub struct Refusal {
@@ -143,7 +144,7 @@ impl Room {
                     proved::resolve_field(file, which, verbatim, &mut lent)
                 }
             };
-            if answer.number != NO_ROOM || self.text.len() >= MOST_WRITTEN {
+            if answer.number != NO_ROOM || self.text.len() >= MOST_TEXT {
                 return answer;
             }
             self.chunks.resize(4 * self.chunks.len(), 0);

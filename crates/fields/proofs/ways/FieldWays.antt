@@ -221,7 +221,8 @@ module _ (run : Run) (first : Progress) (begins : (b t : List ℕ) → Has [] b 
               record {
                 answer = o ∙ answered cs b₀ t₀ st b t has c s fit within n (k .0);
                 rows = rows-as cs b₀ t₀ st b t has c s fit within n c′
-                    (has₂ .rows right₂ .numbers (reach cs b₀ t₀ st b t has c s fit within) ∙ flattening .rows-written c (flatten cs) (rows-room cs b₀ t₀ st b t has c s fit within));
+                    (has₂ .rows right₂ .numbers (reach cs b₀ t₀ st b t has c s fit within)
+                    ∙ flattening .rows-written c (flatten cs) (rows-room cs b₀ t₀ st b t has c s fit within));
                 text = text-as cs b₀ t₀ st b t has c s fit within n s′ (has₂ .text right₂);
               }
           by (done cs n) k (went.Refused f) k₂ = absurd k₂

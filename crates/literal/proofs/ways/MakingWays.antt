@@ -262,7 +262,8 @@ module _ (place : Place) (t₀ : List ℕ) (ps : List Chunk) (b₀ : List ℕ) (
       }
 
   module _ (i : place .argument ≡ false) (x : Lays (m .len) w o l o′) (from to first last : ℕ) (k′ : Rows) (b′ : List ℕ)
-      (u : Narrowed (place .text + m .len) from) (v : Narrowed (place .text + l) to) (y : first ≡ place .base + a) (z : last ≡ place .base + e) (push : Pushes Math from to first last (m .rows) b k′ b′)
+      (u : Narrowed (place .text + m .len) from) (v : Narrowed (place .text + l) to) (y : first ≡ place .base + a) (z : last ≡ place .base + e)
+      (push : Pushes Math from to first last (m .rows) b k′ b′)
     where
       abbrev base₁ : ℕ
       base₁ = place .base

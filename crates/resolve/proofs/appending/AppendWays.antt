@@ -152,8 +152,8 @@ module _ (words : List ℕ) (from to start end : ℕ) where
   month-text = append-nil (part words from to)
 
   pub month-row : (st : Progress) (ps : List Chunk) (b₀ t₀ b b′ t : List ℕ) (k : Rows) (m n : ℕ) → from ≤ to → to ≤ length words
-      → (st .bytes ≤ mostNumber → m ≡ st .bytes) → (st .bytes + (to - from) ≤ mostNumber → n ≡ st .bytes + (to - from)) → Pushes Normal m n start end (st .rows) b k b′ → Has ps b₀ t₀ st b t → st .over ≡ false
-      → RowsHold (flatten (ps ++ one)) b₀ k b′
+      → (st .bytes ≤ mostNumber → m ≡ st .bytes) → (st .bytes + (to - from) ≤ mostNumber → n ≡ st .bytes + (to - from))
+      → Pushes Normal m n start end (st .rows) b k b′ → Has ps b₀ t₀ st b t → st .over ≡ false → RowsHold (flatten (ps ++ one)) b₀ k b′
   month-row st ps b₀ t₀ b b′ t k m n f l p q push has o =
       subst (λ (cs : List Chunk). RowsHold cs b₀ k b′) (sym (joining ps (chunk Normal (part words from to) start end)))
       (push (flatten ps) (part words from to) b₀ ranges (has .rows o))

@@ -32,7 +32,7 @@ use Rattle.literal.specs.declared.parse.Parsed.{Parsed}
 use Rattle.literal.specs.declared.parse.Parsed.the-variants as parsed
 use Rattle.literal.specs.Literal.{Resolved, chunks, resolveLiteral}
 use Rattle.literal.specs.Literal as literal
-use Rattle.literal.specs.Rows.{mostNumber, mostRows, InReach, RowsHold, Pushes, rowsFrom, writes, textsOf, lastKind, lastText, lastStart}
+use Rattle.literal.specs.Rows.{mostNumber, InReach, RowsHold, Pushes, rowsFrom, writes, textsOf, lastKind, lastText, lastStart}
 use Rattle.literal.specs.Inner.{OneChunk, Added, SaysParsed, GrowsParsed}
 use Rattle.literal.specs.Refusals.{ContentFault, LiteralFault}
 use Rattle.literal.specs.Refusals as fault

@@ -1,5 +1,4 @@
 -- `resolve::progress::month` meets its contract. Assumes nothing.
-use native.Mathlib.Omega.{arith}
 use borrow.Author.Needs.{needs}
 use Rattle.resolve.proofs.appending.AppendWays.{one, month-text, month-row}
 use Rattle.resolve.proofs.progress.month.Statement.{statement}
