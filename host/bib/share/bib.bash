@@ -16,13 +16,14 @@ _bib() {
     --allow | --deny) mapfile -t COMPREPLY < <(compgen -W "$(bib check --list | grep '^[a-z]')" -- "$word") ;;
     --verbatim) mapfile -t COMPREPLY < <(compgen -W 'none all names' -- "$word") ;;
     --months) mapfile -t COMPREPLY < <(compgen -W 'none english' -- "$word") ;;
+    --strings | --output | -o) mapfile -t COMPREPLY < <(compgen -f -- "$word") ;;
     --color) mapfile -t COMPREPLY < <(compgen -W 'auto always never' -- "$word") ;;
     *)
         case ${COMP_WORDS[1]}:$word in
-        check:-*) mapfile -t COMPREPLY < <(compgen -W '--allow --deny --strict --all --no-resolve --list --json --quiet --color --limit --help' -- "$word") ;;
-        resolve:-*) mapfile -t COMPREPLY < <(compgen -W '--verbatim --months --salvage --limit --help' -- "$word") ;;
-        write:-*) mapfile -t COMPREPLY < <(compgen -W '--only --output --keep --strict --limit --help' -- "$word") ;;
-        show:-*) mapfile -t COMPREPLY < <(compgen -W '--strict --limit --help' -- "$word") ;;
+        check:-*) mapfile -t COMPREPLY < <(compgen -W '--allow --deny --strict --all --no-resolve --list --json --quiet --color --limit --strings --help' -- "$word") ;;
+        resolve:-*) mapfile -t COMPREPLY < <(compgen -W '--verbatim --months --salvage --limit --strings --help' -- "$word") ;;
+        write:-*) mapfile -t COMPREPLY < <(compgen -W '--only --output --keep --strict --limit --strings --help' -- "$word") ;;
+        show:-*) mapfile -t COMPREPLY < <(compgen -W '--strict --limit --strings --help' -- "$word") ;;
         show:*)
             if [ "$COMP_CWORD" -eq 2 ]; then
                 mapfile -t COMPREPLY < <(compgen -f -- "$word")

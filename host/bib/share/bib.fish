@@ -37,4 +37,5 @@ complete -c bib -n '__fish_seen_subcommand_from write' -l keep -d 'Writes a fiel
 complete -c bib -n '__fish_seen_subcommand_from resolve' -l verbatim -x -a 'none all names' -d 'Which values are verbatim'
 complete -c bib -n '__fish_seen_subcommand_from resolve' -l months -x -a 'none english' -d 'The months that are known'
 complete -c bib -n '__fish_seen_subcommand_from check show write resolve' -l limit -x -d 'So many bytes the values of a file come to'
+complete -c bib -n '__fish_seen_subcommand_from check show write resolve' -l strings -r -d 'Lends the definitions of this file'
 complete -c bib -n '__fish_seen_subcommand_from resolve' -l salvage -d 'Reads piece by piece'

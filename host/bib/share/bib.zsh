@@ -44,6 +44,7 @@ _bib() {
             '(-q --quiet)'{-q,--quiet}'[no output, only the exit status]' \
             '--color[when to use colour]:when:(auto always never)' \
             '--limit[so many bytes the values of a file come to]:bytes:' \
+            '*--strings[lends the definitions of this file]:file:_files' \
             '--help[what can be asked]' \
             '*:file:_files'
     elif [[ $words[1] == resolve ]]; then
@@ -52,12 +53,14 @@ _bib() {
             '--months[the months that are known]:which:(none english)' \
             '--salvage[reads piece by piece]' \
             '--limit[so many bytes the values of a file come to]:bytes:' \
+            '*--strings[lends the definitions of this file]:file:_files' \
             '--help[what can be asked]' \
             ':file:_files'
     elif [[ $words[1] == show ]]; then
         _arguments \
             '--strict[exit status 1 for warnings too]' \
             '--limit[so many bytes the values of a file come to]:bytes:' \
+            '*--strings[lends the definitions of this file]:file:_files' \
             '--help[what can be asked]' \
             ':file:_files' \
             '*:key:_bib_keys'
@@ -68,6 +71,7 @@ _bib() {
             '(-o --output)'{-o,--output}'[writes into this file]:file:_files' \
             '--keep[writes a field that cannot be resolved as it stands]' \
             '--limit[so many bytes the values of a file come to]:bytes:' \
+            '*--strings[lends the definitions of this file]:file:_files' \
             '--help[what can be asked]' \
             ':file:_files'
     else

@@ -28,25 +28,27 @@ mod hints;
 mod items;
 mod lines;
 mod outside;
+mod places;
 mod text;
 mod trace;
 mod unresolved;
 mod values;
 
 pub use errors::{AboutError, ERRORS};
+pub(crate) use explain::is_damaged_string;
 pub use explain::Explainer;
 pub use finding::{About, Code, Finding, Level, Lint, Lints, LINTS};
 pub use items::{Item, Items, What};
 pub use lines::{Line, Lines};
+pub use places::Places;
 pub use text::key_name;
 pub use unresolved::{without_damage, Unresolved};
 
-use std::cell::OnceCell;
 use std::collections::TryReserveError;
 use std::ops::Range;
 
 use crate::memory::push;
-use crate::{Kind, Reason, Refusal, ResolvedFile, Rows, USUAL_LIMIT};
+use crate::{Kind, Lending, Reason, Refusal, ResolvedFile, Rows, MOST_BYTES, USUAL_LIMIT};
 use encoding::{Encoding, Format};
 use entries::Repeats;
 use text::field_in_value;
@@ -130,7 +132,7 @@ impl<E> From<TryReserveError> for Stop<E> {
 }
 
 /// Hands over what is wrong in a file, piece by piece and entry by entry in file order, with the
-/// file's lines.
+/// lines of the file that it is in: where other files lend definitions, that may be one of them.
 pub fn check<E>(
     file: &[u8],
     say: impl FnMut(&Finding, &Lines) -> Result<(), E>,
@@ -143,14 +145,14 @@ pub fn check<E>(
 /// said, and count.
 pub fn check_reading<E>(
     file: &[u8],
-    reading: &Result<Reading, Refusal>,
+    reading: &Result<Reading<'_>, Refusal>,
     lints: Lints,
     say: impl FnMut(&Finding, &Lines) -> Result<(), E>,
 ) -> Result<Checked, Stop<E>> {
     let reading = match reading {
         Ok(reading) => reading,
         Err(refusal) if refusal.reason == Reason::TooLong => {
-            return too_long(say, *refusal).map_err(Stop::Caller)
+            return too_long(file, say, *refusal).map_err(Stop::Caller)
         }
         Err(refusal) => return Err(Stop::Refused(*refusal)),
     };
@@ -164,7 +166,7 @@ pub fn check_reading<E>(
         names: Repeats::in_file(file, rows, Kind::DefinitionName)?,
         encoding: Encoding::of(file, rows),
         format: Format::of(file),
-        lines: OnceCell::new(),
+        places: Places::of(file, reading),
         lints,
         has_said: false,
         is_of_entry: false,
@@ -189,15 +191,17 @@ pub fn keys<'a>(file: &'a [u8], rows: &'a Rows) -> impl Iterator<Item = (&'a [u8
 }
 
 /// A reading of a file: strict reading's rows, or those of salvage where that refuses.
-pub struct Reading {
+pub struct Reading<'a> {
     pub rows: Rows,
     /// Strict reading accepts the file, but salvage would cut it inside an entry.
     pub is_cut: bool,
     /// The values that cannot be resolved, in the order of their rows; none before they are.
     pub unresolved: Vec<Unresolved>,
+    /// The definitions that other files lend.
+    pub lending: Option<Lending<'a>>,
 }
 
-impl Reading {
+impl<'a> Reading<'a> {
     /// Where salvage shows no damage, its rows are strict reading's (`undamaged` and `strictly` of
     /// crates/salvage/specs/Demand3.antt), so that such a file is read once.
     pub fn of(file: &[u8]) -> Result<Self, Refusal> {
@@ -218,12 +222,15 @@ impl Reading {
 
     /// The same, where all values together come to so many bytes at most.
     pub fn resolved_within(limit: u64, file: &[u8]) -> Result<Self, Refusal> {
-        let mut reading = Self::of(file)?;
+        Self::of(file)?.with_values(limit, file)
+    }
+
+    fn with_values(mut self, limit: u64, file: &[u8]) -> Result<Self, Refusal> {
         // A file that is all damage needs no memory for it.
-        if reading.rows.iter().any(|row| row.kind == Kind::Value) {
-            reading.resolve(limit, file)?;
+        if self.rows.iter().any(|row| row.kind == Kind::Value) {
+            self.resolve(limit, file)?;
         }
-        Ok(reading)
+        Ok(self)
     }
 
     fn new(rows: Rows, is_cut: bool) -> Self {
@@ -231,7 +238,22 @@ impl Reading {
             rows,
             is_cut,
             unresolved: Vec::new(),
+            lending: None,
         }
+    }
+
+    /// A reading of a file that is lent definitions. Refused where both are together longer than a file may be.
+    pub fn lent(file: &[u8], lending: Lending<'a>) -> Result<Self, Refusal> {
+        lending.lent.fits(file)?;
+        Ok(Self {
+            lending: Some(lending),
+            ..Self::of(file)?
+        })
+    }
+
+    /// The same, of which is known what cannot be resolved.
+    pub fn lent_within(limit: u64, file: &[u8], lending: Lending<'a>) -> Result<Self, Refusal> {
+        Self::lent(file, lending)?.with_values(limit, file)
     }
 
     /// Resolves every value that was read: with the English months, and with the fields of
@@ -239,30 +261,41 @@ impl Reading {
     /// Values that would pass the limit, as [`resolve_file_within`](crate::resolve_file_within) counts it,
     /// are not resolved.
     pub fn resolve(&mut self, limit: u64, file: &[u8]) -> Result<ResolvedFile, Refusal> {
-        let resolved = unresolved::resolve(limit, file, &self.rows)?;
+        let lent = self.lending.map(|lending| lending.lent);
+        let resolved = unresolved::resolve(limit, lent, file, &self.rows)?;
         self.unresolved = Unresolved::all(&self.rows, &resolved)?;
         Ok(resolved)
     }
 }
 
-/// A file that is too long is not read; it has no line to show.
+/// A file that is too long is not read; it has no line to show. It may be so by the definitions that it is lent.
 fn too_long<E>(
+    file: &[u8],
     mut say: impl FnMut(&Finding, &Lines) -> Result<(), E>,
     refusal: Refusal,
 ) -> Result<Checked, E> {
+    let (message, hint) = if file.len() > MOST_BYTES {
+        (refusal.reason.what(), "split it into several files")
+    } else {
+        (TOO_LONG_TOGETHER, "lend it fewer definitions, or split it")
+    };
     let finding = Finding {
         code: Code::Refusal(refusal.reason),
         start: refusal.start,
         end: refusal.end,
         mark: 0,
-        message: refusal.reason.what().into(),
-        hint: Some("split it into several files".into()),
+        message: message.into(),
+        hint: Some(hint.into()),
         key: None,
     };
     let lines = Lines::of(b"").expect("no file has no lines but one");
     say(&finding, &lines)?;
     Ok(Checked::default())
 }
+
+/// What is said of a file that is too long by the definitions that it is lent.
+pub const TOO_LONG_TOGETHER: &str =
+    "the file and the definitions that it is lent are together longer than 16,777,215 bytes";
 
 /// A file that is being checked.
 pub(crate) struct Checker<'a, S> {
@@ -275,8 +308,7 @@ pub(crate) struct Checker<'a, S> {
     encoding: Encoding,
     /// What else than BibTeX the file looks like; said once.
     format: Option<Format>,
-    /// Made when the first finding needs them.
-    lines: OnceCell<Lines<'a>>,
+    places: Places<'a>,
     /// The lints that are wanted.
     lints: Lints,
     /// Something was said already.
@@ -293,10 +325,7 @@ pub(crate) struct Checker<'a, S> {
 
 impl<'a, E, S: FnMut(&Finding, &Lines) -> Result<(), E>> Checker<'a, S> {
     fn lines(&self) -> Result<&Lines<'a>, Refusal> {
-        if self.lines.get().is_none() {
-            let _ = self.lines.set(Lines::of(self.file)?);
-        }
-        Ok(self.lines.get().expect("they were made"))
+        self.places.lines()
     }
 
     fn say(&mut self, finding: Finding) -> Result<(), Stop<E>> {
@@ -306,9 +335,8 @@ impl<'a, E, S: FnMut(&Finding, &Lines) -> Result<(), E>> Checker<'a, S> {
             }
             self.stands(Standing::Warned);
         }
-        self.lines()?;
         self.has_said = true;
-        let lines = self.lines.get().expect("they were made");
+        let (finding, lines) = self.places.settle(finding)?;
         (self.say)(&finding, lines).map_err(Stop::Caller)
     }
 

@@ -4,7 +4,7 @@ use proved::{File, LentForFile, ANSWER_NUMBERS};
 
 use crate::room::Room;
 use crate::row::NUMBERS;
-use crate::{chunk, memory, Kind, Reason, Refusal, Rows};
+use crate::{chunk, memory, Kind, Reason, Refusal, Rows, LENT};
 
 /// What the values of a file are resolved to, in the order of their rows.
 #[derive(Debug, Clone, PartialEq, Eq)]
@@ -60,6 +60,26 @@ impl ResolvedFile {
                 answer[..4].copy_from_slice(&[number, 0, row.start as u32, row.end as u32]);
             }
         }
+    }
+
+    /// Without the first values, which are those of so many lent bytes before the file: its own places are moved
+    /// back, and those in what was lent to [`LENT`](crate::LENT).
+    pub(crate) fn behind(mut self, values: usize, length: u32) -> Self {
+        let moved = |place: &mut u32| {
+            *place = match place.checked_sub(length) {
+                Some(own) => own,
+                None => *place + LENT as u32,
+            };
+        };
+        self.answers.drain(..values * ANSWER_NUMBERS);
+        let answers = self.answers.chunks_exact_mut(ANSWER_NUMBERS);
+        for answer in answers.filter(|answer| answer[0] != 0) {
+            answer[2..4].iter_mut().for_each(moved);
+        }
+        for chunk in self.chunks.chunks_exact_mut(chunk::NUMBERS) {
+            chunk[3..].iter_mut().for_each(moved);
+        }
+        self
     }
 
     fn value(&self, answer: &[u32]) -> Result<ResolvedValue<'_>, Refusal> {

@@ -16,6 +16,7 @@ pub mod check;
 mod chunk;
 mod fields;
 mod filed;
+mod lent;
 mod limit;
 mod memory;
 mod months;
@@ -26,6 +27,7 @@ mod row;
 pub use chunk::Resolved;
 pub use fields::{is_verbatim_field, verbatim_flags, ENGLISH_MONTHS};
 pub use filed::{ResolvedFile, ResolvedValue};
+pub use lent::{Lending, Lent, LentPlace, LENT};
 pub use limit::USUAL_LIMIT;
 pub use refusal::{Reason, Refusal};
 pub use row::{Kind, Row, Rows};
@@ -182,6 +184,37 @@ pub fn resolve_file_within(
     let mut resolved = resolve_file(file, &rest, flags, months)?;
     resolved.refuse(rows, &beyond);
     Ok(resolved)
+}
+
+/// The same, where other files lend definitions: each value is resolved as if these stood before the file, and
+/// the places in them, of refusals and chunks, are those from [`LENT`] on. Refused by 1 where the file and the
+/// definitions are together longer than a file may be.
+///
+/// ```
+/// let mut lent = bib::Lent::default();
+/// lent.add("strings.bib".into(), b"@string{acm = {ACM Press}}".to_vec()).unwrap();
+/// let file = b"@book{k, publisher = acm}";
+/// let rows = bib::read(file).unwrap();
+/// let limit = bib::USUAL_LIMIT;
+/// let resolved = bib::resolve_file_lent(limit, &lent, file, &rows, &[false], &[]).unwrap();
+/// assert_eq!(resolved.get(0).unwrap().unwrap().text, "ACM Press");
+/// ```
+pub fn resolve_file_lent(
+    limit: u64,
+    lent: &Lent,
+    file: &[u8],
+    rows: &Rows,
+    flags: &[bool],
+    months: &[(&str, &str)],
+) -> Result<ResolvedFile, Refusal> {
+    lent.fits(file)?;
+    // Where nothing is asked for, nothing need be lent.
+    if lent.rows().is_empty() || !rows.iter().any(|row| row.kind == Kind::Name) {
+        return resolve_file_within(limit, file, rows, flags, months);
+    }
+    let (bytes, rows, flags) = lent.before(file, rows, flags)?;
+    let resolved = resolve_file_within(limit, &bytes, &rows, &flags, months)?;
+    Ok(resolved.behind(lent.values(), lent.text().len() as u32))
 }
 
 /// A file of n bytes has at most n + 1 rows (`EnoughRoom` of crates/bib/specs/EnoughRoom.antt).

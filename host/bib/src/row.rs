@@ -1,5 +1,6 @@
 //! Rows, as document 01 has them.
 
+use std::collections::TryReserveError;
 use std::fmt;
 use std::ops::Range;
 
@@ -82,6 +83,17 @@ pub struct Rows {
 impl Rows {
     pub(crate) fn new(numbers: Vec<u32>) -> Self {
         Self { numbers }
+    }
+
+    /// Adds rows, four numbers each, whose places are moved by so much.
+    pub(crate) fn extend(&mut self, numbers: &[u32], by: i64) -> Result<(), TryReserveError> {
+        self.numbers.try_reserve(numbers.len())?;
+        let moved = |place: u32| (i64::from(place) + by) as u32;
+        for row in numbers.chunks_exact(NUMBERS) {
+            self.numbers
+                .extend([row[0], row[1], moved(row[2]), moved(row[3])]);
+        }
+        Ok(())
     }
 
     /// As numbers, four to a row: the form that `pack` takes.

@@ -11,21 +11,30 @@ use super::finding::{Code, Finding};
 use super::items::{Item, What};
 use super::text::{is_typographic, key_name, quoted, TYPOGRAPHIC};
 use super::unresolved::Unresolved;
-use super::Lines;
+use super::{Lines, Places, Reading};
 use crate::memory::push;
-use crate::{is_verbatim_field, Kind, Reason, Refusal, Row, Rows};
+use crate::{is_verbatim_field, Kind, Lending, LentPlace, Reason, Refusal, Row, Rows, LENT};
 
 /// Says why values of a file cannot be resolved.
 pub struct Explainer<'a> {
-    file: &'a [u8],
-    rows: &'a Rows,
-    /// The rows of the definitions' names, in the order of these in small letters.
-    names: Vec<u32>,
+    own: Ground<'a>,
+    /// The definitions that other files lend, and to which file.
+    lent: Option<(Ground<'a>, Lending<'a>)>,
     /// Where the first damaged piece begins that begins with `@string`.
     damaged: Option<usize>,
     /// What was said of places in definitions, where it took long to find: any number of values may use
     /// one, of verbatim fields and of others.
     said: RefCell<HashMap<(u32, Reason, bool), Words>>,
+}
+
+/// A text with its rows: the file, or the definitions that it is lent.
+struct Ground<'a> {
+    text: &'a [u8],
+    rows: &'a Rows,
+    /// The rows of the definitions' names, in the order of these in small letters.
+    names: Vec<u32>,
+    /// What its first place is called: [`LENT`] in definitions that are lent.
+    first: usize,
 }
 
 /// What is said of a refusal in whatever value it shows.
@@ -40,24 +49,16 @@ struct Words {
 const SHORT: usize = 64;
 
 impl<'a> Explainer<'a> {
-    pub fn of(file: &'a [u8], rows: &'a Rows) -> Result<Self, Refusal> {
-        let mut names = Vec::new();
-        for (index, row) in rows.iter().enumerate() {
-            if row.kind == Kind::DefinitionName {
-                push(&mut names, index as u32)?;
-            }
-        }
-        let text = |index: &u32| {
-            rows.get(*index as usize)
-                .map_or(&[][..], |row| &file[row.span()])
-        };
-        names.sort_unstable_by(|a, b| small(text(a), text(b)));
-        let mut pieces = rows.iter().filter(|row| row.kind == Kind::Damage);
-        let damaged = pieces.find(|row| is_string(file, *row));
+    pub fn of(file: &'a [u8], reading: &'a Reading<'a>) -> Result<Self, Refusal> {
+        let rows = &reading.rows;
+        let lent = reading.lending.map(|lending| {
+            let Lending { lent, .. } = lending;
+            Ground::of(lent.text(), lent.rows(), LENT).map(|ground| (ground, lending))
+        });
+        let damaged = rows.iter().find(|row| is_damaged_string(file, *row));
         Ok(Self {
-            file,
-            rows,
-            names,
+            own: Ground::of(file, rows, 0)?,
+            lent: lent.transpose()?,
             damaged: damaged.map(|row| row.start),
             said: RefCell::default(),
         })
@@ -65,33 +66,53 @@ impl<'a> Explainer<'a> {
 
     /// Whether definitions may be lost in a damaged piece.
     pub(crate) fn has_damaged_definitions(&self) -> bool {
-        self.damaged.is_some()
+        let lent = self.lent.as_ref();
+        self.damaged.is_some() || lent.is_some_and(|(_, lending)| lending.lent.damaged().is_some())
     }
 
-    /// What is said of a value of this item, which cannot be resolved.
-    pub fn finding(&self, one: &Unresolved, item: &Item, lines: &Lines) -> Finding {
-        self.finding_of(one, item, lines, 0)
+    /// The text that a place is in.
+    fn ground(&self, place: usize) -> &Ground<'a> {
+        let lent = self.lent.as_ref().filter(|_| place >= LENT);
+        lent.map_or(&self.own, |(ground, _)| ground)
     }
 
-    /// The same, where so many more names have no definition.
+    /// What is said of a value of this item, which cannot be resolved, and the lines of the file that it is said
+    /// of: where a lent definition is at fault, that is the file which lends it.
+    pub fn finding<'p>(
+        &self,
+        one: &Unresolved,
+        item: &Item,
+        places: &'p Places<'a>,
+    ) -> Result<(Finding, &'p Lines<'a>), Refusal> {
+        places.settle(self.finding_of(one, item, places, 0)?)
+    }
+
+    /// The same, where so many more names have no definition, with places as resolving has them.
     pub(crate) fn finding_of(
         &self,
         one: &Unresolved,
         item: &Item,
-        lines: &Lines,
+        places: &Places,
         more: usize,
-    ) -> Finding {
+    ) -> Result<Finding, Refusal> {
         let refusal = one.refusal();
-        let Words { mark, what, hint } = self.words(one, lines);
+        let Words { mark, what, hint } = self.words(one, places)?;
         let (key, whose) = self.whose(one, item);
         let mut message = what;
-        message += &in_subject(&whose, lines, item.span.start, mark);
+        let lines = places.lines()?;
+        message += &match &self.lent {
+            Some((_, lending)) if mark >= LENT => {
+                let line = lines.number(item.span.start);
+                format!(", in {whose} ({}, line {line})", lending.to)
+            }
+            _ => in_subject(&whose, lines, item.span.start, mark),
+        };
         match more {
             0 => {}
             1 => message += ", and one more use of such a name",
             _ => message += &format!(", and {more} more uses of such names"),
         }
-        Finding {
+        Ok(Finding {
             code: Code::Refusal(refusal.reason),
             start: refusal.start,
             end: refusal.end,
@@ -99,30 +120,31 @@ impl<'a> Explainer<'a> {
             message,
             hint: Some(hint),
             key,
-        }
+        })
     }
 
     /// What is said of a refusal. A file may have millions of values that use one definition; what is said
     /// of that is found once, where more than a few bytes are looked at for it.
-    fn words(&self, one: &Unresolved, lines: &Lines) -> Words {
+    fn words(&self, one: &Unresolved, places: &Places) -> Result<Words, Refusal> {
         let Refusal { reason, start, end } = one.refusal();
-        let is_short = || end - start <= SHORT && self.literal_before(start).len() <= SHORT;
+        let is_short =
+            || end - start <= SHORT && self.ground(start).literal_before(start).len() <= SHORT;
         if self.is_own(one) || is_short() {
-            return self.new_words(one, lines);
+            return self.new_words(one, places);
         }
         let place = (start as u32, reason, self.is_verbatim(one));
         if let Some(words) = self.said.borrow().get(&place) {
-            return words.clone();
+            return Ok(words.clone());
         }
-        let words = self.new_words(one, lines);
+        let words = self.new_words(one, places)?;
         let mut said = self.said.borrow_mut();
         if said.try_reserve(1).is_ok() {
             said.insert(place, words.clone());
         }
-        words
+        Ok(words)
     }
 
-    fn new_words(&self, one: &Unresolved, lines: &Lines) -> Words {
+    fn new_words(&self, one: &Unresolved, places: &Places) -> Result<Words, Refusal> {
         let refusal = one.refusal();
         let mut what = match refusal.reason {
             // Its place is the end of a literal, or of a command's argument.
@@ -132,42 +154,45 @@ impl<'a> Explainer<'a> {
         .to_string();
         match refusal.reason {
             Reason::UnknownAbbreviation | Reason::Cyclic => {
-                what.extend([": `", &self.used(refusal), "`"]);
+                let ground = self.ground(refusal.start);
+                what.extend([": `", &quoted(ground.used(refusal)), "`"]);
             }
             Reason::NoRoom => what = self.beyond_limit(one),
             _ => {}
         }
-        Words {
-            mark: self.open_formula(refusal).unwrap_or(refusal.start),
+        let formula = self.ground(refusal.start).open_formula(refusal);
+        Ok(Words {
+            mark: formula.unwrap_or(refusal.start),
             what,
-            hint: self.hint(one, lines),
-        }
+            hint: self.hint(one, places)?,
+        })
     }
 
     /// Of a value that would pass the limit its field or its definition is named.
     fn beyond_limit(&self, one: &Unresolved) -> String {
-        let name = self.rows.get(one.value().wrapping_sub(1));
-        let name = name.map_or(String::new(), |row| quoted(&self.file[row.span()]));
+        let name = self.own.rows.get(one.value().wrapping_sub(1));
+        let name = name.map_or(String::new(), |row| quoted(self.own.of_row(row)));
         format!("with `{name}` resolved, the file would pass its limit")
     }
 
     /// Whether a refusal is in the value itself, its end included.
     fn is_own(&self, one: &Unresolved) -> bool {
-        let value = self.rows.get(one.value()).map_or(0..0, |row| row.span());
+        let value = self.own.rows.get(one.value());
+        let value = value.map_or(0..0, |row| row.span());
         (value.start..=value.end).contains(&one.refusal().start)
     }
 
     /// Whether the value is of a verbatim field.
     fn is_verbatim(&self, one: &Unresolved) -> bool {
-        let field = self.rows.get(one.value().wrapping_sub(1));
-        field.is_some_and(|row| is_verbatim_field(&self.file[row.span()]))
+        let field = self.own.rows.get(one.value().wrapping_sub(1));
+        field.is_some_and(|row| is_verbatim_field(self.own.of_row(row)))
     }
 
     /// The key of the entry that has a value, and what the value is called: where the refusal is in a
     /// definition, the field that uses it.
     fn whose(&self, one: &Unresolved, item: &Item) -> (Option<String>, String) {
-        let text = |row: Row| &self.file[row.span()];
-        let key = self.rows.get(item.rows.start + 2);
+        let text = |row: Row| self.own.of_row(row);
+        let key = self.own.rows.get(item.rows.start + 2);
         let key = key.filter(|row| row.kind == Kind::Key && row.start < row.end);
         let key = key.map(text);
         let owner = match (item.what, key) {
@@ -179,25 +204,23 @@ impl<'a> Explainer<'a> {
         if self.is_own(one) {
             return (key, owner);
         }
-        let name = self.rows.get(one.value().wrapping_sub(1));
+        let name = self.own.rows.get(one.value().wrapping_sub(1));
         let name = name.map_or(String::new(), |row| quoted(text(row)));
         (key, ["`", &name, "` of ", &owner].concat())
     }
 
-    /// The name that is used where a refusal is.
-    fn used(&self, refusal: Refusal) -> String {
-        quoted(&self.file[refusal.start..refusal.end])
-    }
-
     /// What can be done.
-    fn hint(&self, one: &Unresolved, lines: &Lines) -> String {
+    fn hint(&self, one: &Unresolved, places: &Places) -> Result<String, Refusal> {
         let refusal = one.refusal();
-        let is_argument = self.file.get(refusal.start) == Some(&b'{');
-        if self.is_escaped(refusal) {
-            return "the value has escape sequences: the file may be ISO-2022-JP".into();
+        let ground = self.ground(refusal.start);
+        let is_argument = ground.text.get(refusal.start - ground.first) == Some(&b'{');
+        if ground.is_escaped(refusal) {
+            return Ok("the value has escape sequences: the file may be ISO-2022-JP".into());
         }
-        match refusal.reason {
-            Reason::UnknownAbbreviation => self.definition_hint(refusal, lines),
+        let hint = match refusal.reason {
+            Reason::UnknownAbbreviation => {
+                return self.definition_hint(ground.used(refusal), places)
+            }
             Reason::Cyclic => {
                 "a definition must not lead back to its own name: write its text in braces".into()
             }
@@ -216,45 +239,118 @@ impl<'a> Explainer<'a> {
                     .into()
             }
             Reason::TooLong => "join it of shorter ones by #: {..} # {..}".into(),
-            _ => self.end_hint(refusal, lines),
-        }
+            _ => return self.end_hint(refusal, places),
+        };
+        Ok(hint)
     }
 
-    fn definition_hint(&self, refusal: Refusal, lines: &Lines) -> String {
-        let name = &self.file[refusal.start..refusal.end];
+    fn definition_hint(&self, name: &[u8], places: &Places) -> Result<String, Refusal> {
         if is_typographic(name) {
-            return TYPOGRAPHIC.into();
+            return Ok(TYPOGRAPHIC.into());
         }
-        if let Some(other) = self.in_other_letters(name) {
-            let (place, text) = (lines.place(other.start), quoted(&self.file[other.span()]));
-            return format!(
+        let lent = self.lent.iter().map(|(ground, _)| ground);
+        let mut grounds = [&self.own].into_iter().chain(lent);
+        if let Some((place, other)) = grounds.find_map(|ground| ground.in_other_letters(name)) {
+            let (place, text) = (places.place(place)?, quoted(other));
+            return Ok(format!(
                 "BibTeX takes it for `{text}`, defined at {place}, but here small and large letters make \
                  different names"
-            );
+            ));
         }
-        if let Some(damaged) = self.damaged {
-            let line = lines.number(damaged);
-            return format!(
-                "@string (line {line}) is damaged, and may have defined it: mend that first"
-            );
+        if let Some(line) = self.damaged_line(places)? {
+            return Ok(format!(
+                "@string ({line}) is damaged, and may have defined it: mend that first"
+            ));
         }
         let name = quoted(name);
         let (braced, defined) = (
             "put a text into braces: {",
             "}; or define the name in this file: @string{",
         );
-        [braced, &name, defined, &name, " = {..}}"].concat()
+        Ok([braced, &name, defined, &name, " = {..}}"].concat())
     }
 
-    /// The definition of a name that differs in small and large letters alone.
-    fn in_other_letters(&self, name: &[u8]) -> Option<Row> {
+    /// The line of the first `@string` that is damaged, and whose file it is, where that is not this one.
+    fn damaged_line(&self, places: &Places) -> Result<Option<String>, Refusal> {
+        if let Some(place) = self.damaged {
+            return Ok(Some(format!("line {}", places.lines()?.number(place))));
+        }
+        let Some(Lending { lent, .. }) = self.lent.as_ref().map(|(_, lending)| lending) else {
+            return Ok(None);
+        };
+        let Some(LentPlace { lender, place }) = lent.damaged() else {
+            return Ok(None);
+        };
+        let line = places.lines_of(lender)?.number(place);
+        Ok(Some(format!("{}, line {line}", lent.lender(lender).0)))
+    }
+
+    fn brace_hint(&self, one: &Unresolved) -> String {
+        let place = one.refusal().start;
+        let before = self.ground(place).literal_before(place);
+        // A verbatim field has no formulas.
+        if before.contains(&b'$') && !self.is_verbatim(one) {
+            return "a brace that is opened between two `$` must be closed between them".into();
+        }
+        "take it out, or write \\} where a brace is meant".into()
+    }
+
+    fn end_hint(&self, refusal: Refusal, places: &Places) -> Result<String, Refusal> {
+        let formula = self.ground(refusal.start).open_formula(refusal);
+        let Some(formula) = formula else {
+            return Ok(
+                "in the argument of a command a brace counts even behind a backslash".into(),
+            );
+        };
+        // It is in the file that the finding is about.
+        let (place, lines) = places.at(formula)?;
+        Ok(format!(
+            "the `$` at {} begins a formula that does not end: write \\$ where a dollar is meant",
+            lines.place(place)
+        ))
+    }
+}
+
+impl<'a> Ground<'a> {
+    fn of(text: &'a [u8], rows: &'a Rows, first: usize) -> Result<Self, Refusal> {
+        let mut names = Vec::new();
+        for (index, row) in rows.iter().enumerate() {
+            if row.kind == Kind::DefinitionName {
+                push(&mut names, index as u32)?;
+            }
+        }
+        let name = |index: &u32| {
+            let row = rows.get(*index as usize);
+            row.map_or(&[][..], |row| &text[row.span()])
+        };
+        names.sort_unstable_by(|a, b| small(name(a), name(b)));
+        Ok(Self {
+            text,
+            rows,
+            names,
+            first,
+        })
+    }
+
+    fn of_row(&self, row: Row) -> &'a [u8] {
+        &self.text[row.span()]
+    }
+
+    /// The name that is used where a refusal is.
+    fn used(&self, refusal: Refusal) -> &'a [u8] {
+        &self.text[refusal.start - self.first..refusal.end - self.first]
+    }
+
+    /// The definition of a name that differs in small and large letters alone: its place, and that name.
+    fn in_other_letters(&self, name: &[u8]) -> Option<(usize, &'a [u8])> {
         let row = |index: &u32| self.rows.get(*index as usize);
-        let order = |index: &u32| row(index).map(|row| small(&self.file[row.span()], name));
+        let order = |index: &u32| row(index).map(|row| small(self.of_row(row), name));
         let first = self
             .names
             .partition_point(|index| order(index) == Some(Ordering::Less));
         let found = self.names.get(first)?;
-        row(found).filter(|_| order(found) == Some(Ordering::Equal))
+        let found = row(found).filter(|_| order(found) == Some(Ordering::Equal))?;
+        Some((self.first + found.start, self.of_row(found)))
     }
 
     /// Whether a literal has escape sequences, in which dollars and braces mean something else.
@@ -266,29 +362,9 @@ impl<'a> Explainer<'a> {
         is_of_literal && self.literal_before(refusal.start).contains(&0x1b)
     }
 
-    fn brace_hint(&self, one: &Unresolved) -> String {
-        let before = self.literal_before(one.refusal().start);
-        // A verbatim field has no formulas.
-        if before.contains(&b'$') && !self.is_verbatim(one) {
-            return "a brace that is opened between two `$` must be closed between them".into();
-        }
-        "take it out, or write \\} where a brace is meant".into()
-    }
-
-    fn end_hint(&self, refusal: Refusal, lines: &Lines) -> String {
-        match self.open_formula(refusal) {
-            Some(place) => format!(
-                "the `$` at {} begins a formula that does not end: write \\$ where a dollar is meant",
-                lines.place(place)
-            ),
-            None => {
-                "in the argument of a command a brace counts even behind a backslash".into()
-            }
-        }
-    }
-
     /// The literal that has a place, up to there.
     fn literal_before(&self, place: usize) -> &'a [u8] {
+        let place = place - self.first;
         let mut after = self.rows.len();
         let mut first = 0;
         while first < after {
@@ -301,7 +377,7 @@ impl<'a> Explainer<'a> {
         }
         let before = (0..after).rev().map_while(|index| self.rows.get(index));
         let literal = before.take(2).find(|row| row.kind == Kind::Literal);
-        literal.map_or(&[], |row| &self.file[row.start.min(place)..place])
+        literal.map_or(&[], |row| &self.text[row.start.min(place)..place])
     }
 
     /// Where a formula begins that does not end, if that is why a text ends too early.
@@ -321,8 +397,11 @@ fn small(a: &[u8], b: &[u8]) -> Ordering {
     a.iter().map(small).cmp(b.iter().map(small))
 }
 
-/// Whether a piece begins with `@string`.
-fn is_string(file: &[u8], piece: Row) -> bool {
+/// Whether a row is of a damaged piece that begins with `@string`.
+pub(crate) fn is_damaged_string(file: &[u8], piece: Row) -> bool {
+    if piece.kind != Kind::Damage {
+        return false;
+    }
     let mut cursor = Cursor::new(file, piece.span());
     cursor.eat(b'@');
     let kind = cursor.ident();

@@ -14,6 +14,8 @@ pub struct Lines<'a> {
     begins: Vec<u32>,
     /// The number of the line that was asked for last: the next is mostly near.
     near: Cell<usize>,
+    /// The number of the file among those that lend definitions, where it is one of them.
+    lender: Option<usize>,
     /// For each part of so many bytes, from where on it is counted and the number of characters before.
     marks: Vec<(u32, u32)>,
 }
@@ -46,8 +48,28 @@ impl<'a> Lines<'a> {
             file,
             begins,
             near: Cell::new(1),
+            lender: None,
             marks: marks(file)?,
         })
+    }
+
+    /// Those of the file that lends definitions as this number.
+    pub fn of_lender(file: &'a [u8], number: usize) -> Result<Self, TryReserveError> {
+        Ok(Self {
+            lender: Some(number),
+            ..Self::of(file)?
+        })
+    }
+
+    /// Of which of the files that lend definitions these are the lines; of none where they are the lines of the
+    /// file itself.
+    pub fn lender(&self) -> Option<usize> {
+        self.lender
+    }
+
+    /// The file that they are of.
+    pub fn file(&self) -> &'a [u8] {
+        self.file
     }
 
     /// The line that has this byte of the file; its end belongs to it.

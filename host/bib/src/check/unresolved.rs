@@ -5,7 +5,8 @@ use std::collections::{HashSet, TryReserveError};
 use std::ops::Range;
 
 use crate::{
-    is_verbatim_field, verbatim_flags, Kind, Reason, Refusal, ResolvedFile, Rows, ENGLISH_MONTHS,
+    is_verbatim_field, verbatim_flags, Kind, Lent, Reason, Refusal, ResolvedFile, Rows,
+    ENGLISH_MONTHS,
 };
 
 /// A value that cannot be resolved. A file may have four million of them, so that it is small.
@@ -53,11 +54,19 @@ impl Unresolved {
 
 /// All values of a file resolved: the English months are known, the fields of the Rust's list are
 /// verbatim, and damaged pieces count as blanks, so that one author's bytes which are not UTF-8 do
-/// not keep another's field from being resolved.
-pub(crate) fn resolve(limit: u64, file: &[u8], rows: &Rows) -> Result<ResolvedFile, Refusal> {
+/// not keep another's field from being resolved. Other files may lend definitions.
+pub(crate) fn resolve(
+    limit: u64,
+    lent: Option<&Lent>,
+    file: &[u8],
+    rows: &Rows,
+) -> Result<ResolvedFile, Refusal> {
     let flags = verbatim_flags(file, rows, is_verbatim_field)?;
     let file = without_damage(file, rows)?;
-    crate::resolve_file_within(limit, &file, rows, &flags, &ENGLISH_MONTHS)
+    match lent {
+        None => crate::resolve_file_within(limit, &file, rows, &flags, &ENGLISH_MONTHS),
+        Some(lent) => crate::resolve_file_lent(limit, lent, &file, rows, &flags, &ENGLISH_MONTHS),
+    }
 }
 
 /// The file with blanks for its damaged pieces, by the rows of salvage: all places stay, so that what was

@@ -24,7 +24,7 @@ pub(crate) struct Values<'a> {
 }
 
 impl<'a> Values<'a> {
-    pub fn of(file: &'a [u8], reading: &'a Reading) -> Result<Self, Refusal> {
+    pub fn of(file: &'a [u8], reading: &'a Reading<'a>) -> Result<Self, Refusal> {
         let Reading {
             rows, unresolved, ..
         } = reading;
@@ -38,7 +38,7 @@ impl<'a> Values<'a> {
         if unresolved.is_empty() {
             return Ok(values);
         }
-        let explainer = Explainer::of(file, rows)?;
+        let explainer = Explainer::of(file, reading)?;
         if explainer.has_damaged_definitions() {
             let mut once = Once::of(rows, unresolved);
             let mut count = 0;
@@ -89,8 +89,8 @@ impl<E, S: FnMut(&Finding, &Lines) -> Result<(), E>> Checker<'_, S> {
         let Some((one, more)) = next else {
             return Ok(None);
         };
-        let lines = self.lines()?;
         let explainer = self.values.explainer.as_ref();
-        Ok(explainer.map(|explainer| explainer.finding_of(one, item, lines, more)))
+        let finding = explainer.map(|one_by| one_by.finding_of(one, item, &self.places, more));
+        finding.transpose()
     }
 }

@@ -2,14 +2,17 @@
 
 use std::collections::HashMap;
 use std::io::{self, BufWriter, Stdout, Write};
+use std::sync::OnceLock;
 
 use bib::check::{
     self, Checked, Code, Counts, Finding, Level, Lines, Lint, Reading, Standing, Stop,
 };
-use bib::{Kind, Refusal};
+use bib::{Kind, Reason, Refusal};
 
 use crate::cut::Cut;
+use crate::defined::Defined;
 use crate::folder;
+use crate::lending::Strings;
 use crate::levels::Levels;
 use crate::progress::{room, Progress};
 use crate::report::{Report, Spot};
@@ -24,16 +27,20 @@ use crate::{say, Status, Trouble, BUFFER};
 const LARGE: usize = 1 << 20;
 
 pub fn check(asked: &Asked, sources: Vec<Source>) -> Result<Status, Trouble> {
+    let strings = Strings::of(&asked.strings)?;
     let (sources, troubles) = folder::expanded(sources);
     let report = Report {
         style: Style::of(asked.color),
         room: room(&io::stdout()),
         json: asked.json,
+        lenders: &asked.strings,
     };
     let checking = Checking {
         asked,
         report,
         sources: &sources,
+        strings: &strings,
+        defined: OnceLock::new(),
     };
     for trouble in &troubles {
         say(trouble);
@@ -60,8 +67,11 @@ pub fn check(asked: &Asked, sources: Vec<Source>) -> Result<Status, Trouble> {
 /// What all files are checked by.
 struct Checking<'a> {
     asked: &'a Asked,
-    report: Report,
+    report: Report<'a>,
     sources: &'a [Source],
+    strings: &'a Strings<'a>,
+    /// Where names are defined among the files, read once one has no definition in its own.
+    defined: OnceLock<Defined>,
 }
 
 /// What was found in a file.
@@ -125,11 +135,14 @@ impl Checking<'_> {
                 return Ok(());
             }
             text.clear();
+            let other = self.defined_elsewhere(finding, lines);
+            let finding = other.as_ref().unwrap_or(finding);
             self.report
                 .finding(source, finding, level, lines, &mut text);
             page.write(&text)
         };
-        let reading = self.reading(file);
+        let name = source.to_string();
+        let reading = self.reading(file, &name);
         let checked = check::check_reading(file, &reading, self.asked.levels.lints(), print)?;
         outcome.entries = checked.counts();
         if let Ok(reading) = &reading {
@@ -138,12 +151,27 @@ impl Checking<'_> {
         Ok(())
     }
 
-    fn reading(&self, file: &[u8]) -> Result<Reading, Refusal> {
+    fn reading<'s>(&'s self, file: &[u8], name: &'s str) -> Result<Reading<'s>, Refusal> {
         if self.asked.no_resolve {
             Reading::of(file)
         } else {
-            Reading::resolved_within(self.asked.limit.0, file)
+            self.strings.resolved(self.asked.limit.0, file, name)
         }
+    }
+
+    /// A finding about a name without a definition, with the hint that another of the files defines it.
+    fn defined_elsewhere(&self, finding: &Finding, lines: &Lines) -> Option<Finding> {
+        let is_unknown = finding.code == Code::Refusal(Reason::UnknownAbbreviation);
+        if !is_unknown || self.sources.len() < 2 {
+            return None;
+        }
+        let defined = self.defined.get_or_init(|| Defined::of(self.sources));
+        let name = &lines.file()[finding.start..finding.end];
+        let hint = Some(defined.hint(name, self.sources)?);
+        Some(Finding {
+            hint,
+            ..finding.clone()
+        })
     }
 
     /// The keys, where those of several files are compared.
@@ -253,6 +281,7 @@ impl Results<'_> {
             asked,
             report,
             sources,
+            ..
         } = self.checking;
         if self.keys.try_reserve(1).is_err() {
             let what = sources[index].beyond_memory("compare the keys of");

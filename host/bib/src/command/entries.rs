@@ -1,53 +1,33 @@
 //! The entries of a file with their fields resolved, for the works that print them.
 
-use std::cell::OnceCell;
-
 use bib::check::{
-    check_reading, Explainer, Finding, Item, Items, Lines, Lints, Reading, Stop, Unresolved, What,
+    check_reading, Explainer, Finding, Item, Items, Lines, Lints, Places, Reading, Stop,
+    Unresolved, What,
 };
 use bib::{Kind, Refusal, ResolvedFile, ResolvedValue};
 
+use crate::lending::Strings;
 use crate::words::Limit;
 
 /// A file that was read, and whose values are resolved.
 pub struct Opened<'a> {
     file: &'a [u8],
-    pub reading: Reading,
+    pub reading: Reading<'a>,
     values: ResolvedFile,
     /// How many entries its damaged pieces have.
     pub damaged: usize,
 }
 
-/// The lines of a file, which are made when something is to be said.
-pub struct Places<'a> {
-    file: &'a [u8],
-    lines: OnceCell<Lines<'a>>,
-}
-
-impl<'a> Places<'a> {
-    pub fn of(file: &'a [u8]) -> Self {
-        Self {
-            file,
-            lines: OnceCell::new(),
-        }
-    }
-
-    pub fn lines(&self) -> Result<&Lines<'a>, Refusal> {
-        if self.lines.get().is_none() {
-            let _ = self.lines.set(Lines::of(self.file)?);
-        }
-        Ok(self.lines.get().expect("they were made"))
-    }
-}
-
 /// Reads a file and resolves its values; says what is damaged, and what is lost though it is read, as
-/// `bib check` does. Nothing where the file is too long, which is said too.
-pub fn opened<E>(
+/// `bib check` does. Nothing where the file is too long, which is said too. It has this name where a lender's
+/// definition is at fault.
+pub fn opened<'a, E>(
     limit: Limit,
-    file: &[u8],
+    strings: &'a Strings,
+    (file, name): (&'a [u8], &'a str),
     say: impl FnMut(&Finding, &Lines) -> Result<(), E>,
-) -> Result<Option<Opened<'_>>, Stop<E>> {
-    let reading = Reading::of(file);
+) -> Result<Option<Opened<'a>>, Stop<E>> {
+    let reading = strings.reading(file, name);
     let damaged = check_reading(file, &reading, Lints::LOST, say)?.damaged;
     let Ok(mut reading) = reading else {
         return Ok(None);
@@ -76,7 +56,11 @@ impl Opened<'_> {
         if self.reading.unresolved.is_empty() {
             return Ok(None);
         }
-        Explainer::of(self.file, &self.reading.rows).map(Some)
+        Explainer::of(self.file, &self.reading).map(Some)
+    }
+
+    pub fn places(&self) -> Places<'_> {
+        Places::of(self.file, &self.reading)
     }
 }
 

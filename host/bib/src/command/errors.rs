@@ -14,7 +14,7 @@ use crate::{shown, Status, BUFFER};
 
 pub struct Errors<'a> {
     pub source: &'a Source,
-    report: Report,
+    report: Report<'a>,
     to: BufWriter<Stderr>,
     /// How many warnings of each name there were: as of `bib check`, the first hundred are shown.
     cut: Cut,
@@ -26,13 +26,14 @@ pub struct Errors<'a> {
 }
 
 impl<'a> Errors<'a> {
-    pub fn of(source: &'a Source, is_strict: bool) -> Self {
+    pub fn of(source: &'a Source, lenders: &'a [Source], is_strict: bool) -> Self {
         Self {
             source,
             report: Report {
                 style: Style::of(Color::Never),
                 room: room(&io::stderr()),
                 json: false,
+                lenders,
             },
             to: BufWriter::with_capacity(BUFFER, io::stderr()),
             cut: Cut::default(),

@@ -3,11 +3,13 @@
 mod back;
 mod check;
 mod cut;
+mod defined;
 mod entries;
 mod errors;
 mod excerpt;
 mod folder;
 mod json;
+mod lending;
 mod levels;
 mod near;
 mod print;
@@ -117,7 +119,7 @@ fn run(words: Words) -> Result<Status, Trouble> {
         }
         Words::Show(showing, source, keys) => show::show(&showing, &source, &keys, &mut out)?,
         Words::Write(writing, source) => write::write(&writing, &source, &mut out)?,
-        Words::Resolve(ways, source) => resolve::resolve(ways, &source, &mut out)?,
+        Words::Resolve(ways, source) => resolve::resolve(&ways, &source, &mut out)?,
         Words::One(work, source) => one(work, &source, &mut out)?,
     };
     out.flush()?;

@@ -55,6 +55,12 @@ names that stand for long texts can multiply. For `bib check`, show, write and r
 
   --limit BYTES         another number; a name counts as four, beside its text
 
+A name that another file defines by @string is known where that file lends its definitions. For the
+same four, and as often as wanted:
+
+  --strings FILE        lends the definitions of FILE to every file given, as if they stood before it:
+                        the last definition counts, so that a file's own ones win
+
 All three know the English months, and take these fields for verbatim ones: file, doi, uri, eprint,
 verba, verbb, verbc, pdf, url, urlraw. `bib resolve` knows what it is told:
 

@@ -11,11 +11,13 @@ use crate::source::Source;
 use crate::style::Style;
 
 /// How findings are printed.
-pub struct Report {
+pub struct Report<'a> {
     pub style: Style,
     /// The columns of a line.
     pub room: usize,
     pub json: bool,
+    /// The files that lend definitions: a finding may be in one of them.
+    pub lenders: &'a [Source],
 }
 
 /// Where a finding is.
@@ -25,8 +27,8 @@ pub struct Spot<'a> {
     pub column: usize,
 }
 
-impl Report {
-    /// Puts a finding, with the lines of its file. A file may have millions: nothing is allocated where
+impl Report<'_> {
+    /// Puts a finding, with the lines of the file that it is in: the source, or one that lends definitions. A file may have millions: nothing is allocated where
     /// it is put for people.
     pub fn finding(
         &self,
@@ -37,8 +39,9 @@ impl Report {
         out: &mut Vec<u8>,
     ) {
         let (line, column) = lines.line_and_column(finding.mark);
+        let lender = lines.lender().map(|number| &self.lenders[number]);
         let spot = Spot {
-            source,
+            source: lender.unwrap_or(source),
             line,
             column,
         };

@@ -5,10 +5,11 @@ use std::io::{self, Write};
 
 use bib::check::without_damage;
 use bib::{
-    is_verbatim_field, Kind, Reason, Refusal, ResolvedFile, ResolvedValue, Row, Rows,
-    ENGLISH_MONTHS,
+    is_verbatim_field, Kind, Lent, LentPlace, Reason, Refusal, ResolvedFile, ResolvedValue, Row,
+    Rows, ENGLISH_MONTHS, LENT,
 };
 
+use crate::lending::Strings;
 use crate::print;
 use crate::source::Source;
 use crate::words::{Verbatim, Ways};
@@ -17,9 +18,10 @@ use crate::{Status, Trouble};
 /// The numbers of a chunk row.
 pub const CHUNK: usize = 5;
 
-pub fn resolve(ways: Ways, source: &Source, out: &mut impl Write) -> Result<Status, Trouble> {
+pub fn resolve(ways: &Ways, source: &Source, out: &mut impl Write) -> Result<Status, Trouble> {
+    let strings = Strings::of(&ways.strings)?;
     let file = source.file()?;
-    match resolved(ways, &file, out) {
+    match resolved(ways, &strings, &file, out) {
         Ok(status) => Ok(status),
         Err(Stop::Output(error)) => Err(error.into()),
         Err(Stop::Refused(refusal)) if refusal.reason == Reason::NoRoom => {
@@ -27,6 +29,9 @@ pub fn resolve(ways: Ways, source: &Source, out: &mut impl Write) -> Result<Stat
         }
         Err(Stop::Refused(refusal)) => {
             writeln!(out, "{}", print::refused(&refusal))?;
+            if refusal.reason == Reason::TooLong {
+                strings.too_long(source, &file);
+            }
             Ok(Status::Findings)
         }
     }
@@ -51,13 +56,19 @@ impl From<io::Error> for Stop {
 }
 
 /// Prints every value. One that is refused stops no other, but the exit status says it.
-fn resolved(ways: Ways, file: &[u8], out: &mut impl Write) -> Result<Status, Stop> {
+fn resolved(
+    ways: &Ways,
+    strings: &Strings,
+    file: &[u8],
+    out: &mut impl Write,
+) -> Result<Status, Stop> {
+    let lent = &strings.lent;
     let rows = if ways.salvage {
         bib::salvage(file)?
     } else {
         bib::read(file)?
     };
-    let resolved = values(ways, file, &rows)?;
+    let resolved = values(ways, lent, file, &rows)?;
     let mut answers = resolved.iter();
     let (mut name, mut outer) = (None, None);
     let mut status = Status::Sound;
@@ -73,9 +84,9 @@ fn resolved(ways: Ways, file: &[u8], out: &mut impl Write) -> Result<Status, Sto
             Kind::Value => {
                 head(file, name, row, out)?;
                 match answers.next() {
-                    Some(Ok(value)) => chunks(value, out)?,
+                    Some(Ok(value)) => chunks(value, lent, out)?,
                     Some(Err(refusal)) => {
-                        writeln!(out, "{}", print::refused(&refusal))?;
+                        refused(&refusal, lent, out)?;
                         status = Status::Findings;
                     }
                     None => {}
@@ -88,7 +99,7 @@ fn resolved(ways: Ways, file: &[u8], out: &mut impl Write) -> Result<Status, Sto
 }
 
 /// All values resolved as it was asked for. Damaged pieces count as blanks.
-fn values(ways: Ways, file: &[u8], rows: &Rows) -> Result<ResolvedFile, Refusal> {
+fn values(ways: &Ways, lent: &Lent, file: &[u8], rows: &Rows) -> Result<ResolvedFile, Refusal> {
     let flags = flags(ways.verbatim, file, rows)?;
     let sound = without_damage(file, rows)?;
     let months = if ways.english {
@@ -96,7 +107,7 @@ fn values(ways: Ways, file: &[u8], rows: &Rows) -> Result<ResolvedFile, Refusal>
     } else {
         &[]
     };
-    bib::resolve_file_within(ways.limit.0, &sound, rows, &flags, months)
+    bib::resolve_file_lent(ways.limit.0, lent, &sound, rows, &flags, months)
 }
 
 fn flags(verbatim: Verbatim, file: &[u8], rows: &Rows) -> Result<Vec<bool>, Refusal> {
@@ -136,13 +147,14 @@ fn head(file: &[u8], name: Option<Row>, value: Row, out: &mut impl Write) -> io:
 }
 
 /// What the value is resolved to: its chunks, and how they are written.
-fn chunks(value: ResolvedValue, out: &mut impl Write) -> Result<(), Stop> {
+fn chunks(value: ResolvedValue, lent: &Lent, out: &mut impl Write) -> Result<(), Stop> {
     let ResolvedValue { text, rows, names } = value;
     line("names", &[names as u32], None, &[], out)?;
     let text = text.as_bytes();
     for row in rows.chunks_exact(CHUNK) {
         let part = &text[row[1] as usize..row[2] as usize];
-        line("chunk", &row[..1], Some(part), &row[3..], out)?;
+        head_of_line("chunk", &row[..1], Some(part), out)?;
+        places(&row[3..], lent, out)?;
     }
     let formatted = bib::format_verbatim(text, rows)?;
     line("verbatim", &[], Some(formatted.as_bytes()), &[], out)?;
@@ -153,6 +165,27 @@ fn chunks(value: ResolvedValue, out: &mut impl Write) -> Result<(), Stop> {
     Ok(())
 }
 
+/// Why a value is refused.
+fn refused(refusal: &Refusal, lent: &Lent, out: &mut impl Write) -> io::Result<()> {
+    head_of_line("refused", &[refusal.reason.number()], None, out)?;
+    places(&[refusal.start as u32, refusal.end as u32], lent, out)
+}
+
+/// Places to the end of a line. One in the definitions that a file lends has the number of that before it, the
+/// first being 1.
+fn places(all: &[u32], lent: &Lent, out: &mut impl Write) -> io::Result<()> {
+    for place in all {
+        let at = *place as usize;
+        if at < LENT {
+            numbers(&[*place], out)?;
+        } else {
+            let LentPlace { lender, place } = lent.place(at);
+            write!(out, " {}:{place}", lender + 1)?;
+        }
+    }
+    out.write_all(b"\n")
+}
+
 /// A line: a word, numbers, a text in hex behind an `x`, and numbers.
 fn line(
     word: &str,
@@ -161,14 +194,24 @@ fn line(
     behind: &[u32],
     out: &mut impl Write,
 ) -> io::Result<()> {
+    head_of_line(word, before, text, out)?;
+    numbers(behind, out)?;
+    out.write_all(b"\n")
+}
+
+fn head_of_line(
+    word: &str,
+    before: &[u32],
+    text: Option<&[u8]>,
+    out: &mut impl Write,
+) -> io::Result<()> {
     out.write_all(word.as_bytes())?;
     numbers(before, out)?;
     if let Some(text) = text {
         out.write_all(b" x")?;
         hex(text, out)?;
     }
-    numbers(behind, out)?;
-    out.write_all(b"\n")
+    Ok(())
 }
 
 fn numbers(all: &[u32], out: &mut impl Write) -> io::Result<()> {

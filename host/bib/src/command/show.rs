@@ -4,10 +4,11 @@
 use std::ffi::OsString;
 use std::io::{self, Write};
 
-use bib::check::{Code, Explainer, Finding, Level, Lines, Stop};
+use bib::check::{Code, Explainer, Finding, Level, Lines, Places, Stop};
 
-use crate::entries::{opened, Entry, Opened, Places};
+use crate::entries::{opened, Entry, Opened};
 use crate::errors::Errors;
+use crate::lending::Strings;
 use crate::progress::room;
 use crate::report::Report;
 use crate::source::Source;
@@ -26,15 +27,17 @@ pub fn show(
     keys: &[OsString],
     out: &mut impl Write,
 ) -> Result<Status, Trouble> {
+    let strings = Strings::of(&showing.strings)?;
     let file = source.file()?;
     let mut shower = Shower {
         source,
         limit: showing.limit,
-        errors: Errors::of(source, showing.strict),
+        errors: Errors::of(source, &showing.strings, showing.strict),
         report: Report {
             style: Style::of(Color::Auto),
             room: room(&io::stdout()),
             json: false,
+            lenders: &showing.strings,
         },
         wanted: Wanted::of(keys),
         is_first: true,
@@ -42,7 +45,7 @@ pub fn show(
         text: Vec::new(),
         out,
     };
-    let shown = shower.file(&file);
+    let shown = shower.file(&file, &strings);
     shower.errors.left_out();
     shower.errors.flush();
     match shown {
@@ -57,7 +60,7 @@ struct Shower<'a, W> {
     limit: Limit,
     /// What is lost in the file is said on standard error.
     errors: Errors<'a>,
-    report: Report,
+    report: Report<'a>,
     wanted: Wanted<'a>,
     /// Nothing has been shown yet.
     is_first: bool,
@@ -68,14 +71,15 @@ struct Shower<'a, W> {
 }
 
 impl<W: Write> Shower<'_, W> {
-    fn file(&mut self, file: &[u8]) -> Result<(), Stop<io::Error>> {
-        let opened = opened(self.limit, file, |finding, lines| {
+    fn file(&mut self, file: &[u8], strings: &Strings) -> Result<(), Stop<io::Error>> {
+        let name = self.source.to_string();
+        let opened = opened(self.limit, strings, (file, &name), |finding, lines| {
             self.found(finding, lines)
         })?;
         let Some(opened) = opened else {
             return Ok(());
         };
-        let (explainer, places) = (opened.explainer()?, Places::of(file));
+        let (explainer, places) = (opened.explainer()?, opened.places());
         for entry in opened.entries() {
             if self.wanted.takes(entry.key()) {
                 self.entry(&entry, &places, explainer.as_ref())?;
@@ -108,11 +112,11 @@ impl<W: Write> Shower<'_, W> {
         self.out.write_all(&self.text)
     }
 
-    fn entry(
+    fn entry<'o>(
         &mut self,
-        entry: &Entry,
-        places: &Places,
-        explainer: Option<&Explainer>,
+        entry: &Entry<'o>,
+        places: &Places<'o>,
+        explainer: Option<&Explainer<'o>>,
     ) -> Result<(), Stop<io::Error>> {
         self.head(entry).map_err(Stop::Caller)?;
         let names = entry.fields().map(|field| columns(field.name));
@@ -127,8 +131,7 @@ impl<W: Write> Shower<'_, W> {
             }
             self.line("(not resolved)").map_err(Stop::Caller)?;
             if let (Some(explainer), Some(one)) = (explainer, unresolved.next()) {
-                let lines = places.lines()?;
-                let finding = explainer.finding(one, &entry.item, lines);
+                let (finding, lines) = explainer.finding(one, &entry.item, places)?;
                 self.finding(&finding, lines).map_err(Stop::Caller)?;
             }
         }

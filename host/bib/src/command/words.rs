@@ -1,6 +1,7 @@
 //! The words that the command is given.
 
-use std::ffi::OsString;
+use std::ffi::{OsStr, OsString};
+use std::os::unix::ffi::OsStrExt;
 use std::path::PathBuf;
 
 use bib::check::{Lint, LINTS};
@@ -21,7 +22,7 @@ pub enum Work {
     Unpack,
 }
 
-/// How `bib check` is asked.
+/// How `bib check` is asked. As below, `strings` are the files that lend definitions.
 #[derive(Debug, Clone, Default, PartialEq, Eq)]
 pub struct Asked {
     pub levels: Levels,
@@ -33,6 +34,7 @@ pub struct Asked {
     pub quiet: bool,
     pub color: Color,
     pub limit: Limit,
+    pub strings: Vec<Source>,
 }
 
 /// So many bytes the values of a file may come to.
@@ -56,7 +58,7 @@ pub enum Verbatim {
 }
 
 /// How `bib resolve` is asked.
-#[derive(Debug, Clone, Copy, Default, PartialEq, Eq)]
+#[derive(Debug, Clone, Default, PartialEq, Eq)]
 pub struct Ways {
     pub verbatim: Verbatim,
     /// The English months are known.
@@ -64,14 +66,16 @@ pub struct Ways {
     /// The file is read piece by piece.
     pub salvage: bool,
     pub limit: Limit,
+    pub strings: Vec<Source>,
 }
 
 /// How `bib show` is asked.
-#[derive(Debug, Clone, Copy, Default, PartialEq, Eq)]
+#[derive(Debug, Clone, Default, PartialEq, Eq)]
 pub struct Showing {
     /// Warnings make the exit status 1 too.
     pub strict: bool,
     pub limit: Limit,
+    pub strings: Vec<Source>,
 }
 
 /// How `bib write` is asked.
@@ -86,6 +90,7 @@ pub struct Writing {
     /// Warnings make the exit status 1 too.
     pub strict: bool,
     pub limit: Limit,
+    pub strings: Vec<Source>,
 }
 
 /// What is asked for.
@@ -106,7 +111,7 @@ const WORKS: [&str; 8] = [
     "check", "show", "write", "resolve", "rows", "salvage", "pack", "unpack",
 ];
 
-const OPTIONS: [&str; 11] = [
+const OPTIONS: [&str; 12] = [
     "--allow",
     "--deny",
     "--strict",
@@ -117,6 +122,7 @@ const OPTIONS: [&str; 11] = [
     "--quiet",
     "--color",
     "--limit",
+    "--strings",
     "--help",
 ];
 
@@ -161,9 +167,13 @@ fn show(words: impl Iterator<Item = OsString>) -> Result<Words, Trouble> {
         let (name, value) = parts(&option);
         match (name, &value) {
             ("--limit", _) => showing.limit = rest.limit(value)?,
+            ("--strings", _) => showing.strings.push(rest.strings(value)?),
             ("--strict", None) => showing.strict = true,
             ("--help" | "-h", None) => return Ok(Words::Help),
-            _ => return Err(unknown(&option, &["--strict", "--limit", "--help"])),
+            _ => {
+                let known = ["--strict", "--limit", "--strings", "--help"];
+                return Err(unknown(&option, &known));
+            }
         }
     }
     let mut words = rest.files.into_iter();
@@ -178,6 +188,7 @@ fn write(words: impl Iterator<Item = OsString>) -> Result<Words, Trouble> {
         let (name, value) = parts(&option);
         match (name, &value) {
             ("--limit", _) => writing.limit = rest.limit(value)?,
+            ("--strings", _) => writing.strings.push(rest.strings(value)?),
             ("--only", _) => writing.only.extend(rest.keys(value)?),
             ("--output" | "-o", _) => writing.to = Some(rest.path(name, value)?),
             ("--keep", None) => writing.keep = true,
@@ -185,7 +196,13 @@ fn write(words: impl Iterator<Item = OsString>) -> Result<Words, Trouble> {
             ("--help" | "-h", None) => return Ok(Words::Help),
             _ => {
                 let known = [
-                    "--only", "--output", "--keep", "--strict", "--limit", "--help",
+                    "--only",
+                    "--output",
+                    "--keep",
+                    "--strict",
+                    "--limit",
+                    "--strings",
+                    "--help",
                 ];
                 return Err(unknown(&option, &known));
             }
@@ -203,10 +220,18 @@ fn resolve(words: impl Iterator<Item = OsString>) -> Result<Words, Trouble> {
             ("--verbatim", _) => ways.verbatim = rest.verbatim(value)?,
             ("--months", _) => ways.english = rest.months(value)?,
             ("--limit", _) => ways.limit = rest.limit(value)?,
+            ("--strings", _) => ways.strings.push(rest.strings(value)?),
             ("--salvage", None) => ways.salvage = true,
             ("--help" | "-h", None) => return Ok(Words::Help),
             _ => {
-                let known = ["--verbatim", "--months", "--salvage", "--limit", "--help"];
+                let known = [
+                    "--verbatim",
+                    "--months",
+                    "--salvage",
+                    "--limit",
+                    "--strings",
+                    "--help",
+                ];
                 return Err(unknown(&option, &known));
             }
         }
@@ -224,6 +249,7 @@ fn check(words: impl Iterator<Item = OsString>) -> Result<Words, Trouble> {
             ("--deny", _) => asked.levels.denied.extend(rest.lints(name, value)?),
             ("--color", _) => asked.color = rest.color(value)?,
             ("--limit", _) => asked.limit = rest.limit(value)?,
+            ("--strings", _) => asked.strings.push(rest.strings(value)?),
             ("--strict", None) => asked.levels.strict = true,
             ("--all", None) => asked.all = true,
             ("--no-resolve", None) => asked.no_resolve = true,
@@ -251,6 +277,8 @@ struct Rest<I> {
     /// After `--` every word is a file.
     is_over: bool,
     files: Vec<OsString>,
+    /// The last option, byte by byte.
+    option: OsString,
 }
 
 impl<I: Iterator<Item = OsString>> Rest<I> {
@@ -259,6 +287,7 @@ impl<I: Iterator<Item = OsString>> Rest<I> {
             words,
             is_over: false,
             files: Vec::new(),
+            option: OsString::new(),
         }
     }
 
@@ -272,7 +301,8 @@ impl<I: Iterator<Item = OsString>> Rest<I> {
             } else if word == "--" {
                 self.is_over = true;
             } else {
-                return Some(word.to_string_lossy().into_owned());
+                self.option = word;
+                return Some(self.option.to_string_lossy().into_owned());
             }
         }
     }
@@ -332,9 +362,18 @@ impl<I: Iterator<Item = OsString>> Rest<I> {
     /// The name of a file, which need not be UTF-8.
     fn path(&mut self, name: &str, value: Option<String>) -> Result<PathBuf, Trouble> {
         let missing = || Trouble::Words(format!("`{name}` wants a file behind it"));
-        let path = value.map(PathBuf::from);
+        let bytes = self.option.as_bytes();
+        let equals = bytes.iter().position(|byte| *byte == b'=');
+        let behind = equals.map(|equals| OsStr::from_bytes(&bytes[equals + 1..]).into());
+        let path: Option<PathBuf> = behind.filter(|_| value.is_some());
         let next = || self.words.next().map(PathBuf::from);
         path.or_else(next).ok_or_else(missing)
+    }
+
+    /// A file that lends definitions.
+    fn strings(&mut self, value: Option<String>) -> Result<Source, Trouble> {
+        let path = self.path("--strings", value)?;
+        Ok(Source::of(path.into_os_string()))
     }
 
     /// Keys, with commas between them: no key has one.

@@ -6,12 +6,13 @@ use std::fs::{self, File};
 use std::io::{self, BufWriter, Write};
 use std::path::Path;
 
-use bib::check::{key_name, Explainer, Level, Stop};
+use bib::check::{key_name, Explainer, Level, Places, Stop};
 use bib::{is_verbatim_field, Refusal, ResolvedValue};
 
 use crate::back::{Back, Changed};
-use crate::entries::{opened, Entry, Field, Places};
+use crate::entries::{opened, Entry, Field};
 use crate::errors::Errors;
+use crate::lending::Strings;
 use crate::resolve::CHUNK;
 use crate::source::{plain, Source};
 use crate::tally::Tally;
@@ -23,12 +24,14 @@ use crate::{say, shown, Status, Trouble, BUFFER};
 const FORMULA: u32 = 2;
 
 pub fn write(how: &Writing, source: &Source, out: &mut impl Write) -> Result<Status, Trouble> {
+    let strings = Strings::of(&how.strings)?;
     let file = source.file()?;
     match &how.to {
-        None => written(&file, how, source, out),
+        None => written(&file, how, &strings, source, out),
         Some(path) => {
-            let mut out = BufWriter::with_capacity(BUFFER, output(path, source)?);
-            let written = written(&file, how, source, &mut out);
+            let read = [source].into_iter().chain(strings.sources);
+            let mut out = BufWriter::with_capacity(BUFFER, output(path, read)?);
+            let written = written(&file, how, &strings, source, &mut out);
             written.map_err(|trouble| match trouble {
                 Trouble::Output(error) => cannot_write(path, &error),
                 other => other,
@@ -37,9 +40,12 @@ pub fn write(how: &Writing, source: &Source, out: &mut impl Write) -> Result<Sta
     }
 }
 
-/// The file that is to be written. It is not the one that is read: what is left out of it would be lost.
-fn output(path: &Path, source: &Source) -> Result<File, Trouble> {
-    if let Source::Named(read) = source {
+/// The file that is to be written. It is none of those that are read: what is left out of it would be lost.
+fn output<'a>(path: &Path, read: impl Iterator<Item = &'a Source>) -> Result<File, Trouble> {
+    for source in read {
+        let Source::Named(read) = source else {
+            continue;
+        };
         let same = fs::canonicalize(path).ok().zip(fs::canonicalize(read).ok());
         if same.is_some_and(|(one, other)| one == other) {
             let sentence = format!("{source} is the file that is read: write another one");
@@ -57,16 +63,17 @@ fn cannot_write(path: &Path, error: &io::Error) -> Trouble {
 fn written(
     file: &[u8],
     how: &Writing,
+    strings: &Strings,
     source: &Source,
     out: &mut impl Write,
 ) -> Result<Status, Trouble> {
     let mut said = Said {
-        errors: Errors::of(source, how.strict),
+        errors: Errors::of(source, strings.sources, how.strict),
         tally: Tally::default(),
         wanted: Wanted::of(&how.only),
         missing: Vec::new(),
     };
-    let written = entries(file, how, &mut said, out);
+    let written = entries(file, how, strings, &mut said, out);
     if written.is_ok() {
         said.errors.left_out();
         said.errors.line(&said.tally.line());
@@ -95,10 +102,12 @@ struct Said<'a> {
 fn entries(
     file: &[u8],
     how: &Writing,
+    strings: &Strings,
     said: &mut Said,
     out: &mut impl Write,
 ) -> Result<(), Stop<io::Error>> {
-    let opened = opened(how.limit, file, |finding, lines| {
+    let name = said.errors.source.to_string();
+    let opened = opened(how.limit, strings, (file, &name), |finding, lines| {
         let key = finding.key.as_deref().unwrap_or_default();
         if said.wanted.takes_name(key) {
             said.errors.finding(finding, lines);
@@ -115,7 +124,7 @@ fn entries(
     let mut writer = Writer {
         keeps: how.keep,
         explainer: opened.explainer()?,
-        places: Places::of(file),
+        places: opened.places(),
         errors: &mut said.errors,
         tally: &mut said.tally,
         back: Back::new(),
@@ -180,8 +189,7 @@ impl<'a, W: Write> Writer<'a, '_, '_, W> {
             return Ok(());
         };
         for one in entry.unresolved {
-            let lines = self.places.lines()?;
-            let finding = explainer.finding(one, &entry.item, lines);
+            let (finding, lines) = explainer.finding(one, &entry.item, &self.places)?;
             self.errors.finding(&finding, lines);
         }
         Ok(())

@@ -9,5 +9,6 @@ mod resolve;
 mod run;
 mod scripts;
 mod slow;
+mod strings;
 mod terminal;
 mod words;

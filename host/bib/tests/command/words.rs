@@ -114,6 +114,7 @@ fn help() {
         "json",
         "quiet",
         "color",
+        "strings",
     ] {
         assert!(run.text().contains(&format!("\n  --{word}")), "{word}");
     }
