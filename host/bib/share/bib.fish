@@ -31,6 +31,8 @@ complete -c bib -n '__fish_seen_subcommand_from check' -l json -d 'A JSON object
 complete -c bib -n '__fish_seen_subcommand_from check' -s q -l quiet -d 'No output, only the exit status'
 complete -c bib -n '__fish_seen_subcommand_from check' -l color -x -a 'auto always never' -d 'When to use colour'
 complete -c bib -n '__fish_seen_subcommand_from show; and test (count (commandline -opc)) -ge 3' -f -a '(__bib_keys)' -d 'Key'
+complete -c bib -n '__fish_seen_subcommand_from show' -l places -d 'With lines and columns'
+complete -c bib -n '__fish_seen_subcommand_from show' -l json -d 'A JSON object for each entry'
 complete -c bib -n '__fish_seen_subcommand_from write' -l only -x -d 'Writes the entries of these keys'
 complete -c bib -n '__fish_seen_subcommand_from write' -s o -l output -r -d 'Writes into this file'
 complete -c bib -n '__fish_seen_subcommand_from write' -l keep -d 'Writes a field that cannot be resolved as it stands'

@@ -58,6 +58,8 @@ _bib() {
             ':file:_files'
     elif [[ $words[1] == show ]]; then
         _arguments \
+            '--places[with lines and columns]' \
+            '--json[a JSON object for each entry]' \
             '--strict[exit status 1 for warnings too]' \
             '--limit[so many bytes the values of a file come to]:bytes:' \
             '*--strings[lends the definitions of this file]:file:_files' \

@@ -109,6 +109,13 @@ impl Lent {
         self.lenders.len()
     }
 
+    /// The names that are defined, in the order in which they are lent, each with its place from [`LENT`] on.
+    pub fn names(&self) -> impl Iterator<Item = (&[u8], usize)> {
+        let rows = self.rows.iter();
+        let names = rows.filter(|row| row.kind == Kind::DefinitionName);
+        names.map(|row| (&self.text[row.span()], LENT + row.start))
+    }
+
     pub(crate) fn text(&self) -> &[u8] {
         &self.text
     }

@@ -67,6 +67,11 @@ impl<'a> Lines<'a> {
         self.lender
     }
 
+    /// How many there are.
+    pub fn count(&self) -> usize {
+        self.begins.len()
+    }
+
     /// The file that they are of.
     pub fn file(&self) -> &'a [u8] {
         self.file
@@ -112,7 +117,7 @@ impl<'a> Lines<'a> {
         let line = self.at(place);
         let place = place.clamp(line.begin, line.begin + line.text.len());
         let count = if place - line.begin > SHORT {
-            self.count(place) - self.count(line.begin)
+            self.passed(place) - self.passed(line.begin)
         } else {
             characters(&self.file[line.begin..place])
         };
@@ -120,7 +125,7 @@ impl<'a> Lines<'a> {
     }
 
     /// The characters before a place that is not inside one, or is after an earlier one of its line.
-    fn count(&self, place: usize) -> usize {
+    fn passed(&self, place: usize) -> usize {
         let part = place / SHORT;
         // The place may come before the mark of its part, which is not inside a character.
         let is_before = self.marks[part].0 as usize > place;

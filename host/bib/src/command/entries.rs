@@ -4,7 +4,10 @@ use bib::check::{
     check_reading, Explainer, Finding, Item, Items, Lines, Lints, Places, Reading, Stop,
     Unresolved, What,
 };
-use bib::{Kind, Refusal, ResolvedFile, ResolvedValue};
+use std::collections::HashMap;
+use std::ops::Range;
+
+use bib::{Kind, Refusal, ResolvedFile, ResolvedValue, Row};
 
 use crate::lending::Strings;
 use crate::words::Limit;
@@ -61,6 +64,21 @@ impl Opened<'_> {
 
     pub fn places(&self) -> Places<'_> {
         Places::of(self.file, &self.reading)
+    }
+
+    /// The place of each name's definition that counts, which is the last; those of the file come behind lent ones.
+    pub fn definitions(&self) -> Result<HashMap<&[u8], usize>, Refusal> {
+        let own = self.reading.rows.iter();
+        let own = own.filter(|row| row.kind == Kind::DefinitionName);
+        let own = own.map(|row| (&self.file[row.span()], row.start));
+        let lent = self.reading.lending.iter();
+        let lent = lent.flat_map(|lending| lending.lent.names());
+        let mut all = HashMap::new();
+        for (name, place) in lent.chain(own) {
+            all.try_reserve(1)?;
+            all.insert(name, place);
+        }
+        Ok(all)
     }
 }
 
@@ -156,18 +174,35 @@ impl<'a> Entry<'a> {
         })
     }
 
+    /// The parts of a field's value: literals and names.
+    fn parts_of(&self, field: &Field) -> impl Iterator<Item = Row> + 'a {
+        let rows = &self.opened.reading.rows;
+        let parts = (field.row + 1..).map_while(|row| rows.get(row));
+        parts.take_while(|row| matches!(row.kind, Kind::Literal | Kind::Name))
+    }
+
+    /// The names that stand in the value of a field, each with its place.
+    pub fn names_of(&self, field: &Field) -> impl Iterator<Item = (&'a [u8], usize)> {
+        let file = self.opened.file;
+        let names = self.parts_of(field).filter(|row| row.kind == Kind::Name);
+        names.map(|row| (&file[row.span()], row.start))
+    }
+
     /// The value of a field as it stands in the file, without the white space and the comment behind it.
     pub fn source_of(&self, field: &Field) -> &'a [u8] {
+        &self.opened.file[self.span_of(field)]
+    }
+
+    /// Its bytes.
+    pub fn span_of(&self, field: &Field) -> Range<usize> {
         let Opened { file, reading, .. } = self.opened;
         let start = reading.rows.get(field.row).map_or(0, |row| row.start);
-        let parts = (field.row + 1..).map_while(|row| reading.rows.get(row));
-        let parts = parts.take_while(|row| matches!(row.kind, Kind::Literal | Kind::Name));
-        let end = parts.last().map_or(start, |part| {
+        let end = self.parts_of(field).last().map_or(start, |part| {
             // The row of a literal is without its braces or quotation marks; a number has none.
             let before = part.start.checked_sub(1).map(|before| file[before]);
             let is_delimited = part.kind == Kind::Literal && matches!(before, Some(b'{' | b'"'));
             part.end + usize::from(is_delimited)
         });
-        &file[start..end]
+        start..end
     }
 }

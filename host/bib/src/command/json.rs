@@ -1,4 +1,4 @@
-//! Findings as lines of JSON, for other programs.
+//! Lines of JSON, for other programs.
 
 use std::fmt::Write;
 
@@ -39,6 +39,24 @@ impl Object {
         self
     }
 
+    /// What is JSON already.
+    pub fn json(mut self, name: &str, value: &str) -> Self {
+        self.name(name);
+        self.0 += value;
+        self
+    }
+
+    pub fn list(mut self, name: &str, values: impl Iterator<Item = Self>) -> Self {
+        self.name(name);
+        self.0.push('[');
+        for (n, value) in values.enumerate() {
+            let comma = if n > 0 { "," } else { "" };
+            self.0.extend([comma, &value.end()]);
+        }
+        self.0.push(']');
+        self
+    }
+
     /// A text, or null.
     pub fn maybe(mut self, name: &str, value: Option<&str>) -> Self {
         match value {
@@ -51,14 +69,33 @@ impl Object {
         }
     }
 
+    /// The same, for one that is kept.
+    pub fn whole(&self) -> String {
+        [&self.0, "}"].concat()
+    }
+
+    pub fn end(self) -> String {
+        self.0 + "}"
+    }
+
     pub fn line(self) -> String {
-        self.0 + "}\n"
+        self.end() + "\n"
     }
 }
 
 #[cfg(test)]
 mod tests {
     use super::*;
+
+    #[test]
+    fn lists() {
+        let one = || Object::new().number("n", 1);
+        let object = Object::new()
+            .json("j", "null")
+            .list("l", [one(), one()].into_iter());
+        assert_eq!(object.end(), "{\"j\":null,\"l\":[{\"n\":1},{\"n\":1}]}");
+        assert_eq!(Object::new().list("l", [].into_iter()).end(), "{\"l\":[]}");
+    }
 
     #[test]
     fn object() {

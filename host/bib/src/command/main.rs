@@ -16,6 +16,7 @@ mod print;
 mod progress;
 mod report;
 mod resolve;
+mod screen;
 mod show;
 mod shown;
 mod source;

@@ -45,6 +45,9 @@ standard error; there both say which fields and entries are lost in the file, an
 fields are read otherwise once they are written. Its last line there counts the entries that were
 written, changed and left out. Options of the two, where --strict is as above:
 
+  --places              of `bib show`: with the line and column of each entry, field and used name
+  --json                of `bib show`: a JSON object in a line for each entry, with the bytes of its
+                        fields, chunks and names; the page of the manual says what is in it
   --only KEY,..         of `bib write`: writes the entries of these keys
   --output FILE, -o     of `bib write`: writes into this file, and not on standard output
   --keep                of `bib write`: an entry with a field that cannot be resolved is written, with

@@ -38,13 +38,7 @@ impl Report<'_> {
         lines: &Lines,
         out: &mut Vec<u8>,
     ) {
-        let (line, column) = lines.line_and_column(finding.mark);
-        let lender = lines.lender().map(|number| &self.lenders[number]);
-        let spot = Spot {
-            source: lender.unwrap_or(source),
-            line,
-            column,
-        };
+        let spot = self.spot(source, finding, lines);
         self.bare(&spot, finding, level, out);
         if self.json {
             return;
@@ -59,10 +53,32 @@ impl Report<'_> {
         }
     }
 
+    /// A finding as an object of JSON.
+    pub fn object(
+        &self,
+        source: &Source,
+        finding: &Finding,
+        level: Level,
+        lines: &Lines,
+    ) -> Object {
+        json(&self.spot(source, finding, lines), finding, level)
+    }
+
+    /// Where a finding is: in the source, or in a file that lends definitions.
+    fn spot<'s>(&'s self, source: &'s Source, finding: &Finding, lines: &Lines) -> Spot<'s> {
+        let (line, column) = lines.line_and_column(finding.mark);
+        let lender = lines.lender().map(|number| &self.lenders[number]);
+        Spot {
+            source: lender.unwrap_or(source),
+            line,
+            column,
+        }
+    }
+
     /// Puts a finding without its line.
     pub fn bare(&self, spot: &Spot, finding: &Finding, level: Level, out: &mut Vec<u8>) {
         if self.json {
-            out.extend_from_slice(json(spot, finding, level).as_bytes());
+            out.extend_from_slice(json(spot, finding, level).line().as_bytes());
         } else {
             self.headline(spot, finding, level, out);
         }
@@ -118,15 +134,20 @@ fn put_number(number: usize, out: &mut Vec<u8>) {
     out.extend_from_slice(decimal(number as u32, &mut [0; 10]));
 }
 
-fn json(spot: &Spot, finding: &Finding, level: Level) -> String {
-    let name = spot.source.name();
-    let mut object = Object::new().text("file", &String::from_utf8_lossy(name));
-    if std::str::from_utf8(name).is_err() {
-        // By the text alone the file could not be found again.
-        let digits = name.iter().map(|byte| format!("{byte:02x}"));
-        object = object.text("file_hex", &digits.collect::<String>());
+/// An object that begins with the name of a file.
+pub fn of_file(source: &Source) -> Object {
+    let name = source.name();
+    let object = Object::new().text("file", &String::from_utf8_lossy(name));
+    if std::str::from_utf8(name).is_ok() {
+        return object;
     }
-    let object = object
+    // By the text alone the file could not be found again.
+    let digits = name.iter().map(|byte| format!("{byte:02x}"));
+    object.text("file_hex", &digits.collect::<String>())
+}
+
+fn json(spot: &Spot, finding: &Finding, level: Level) -> Object {
+    let object = of_file(spot.source)
         .number("line", spot.line)
         .number("column", spot.column)
         .number("start", finding.start)
@@ -142,5 +163,4 @@ fn json(spot: &Spot, finding: &Finding, level: Level) -> String {
         .text("message", &finding.message)
         .maybe("hint", finding.hint.as_deref())
         .maybe("key", finding.key.as_deref())
-        .line()
 }

@@ -74,6 +74,10 @@ pub struct Ways {
 pub struct Showing {
     /// Warnings make the exit status 1 too.
     pub strict: bool,
+    /// With the line and column of each entry, field and name.
+    pub places: bool,
+    /// As JSON.
+    pub json: bool,
     pub limit: Limit,
     pub strings: Vec<Source>,
 }
@@ -169,9 +173,18 @@ fn show(words: impl Iterator<Item = OsString>) -> Result<Words, Trouble> {
             ("--limit", _) => showing.limit = rest.limit(value)?,
             ("--strings", _) => showing.strings.push(rest.strings(value)?),
             ("--strict", None) => showing.strict = true,
+            ("--places", None) => showing.places = true,
+            ("--json", None) => showing.json = true,
             ("--help" | "-h", None) => return Ok(Words::Help),
             _ => {
-                let known = ["--strict", "--limit", "--strings", "--help"];
+                let known = [
+                    "--places",
+                    "--json",
+                    "--strict",
+                    "--limit",
+                    "--strings",
+                    "--help",
+                ];
                 return Err(unknown(&option, &known));
             }
         }

@@ -5,6 +5,7 @@ mod cut;
 mod entries;
 mod examples;
 mod limits;
+mod places;
 mod resolve;
 mod run;
 mod scripts;
