@@ -23,6 +23,7 @@ mod entries;
 mod errors;
 mod explain;
 mod finding;
+mod guess;
 mod heads;
 mod hints;
 mod items;

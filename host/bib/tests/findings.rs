@@ -634,7 +634,9 @@ fn encodings() {
         .encode_utf16()
         .flat_map(u16::to_le_bytes)
         .collect();
-    assert!(hint(&utf16).ends_with("try `iconv -f UTF-16 -t UTF-8`"));
+    assert!(hint(&utf16).ends_with("try `iconv -f UTF-16LE -t UTF-8`"));
+    let turned: Vec<u8> = utf16.chunks(2).flat_map(|two| [two[1], two[0]]).collect();
+    assert!(hint(&turned).ends_with("try `iconv -f UTF-16BE -t UTF-8`"));
     assert!(hint(&[b"\xff\xfe", &utf16[..]].concat()).ends_with("try `iconv -f UTF-16 -t UTF-8`"));
     // Each of its entries is named.
     let keys = findings(&utf16).into_iter().map(|(_, finding)| finding.key);

@@ -2,6 +2,7 @@
 
 use super::damage::{key_of, reason_of, whose};
 use super::finding::{Code, Finding, Lint};
+use super::guess::{guess, Likely};
 use super::heads::head_at;
 use super::text::key_name;
 use super::trace::{Stage, Trace};
@@ -9,14 +10,21 @@ use super::{Checker, Lines, Stop};
 use crate::{Kind, Reason, Refusal, Row, Rows};
 
 /// An encoding that is guessed from bytes.
-#[derive(Debug, Clone, Copy, PartialEq, Eq)]
 enum Guess {
-    Utf16,
+    /// With the name that `iconv` has for it.
+    Utf16(&'static str),
     Iso2022Jp,
-    /// Single letters that are not ASCII, as in names of the West.
-    Latin,
-    /// Whole words of them.
-    Cyrillic,
+    Other(Letters),
+}
+
+/// What is guessed of text that is not UTF-8.
+struct Letters {
+    /// None, one or two.
+    likely: Vec<Likely>,
+    /// Other text of the file is UTF-8.
+    is_mixed: bool,
+    /// The first place of which two make different characters.
+    differs: Option<usize>,
 }
 
 /// What is known of a file's encoding.
@@ -30,29 +38,29 @@ pub(crate) struct Encoding {
 
 impl Encoding {
     pub fn of(file: &[u8], rows: &Rows) -> Self {
-        let utf16 = is_utf16(file);
+        let utf16 = utf16(file);
         let pairs = rows.iter().zip(rows.iter().skip(1));
         let mut encoding = Self {
-            guess: utf16.then_some(Guess::Utf16),
+            guess: utf16.map(Guess::Utf16),
             pieces: 0,
             first: None,
         };
         for (piece, cause) in pairs.filter(|(piece, _)| piece.kind == Kind::Damage) {
-            if utf16 || is_not_utf8(cause) {
+            if utf16.is_some() || is_not_utf8(cause) {
                 encoding.pieces += 1;
                 encoding.first = encoding.first.or(Some((piece, cause)));
             }
         }
-        if !utf16 && has_escapes(file) {
+        if utf16.is_none() && has_escapes(file) {
             encoding.guess = Some(Guess::Iso2022Jp);
-        } else if !utf16 && encoding.pieces > 0 {
-            encoding.guess = Some(Guess::of_letters(file));
+        } else if utf16.is_none() && encoding.pieces > 0 {
+            encoding.guess = Some(Guess::Other(Letters::of(file, rows)));
         }
         encoding
     }
 
     pub fn is_utf16(&self) -> bool {
-        self.guess == Some(Guess::Utf16)
+        matches!(self.guess, Some(Guess::Utf16(_)))
     }
 
     /// Whether a damaged piece is one that the finding about the encoding speaks of.
@@ -65,11 +73,17 @@ fn is_not_utf8(cause: Row) -> bool {
     cause.detail == Reason::NotUtf8.number()
 }
 
-/// By the byte order mark, or by many zeros.
-fn is_utf16(file: &[u8]) -> bool {
+/// By the byte order mark, or by many zeros: the name that `iconv` has for it. By its name alone it would take a text
+/// without a mark for one of the machine's own order.
+fn utf16(file: &[u8]) -> Option<&'static str> {
+    if file.starts_with(b"\xff\xfe") || file.starts_with(b"\xfe\xff") {
+        return Some("UTF-16");
+    }
     let few = &file[..file.len().min(4096)];
-    let zeros = few.iter().filter(|byte| **byte == 0).count();
-    file.starts_with(b"\xff\xfe") || file.starts_with(b"\xfe\xff") || zeros * 4 > few.len()
+    let zeros = |from: usize| few.iter().skip(from).step_by(2).filter(|byte| **byte == 0);
+    let (even, odd) = (zeros(0).count(), zeros(1).count());
+    let name = if even > odd { "UTF-16BE" } else { "UTF-16LE" };
+    ((even + odd) * 4 > few.len()).then_some(name)
 }
 
 /// Those that switch to Japanese characters.
@@ -78,28 +92,140 @@ fn has_escapes(file: &[u8]) -> bool {
     escapes.any(|three| matches!(&three[1..], b"$B" | b"$@" | b"(J"))
 }
 
-impl Guess {
-    /// By whether bytes that are not ASCII stand mostly beside others.
-    fn of_letters(file: &[u8]) -> Self {
-        let count = |length: usize| {
-            let windows = file.windows(length);
-            windows.filter(|few| !few.iter().any(u8::is_ascii)).count()
+/// So many bytes are looked at: a file may have more of them than it takes to guess.
+const ENOUGH: usize = 1 << 16;
+
+impl Letters {
+    fn of(file: &[u8], rows: &Rows) -> Self {
+        let pieces = || {
+            let pairs = rows.iter().zip(rows.iter().skip(1));
+            pairs.filter(|(_, cause)| cause.kind == Kind::Cause && is_not_utf8(*cause))
         };
-        if count(2) * 2 > count(1) {
-            Self::Cyrillic
-        } else {
-            Self::Latin
+        let (mut text, mut rest, mut place) = (Vec::new(), Vec::new(), 0);
+        for (piece, _) in pieces() {
+            add(&mut rest, &file[place..piece.start]);
+            add(&mut text, &file[piece.span()]);
+            place = piece.end;
+        }
+        add(&mut rest, &file[place..]);
+        let likely = guess(&text);
+        // By chance a few characters of two bytes are UTF-8 too.
+        let double = likely.first().filter(|likely| likely.is_double());
+        let is_mixed = match double {
+            Some(double) => !rest.is_empty() && !double.fits(&rest),
+            None => !rest.is_empty() || is_mostly_utf8(&text),
+        };
+        let likely = match is_mixed {
+            true => guess(&without_utf8(&text)),
+            false => likely,
+        };
+        let differs = match likely.as_slice() {
+            [one, other] => pieces().find_map(|(piece, _)| {
+                let place = one.differs(other, &file[piece.span()])?;
+                Some(piece.start + place)
+            }),
+            _ => None,
+        };
+        Self {
+            likely,
+            is_mixed,
+            differs,
         }
     }
 
-    fn hint(self) -> String {
-        let (perhaps, name) = match self {
-            Self::Utf16 => ("UTF-16", "UTF-16"),
-            Self::Iso2022Jp => ("ISO-2022-JP", "ISO-2022-JP"),
-            Self::Latin => ("Latin-1, Windows-1252 or Windows-1251", "WINDOWS-1252"),
-            Self::Cyrillic => ("Windows-1251, Windows-1252 or Latin-1", "WINDOWS-1251"),
+    /// What can be done, and how the line of this place, or one that two encodings make different, would read.
+    fn hint(&self, lines: &Lines, place: usize) -> String {
+        let shown = self.differs.unwrap_or(place);
+        let line = lines.at(shown);
+        let subject = match line.number == lines.number(place) {
+            true => "it".to_string(),
+            false => format!("line {}", line.number),
         };
-        format!("perhaps it is {perhaps}: try `iconv -f {name} -t UTF-8`")
+        let place = shown.saturating_sub(line.begin);
+        let named = |likely: &Likely| match self.read(likely, line.text, place) {
+            Some(text) => format!("{}, in which {subject} reads `{text}`", likely.label),
+            None => likely.label.to_string(),
+        };
+        let named: Vec<String> = self.likely.iter().map(named).collect();
+        let (perhaps, tried) = (named.join(", or "), self.likely.iter());
+        let tried = tried.map(|likely| format!("`iconv -f {} -t UTF-8`", likely.iconv));
+        let tried = tried.collect::<Vec<_>>().join(" or ");
+        match (self.is_mixed, self.likely.is_empty()) {
+            (true, true) => format!("{REST_IS_UTF8}: write what is damaged here anew"),
+            (true, false) => format!("{REST_IS_UTF8}, so convert this part alone: perhaps it is {perhaps}"),
+            (false, true) => "what encoding it is cannot be guessed; once it is known, `iconv -f NAME -t UTF-8` converts the file".into(),
+            (false, false) => format!("perhaps it is {perhaps}: try {tried}"),
+        }
+    }
+
+    /// The part of a line around a place as it would read, without blanks at its ends.
+    fn read(&self, likely: &Likely, line: &[u8], place: usize) -> Option<String> {
+        let (mut first, mut last) = (place.saturating_sub(AROUND), line.len().min(place + AROUND));
+        let cut = |is_cut: bool| if is_cut { "…" } else { "" };
+        let [before, behind] = [cut(first > 0), cut(last < line.len())];
+        if !self.is_mixed {
+            let text = likely.decoded(&line[first..last])?;
+            return Some([before, text.trim(), behind].concat());
+        }
+        // No character of UTF-8 is cut, and none is decoded.
+        while first < place && line[first] & 0xc0 == 0x80 {
+            first += 1;
+        }
+        while last > place + 1 && !line[last - 1].is_ascii() && !behind.is_empty() {
+            last -= 1;
+        }
+        let mut text = String::new();
+        for chunk in line[first..last].utf8_chunks() {
+            text += chunk.valid();
+            text += &likely.decoded(chunk.invalid())?;
+        }
+        Some([before, text.trim(), behind].concat())
+    }
+}
+
+const REST_IS_UTF8: &str = "other text of the file is UTF-8";
+
+/// Adds a part of a file that is not all ASCII, as far as it is looked at. A mark of UTF-8 counts for nothing.
+fn add(text: &mut Vec<u8>, part: &[u8]) {
+    let part = part.strip_prefix(b"\xef\xbb\xbf").unwrap_or(part);
+    if !part.is_ascii() {
+        let room = ENOUGH.saturating_sub(text.len());
+        text.extend_from_slice(&part[..part.len().min(room)]);
+    }
+}
+
+/// Whether a text has more characters of UTF-8 beyond ASCII than bytes that are not UTF-8.
+fn is_mostly_utf8(text: &[u8]) -> bool {
+    let (mut valid, mut invalid) = (0, 0);
+    for chunk in text.utf8_chunks() {
+        valid += chunk.valid().chars().filter(|c| !c.is_ascii()).count();
+        invalid += chunk.invalid().len();
+    }
+    valid > invalid
+}
+
+/// A text with a blank for each character of UTF-8 beyond ASCII.
+fn without_utf8(text: &[u8]) -> Vec<u8> {
+    let mut rest = Vec::new();
+    for chunk in text.utf8_chunks() {
+        let ascii = |c: char| if c.is_ascii() { c as u8 } else { b' ' };
+        rest.extend(chunk.valid().chars().map(ascii));
+        rest.extend_from_slice(chunk.invalid());
+    }
+    rest
+}
+
+/// So many bytes of a line are shown before the place, and behind it.
+const AROUND: usize = 30;
+
+impl Guess {
+    fn hint(&self, lines: &Lines, place: usize) -> String {
+        let name = match self {
+            Self::Utf16(name) => *name,
+            Self::Iso2022Jp => "ISO-2022-JP",
+            Self::Other(letters) => return letters.hint(lines, place),
+        };
+        format!("perhaps it is {name}: try `iconv -f {name} -t UTF-8`")
     }
 }
 
@@ -107,10 +233,12 @@ impl<E, S: FnMut(&Finding, &Lines) -> Result<(), E>> Checker<'_, S> {
     /// What is said of the encoding before all else: the first piece that it damages, how many others there
     /// are, and a guess.
     pub(crate) fn about_encoding(&mut self) -> Result<(), Stop<E>> {
-        let hint = self.encoding.guess.map(Guess::hint);
         let Some((piece, cause)) = self.encoding.first else {
-            return self.about_escapes(hint);
+            return self.about_escapes();
         };
+        let lines = self.lines()?;
+        let guess = self.encoding.guess.as_ref();
+        let hint = guess.map(|guess| guess.hint(lines, cause.start));
         let (mut finding, _) = self.of_encoding(piece, cause)?;
         match self.encoding.pieces - 1 {
             0 => {}
@@ -158,11 +286,12 @@ impl<E, S: FnMut(&Finding, &Lines) -> Result<(), E>> Checker<'_, S> {
     }
 
     /// Escape sequences are UTF-8, and read for what they are.
-    fn about_escapes(&mut self, hint: Option<String>) -> Result<(), Stop<E>> {
-        if self.encoding.guess != Some(Guess::Iso2022Jp) {
+    fn about_escapes(&mut self) -> Result<(), Stop<E>> {
+        let Some(guess @ Guess::Iso2022Jp) = &self.encoding.guess else {
             return Ok(());
-        }
+        };
         let place = self.file.iter().position(|byte| *byte == 0x1b).unwrap_or(0);
+        let hint = Some(guess.hint(self.lines()?, place));
         let message = "escape sequences of another encoding".to_string();
         let finding = Finding::lint(Lint::Encoding, place, place + 3, message);
         self.say(finding.with_hint(hint))

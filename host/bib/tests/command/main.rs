@@ -2,6 +2,7 @@
 
 mod check;
 mod cut;
+mod encodings;
 mod entries;
 mod examples;
 mod limits;
