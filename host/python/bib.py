@@ -7,24 +7,31 @@
 
 Rows are a sequence whose items are tuples of kind, detail, start and end; start and end are bytes of
 the file. They are kept as numbers, four a row, which `rows.numbers` lends out. What is refused raises
-`Refusal`, with the number and the place; a file that is not bytes raises `TypeError`.
+`Refusal`, with the number and the place; a file that is not bytes raises `TypeError`. What `bib check`
+finds in a file, `check` gives:
 
-The library is looked for in the folder that the variable KNURRAVOE_LIB names; then in `knurravoe`
-beside this file, where pip puts it; then in `lib` beside this file's folder and its parents, where
-host/install puts it; then where the system looks.
+    for finding in bib.check(open("mine.bib", "rb").read()):
+        print(finding.line, finding.level, finding.message, finding.hint)
+
+It is of libbibcheck.so, which is not proved, and all else of libbib.so, which is.
+
+A library is looked for when it is first called: in the folder that the variable KNURRAVOE_LIB names; then
+in `knurravoe` beside this file, where pip puts it; then in `lib` beside this file's folder and its
+parents, where host/install puts it, and in `target/release`, where cargo does; then where the system looks.
 """
 
 import collections.abc
 import ctypes
 import ctypes.util
 import enum
+import functools
 import mmap
 import os
 import pathlib
-from typing import Iterable, NamedTuple, Tuple, Union
+from typing import Iterable, NamedTuple, Optional, Tuple, Union
 
-__all__ = ["Chunk", "ChunkRow", "ChunkRows", "Kind", "MONTHS", "MOST_BYTES", "MOST_LITERAL", "Refusal", "Resolved", "Row", "Rows", "VERBATIM"]
-__all__ += ["format_verbatim", "pack", "read", "resolve_field", "resolve_file", "resolve_literal", "salvage"]
+__all__ = ["Chunk", "ChunkRow", "ChunkRows", "Finding", "Kind", "MONTHS", "MOST_BYTES", "MOST_LITERAL", "Refusal", "Resolved", "Row", "Rows"]
+__all__ += ["VERBATIM", "check", "format_verbatim", "pack", "read", "resolve_field", "resolve_file", "resolve_literal", "salvage"]
 __all__ += ["to_biblatex_string", "unpack"]
 
 # The most bytes that a file may have, and a literal that is resolved; the numbers of a row, the bytes of a packed one, and the
@@ -155,6 +162,24 @@ class Resolved(NamedTuple):
     names: int
 
 
+class Finding(NamedTuple):
+    """What is to be said of a file. An error has the number of its refusal and a warning none; both have a name. Line and
+    column are where a person should look, and start..end the bytes that it is about. Hint and key may be None. Where
+    another file's definition is at fault, lender is its number among the strings, the first being 0."""
+
+    number: Optional[int]
+    name: str
+    level: str
+    line: int
+    column: int
+    start: int
+    end: int
+    key: Optional[str]
+    message: str
+    hint: Optional[str]
+    lender: Optional[int]
+
+
 _WHAT = {
     1: "the file is longer than 16,777,215 bytes",
     2: "bytes that are not UTF-8",
@@ -190,30 +215,36 @@ class Refusal(ValueError):
         self.end = end
 
 
-def _find() -> str:
+@functools.lru_cache(maxsize=None)
+def _library(name: str) -> ctypes.CDLL:
     folders = [pathlib.Path(os.environ["KNURRAVOE_LIB"])] if "KNURRAVOE_LIB" in os.environ else []
     here = pathlib.Path(__file__).resolve().parent
-    folders += [here / "knurravoe"] + [parent / "lib" for parent in here.parents]
+    folders += [here / "knurravoe"] + [parent / folder for parent in here.parents for folder in ("lib", "target/release")]
     for folder in folders:
-        if (folder / "libbib.so").is_file():
-            return str(folder / "libbib.so")
-    found = ctypes.util.find_library("bib")
+        if (folder / f"lib{name}.so").is_file():
+            return ctypes.CDLL(str(folder / f"lib{name}.so"))
+    found = ctypes.util.find_library(name)
     if found is None:
-        raise OSError("libbib.so is not found: host/install installs it, or KNURRAVOE_LIB names its folder")
-    return found
+        raise OSError(f"lib{name}.so is not found: host/install installs it, or KNURRAVOE_LIB names its folder")
+    return ctypes.CDLL(found)
 
 
 _LENT = [ctypes.c_void_p, ctypes.c_size_t]
 
 
 def _function(name: str, given: list, numbers: int = 3):
-    function = getattr(_library, name)
-    function.argtypes = given + _LENT + [ctypes.POINTER(ctypes.c_uint64)] * numbers
-    function.restype = ctypes.c_uint32
-    return function
+    """A function of the proved library, which is looked for when it is first called."""
+
+    @functools.lru_cache(maxsize=None)
+    def found():
+        function = getattr(_library("bib"), name)
+        function.argtypes = given + _LENT + [ctypes.POINTER(ctypes.c_uint64)] * numbers
+        function.restype = ctypes.c_uint32
+        return function
+
+    return lambda *words: found()(*words)
 
 
-_library = ctypes.CDLL(_find())
 _read, _salvage, _pack, _unpack = (_function(name, _LENT) for name in ("bib_read", "bib_salvage", "bib_pack", "bib_unpack"))
 _format_verbatim = _function("bib_format_verbatim", _LENT + _LENT)
 _to_biblatex_string = _function("bib_to_biblatex_string", _LENT + _LENT + [ctypes.c_uint32])
@@ -417,3 +448,71 @@ def _resolved_all(given: tuple, rows: int, values: int, room: int) -> Tuple[Unio
         return Resolved(all_text[start:end], all_chunks[first:last], names)
 
     return tuple(value(answers[i : i + _ANSWER_NUMBERS]) for i in range(0, len(answers), _ANSWER_NUMBERS))
+
+
+class _Found(ctypes.Structure):
+    """A finding as C has it: struct bib_finding of include/bib_check.h."""
+
+    _fields_ = [(name, ctypes.c_uint32) for name in ("number", "level")]
+    _fields_ += [(name, ctypes.c_uint64) for name in ("line", "column", "start", "end", "lender")]
+    _fields_ += [(name, ctypes.c_char_p) for name in ("name", "message", "hint", "key")]
+
+
+class _Lender(ctypes.Structure):
+    _fields_ = [("name", ctypes.c_char_p), ("file", ctypes.c_char_p), ("length", ctypes.c_size_t)]
+
+
+class _Options(ctypes.Structure):
+    _fields_ = [("name", ctypes.c_char_p), ("lenders", ctypes.POINTER(_Lender)), ("lender_count", ctypes.c_size_t)]
+    _fields_ += [("limit", ctypes.c_uint64), ("no_resolve", ctypes.c_uint32)]
+
+
+_SAY = ctypes.CFUNCTYPE(ctypes.c_uint32, ctypes.c_void_p, ctypes.POINTER(_Found))
+_LEVELS = {1: "error", 2: "warning"}
+
+
+def _finding(found: _Found) -> Finding:
+    def text(words: Optional[bytes]) -> Optional[str]:
+        return None if words is None else words.decode()
+
+    return Finding(
+        found.number or None,
+        found.name.decode(),
+        _LEVELS[found.level],
+        found.line,
+        found.column,
+        found.start,
+        found.end,
+        text(found.key),
+        found.message.decode(),
+        text(found.hint),
+        found.lender - 1 if found.lender else None,
+    )
+
+
+def check(
+    file: bytes,
+    strings: Iterable[Tuple[str, bytes]] = (),
+    name: str = "the file",
+    resolve: bool = True,
+    limit: int = 32_000_000,
+) -> Tuple[Finding, ...]:
+    """What `bib check` finds in a file, in its order. The strings are other files, each with its name, that lend their
+    @string definitions; the file's own name is said where one of those is at fault. Without resolve, what only resolving
+    refuses is left out. The values of the file may come to so many bytes as the limit says."""
+    file, lent = _bytes(file), [(lender.encode(), _bytes(text)) for lender, text in strings]
+    lenders = (_Lender * len(lent))(*(_Lender(lender, text, len(text)) for lender, text in lent))
+    options = _Options(name.encode(), lenders, len(lenders), limit, not resolve)
+    found = []
+
+    def say(_, finding) -> int:
+        found.append(_finding(finding.contents))
+        return 0
+
+    call = _library("bibcheck").bib_check
+    call.argtypes = _LENT + [ctypes.POINTER(_Options), _SAY, ctypes.c_void_p, ctypes.c_void_p]
+    call.restype = ctypes.c_uint32
+    status = call(file, len(file), ctypes.byref(options), _SAY(say), None, None)
+    if status != 0:
+        raise Refusal(status, 0, 0)
+    return tuple(found)

@@ -1,7 +1,9 @@
-"""Tests of bib.py: `KNURRAVOE_LIB=FOLDER python3 host/python/test_bib.py`, where FOLDER has libbib.so."""
+"""Tests of bib.py: `KNURRAVOE_LIB=FOLDER python3 host/python/test_bib.py`, where FOLDER has libbib.so and libbibcheck.so."""
 
+import json
 import pathlib
 import re
+import subprocess
 import unittest
 
 import bib
@@ -199,6 +201,58 @@ class Resolving(unittest.TestCase):
         resolved = bib.resolve_file(file, bib.read(file), [False] * 12)
         self.assertEqual([value.names for value in resolved], [2 ** (i + 1) - 2 for i in range(12)])
         self.assertEqual(resolved[11].text, b"xy" * 100 * 2_048)
+
+
+class Checking(unittest.TestCase):
+    def test_findings(self):
+        file = b"@a{k}\n@book{l, year = 1996, year = 1997}\n@c{m, t = acm}\n@d{n,}"
+        found = bib.check(file)
+        self.assertEqual([finding.name for finding in found], ["expected-comma", "duplicate-field", "unknown-name"])
+        self.assertEqual([finding.number for finding in found], [7, None, 12])
+        self.assertEqual([finding.level for finding in found], ["error", "warning", "error"])
+        self.assertEqual([finding.key for finding in found], ["k", "l", "m"])
+        self.assertEqual(found[1][3:7], (2, 23, 28, 32))
+        self.assertEqual(file[found[1].start : found[1].end], b"year")
+        self.assertEqual(found[1].message, "the entry has the field `year` already, at 2:10")
+        self.assertIsNone(found[1].hint)
+        self.assertTrue(found[2].hint.startswith("put a text into braces: {acm}"))
+        self.assertEqual(bib.check(bytearray(b"@a{k,}")), ())
+        self.assertEqual(bib.check(b""), ())
+        self.assertEqual(bib.check(b"@c{m, t = acm}", resolve=False), ())
+        self.assertEqual(bib.check(b"@c{m, t = {0123456789ab}}", limit=10)[0].number, 16)
+
+    def test_any_bytes(self):
+        found = bib.check(b"@a{k\0,t={G\xf6del}}")[0]
+        self.assertEqual((found.number, found.key), (2, "k"))
+        self.assertIn("G\u00f6del", found.hint)
+        self.assertEqual(bib.check(bytes(bib.MOST_BYTES + 1))[0].number, 1)
+
+    def test_strings(self):
+        """Other files lend definitions, and one that is at fault is named by its number."""
+        file, sound = b"@c{m, t = acm}", ("sound.bib", b"@string{acm = {ACM Press}}")
+        self.assertEqual(bib.check(file, strings=[sound]), ())
+        found = bib.check(file, [sound, ("bad.bib", b"\n@string{acm = nope}")], name="mine.bib")
+        self.assertEqual([(one.lender, one.line, one.column) for one in found], [(1, 2, 15)])
+        self.assertEqual(found[0].message, "a name without a definition: `nope`, in `t` of entry m (mine.bib, line 1)")
+        with self.assertRaises(Refusal) as caught:
+            bib.check(file, [("long.bib", bytes(bib.MOST_BYTES + 1))])
+        self.assertEqual(caught.exception.number, 1)
+
+    def test_as_the_command_has_them(self):
+        """What the command prints of the examples, where it was built."""
+        root = pathlib.Path(__file__).resolve().parents[2]
+        command = root / "host/target/release/bib"
+        if not command.is_file():
+            self.skipTest("the command was not built")
+        for path in sorted((root / "examples").glob("*.bib")):
+            run = subprocess.run([command, "check", "--json", path], capture_output=True)
+            want = [json.loads(line) for line in run.stdout.splitlines()]
+            for finding in want:
+                del finding["file"]
+            found = [finding._asdict() for finding in bib.check(path.read_bytes())]
+            for finding in found:
+                self.assertIsNone(finding.pop("lender"))
+            self.assertEqual(found, want, path.name)
 
 
 class Words(unittest.TestCase):
