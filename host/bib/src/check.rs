@@ -243,7 +243,8 @@ impl<'a> Reading<'a> {
         }
     }
 
-    /// A reading of a file that is lent definitions. Refused where both are together longer than a file may be.
+    /// A reading of a file that is lent definitions. Refused where both are together longer than a file
+    /// may be.
     pub fn lent(file: &[u8], lending: Lending<'a>) -> Result<Self, Refusal> {
         lending.lent.fits(file)?;
         Ok(Self {
@@ -269,7 +270,8 @@ impl<'a> Reading<'a> {
     }
 }
 
-/// A file that is too long is not read; it has no line to show. It may be so by the definitions that it is lent.
+/// A file that is too long is not read; it has no line to show. It may be so by the definitions that it
+/// is lent.
 fn too_long<E>(
     file: &[u8],
     mut say: impl FnMut(&Finding, &Lines) -> Result<(), E>,

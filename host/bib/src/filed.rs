@@ -62,8 +62,8 @@ impl ResolvedFile {
         }
     }
 
-    /// Without the first values, which are those of so many lent bytes before the file: its own places are moved
-    /// back, and those in what was lent to [`LENT`](crate::LENT).
+    /// Without the first values, which are those of so many lent bytes before the file: its own places
+    /// are moved back, and those in what was lent to [`LENT`](crate::LENT).
     pub(crate) fn behind(mut self, values: usize, length: u32) -> Self {
         let moved = |place: &mut u32| {
             *place = match place.checked_sub(length) {

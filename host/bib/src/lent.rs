@@ -1,6 +1,6 @@
-//! Definitions that other files lend. In memory they stand before the file that is resolved, as if they had been
-//! written there: the last definition of a name counts, so that the file's own ones win, and the proved library
-//! knows nothing of it. Places are then told as those of the file that has them.
+//! Definitions that other files lend. In memory they stand before the file that is resolved, as if they
+//! had been written there: the last definition of a name counts, so that the file's own ones win, and the
+//! proved library knows nothing of it. Places are then told as those of the file that has them.
 
 use crate::check::{is_damaged_string, Items, Reading, What};
 use crate::row::NUMBERS;

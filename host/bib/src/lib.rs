@@ -186,9 +186,9 @@ pub fn resolve_file_within(
     Ok(resolved)
 }
 
-/// The same, where other files lend definitions: each value is resolved as if these stood before the file, and
-/// the places in them, of refusals and chunks, are those from [`LENT`] on. Refused by 1 where the file and the
-/// definitions are together longer than a file may be.
+/// The same, where other files lend definitions: each value is resolved as if these stood before the
+/// file, and the places in them, of refusals and chunks, are those from [`LENT`] on. Refused by 1 where
+/// the file and the definitions are together longer than a file may be.
 ///
 /// ```
 /// let mut lent = bib::Lent::default();

@@ -1,5 +1,6 @@
-//! What `bib check` finds in a file, for C: include/bib_check.h says what each part is. Unlike libbib.a, which is proved
-//! and allocates nothing, this is Rust that allocates; it stands beside that archive and calls it.
+//! What `bib check` finds in a file, for C: include/bib_check.h says what each part is. Unlike libbib.a,
+//! which is proved and allocates nothing, this is Rust that allocates; it stands beside that archive and
+//! calls it.
 
 use std::ffi::{c_char, c_void, CStr, CString};
 use std::panic::{catch_unwind, AssertUnwindSafe};
@@ -58,8 +59,8 @@ type Say = unsafe extern "C" fn(context: *mut c_void, finding: *const Finding) -
 
 /// # Safety
 ///
-/// As include/bib_check.h says: the pointers are to so much as their lengths say, or null where these are 0; options,
-/// names, `say` and counts may be null.
+/// As include/bib_check.h says: the pointers are to so much as their lengths say, or null where these are
+/// 0; options, names, `say` and counts may be null.
 #[no_mangle]
 pub unsafe extern "C" fn bib_check(
     file: *const u8,
@@ -72,7 +73,8 @@ pub unsafe extern "C" fn bib_check(
     // SAFETY: the caller says so.
     let (file, options) = unsafe { (bytes(file, length), options.as_ref()) };
     let hear = |finding: &Finding| match say {
-        // SAFETY: it is the caller's function, with the caller's context and a finding that lives as long as the call.
+        // SAFETY: it is the caller's function, with the caller's context and a finding that lives as long
+        // as the call.
         Some(say) => unsafe { say(context, finding) },
         None => 0,
     };

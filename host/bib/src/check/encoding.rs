@@ -73,8 +73,8 @@ fn is_not_utf8(cause: Row) -> bool {
     cause.detail == Reason::NotUtf8.number()
 }
 
-/// By the byte order mark, or by many zeros: the name that `iconv` has for it. By its name alone it would take a text
-/// without a mark for one of the machine's own order.
+/// By the byte order mark, or by many zeros: the name that `iconv` has for it. By its name alone it would
+/// take a text without a mark for one of the machine's own order.
 fn utf16(file: &[u8]) -> Option<&'static str> {
     if file.starts_with(b"\xff\xfe") || file.starts_with(b"\xfe\xff") {
         return Some("UTF-16");
@@ -133,7 +133,8 @@ impl Letters {
         }
     }
 
-    /// What can be done, and how the line of this place, or one that two encodings make different, would read.
+    /// What can be done, and how the line of this place, or one that two encodings make different, would
+    /// read.
     fn hint(&self, lines: &Lines, place: usize) -> String {
         let shown = self.differs.unwrap_or(place);
         let line = lines.at(shown);
@@ -152,8 +153,10 @@ impl Letters {
         let tried = tried.collect::<Vec<_>>().join(" or ");
         match (self.is_mixed, self.likely.is_empty()) {
             (true, true) => format!("{REST_IS_UTF8}: write what is damaged here anew"),
-            (true, false) => format!("{REST_IS_UTF8}, so convert this part alone: perhaps it is {perhaps}"),
-            (false, true) => "what encoding it is cannot be guessed; once it is known, `iconv -f NAME -t UTF-8` converts the file".into(),
+            (true, false) => {
+                format!("{REST_IS_UTF8}, so convert this part alone: perhaps it is {perhaps}")
+            }
+            (false, true) => UNKNOWN.into(),
             (false, false) => format!("perhaps it is {perhaps}: try {tried}"),
         }
     }
@@ -183,9 +186,14 @@ impl Letters {
     }
 }
 
+const UNKNOWN: &str =
+    "what encoding it is cannot be guessed; once it is known, `iconv -f NAME -t UTF-8` \
+                       converts the file";
+
 const REST_IS_UTF8: &str = "other text of the file is UTF-8";
 
-/// Adds a part of a file that is not all ASCII, as far as it is looked at. A mark of UTF-8 counts for nothing.
+/// Adds a part of a file that is not all ASCII, as far as it is looked at. A mark of UTF-8 counts for
+/// nothing.
 fn add(text: &mut Vec<u8>, part: &[u8]) {
     let part = part.strip_prefix(b"\xef\xbb\xbf").unwrap_or(part);
     if !part.is_ascii() {

@@ -76,8 +76,8 @@ impl<'a> Explainer<'a> {
         lent.map_or(&self.own, |(ground, _)| ground)
     }
 
-    /// What is said of a value of this item, which cannot be resolved, and the lines of the file that it is said
-    /// of: where a lent definition is at fault, that is the file which lends it.
+    /// What is said of a value of this item, which cannot be resolved, and the lines of the file that it
+    /// is said of: where a lent definition is at fault, that is the file which lends it.
     pub fn finding<'p>(
         &self,
         one: &Unresolved,

@@ -19,7 +19,8 @@ pub(crate) struct Likely {
     table: Option<&'static str>,
 }
 
-/// What a text would be worth, read so: in tenths of what a frequent letter at a likely place is worth half of.
+/// What a text would be worth, read so: in tenths of what a frequent letter at a likely place is worth
+/// half of.
 type Worth = i32;
 
 /// A second encoding is named where it is worth nearly as much as the first.
@@ -64,8 +65,8 @@ impl Likely {
     }
 }
 
-/// The encodings that a text may be in, the likeliest first: none, one or two. Of encodings that make the same of it,
-/// the first is named.
+/// The encodings that a text may be in, the likeliest first: none, one or two. Of encodings that make the
+/// same of it, the first is named.
 pub(crate) fn guess(text: &[u8]) -> Vec<Likely> {
     let singles = SINGLES.iter().filter_map(|single| {
         let worth = single.worth(text)?;

@@ -61,8 +61,8 @@ impl<'a> Lines<'a> {
         })
     }
 
-    /// Of which of the files that lend definitions these are the lines; of none where they are the lines of the
-    /// file itself.
+    /// Of which of the files that lend definitions these are the lines; of none where they are the lines
+    /// of the file itself.
     pub fn lender(&self) -> Option<usize> {
         self.lender
     }

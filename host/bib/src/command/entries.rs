@@ -66,7 +66,8 @@ impl Opened<'_> {
         Places::of(self.file, &self.reading)
     }
 
-    /// The place of each name's definition that counts, which is the last; those of the file come behind lent ones.
+    /// The place of each name's definition that counts, which is the last; those of the file come behind
+    /// lent ones.
     pub fn definitions(&self) -> Result<HashMap<&[u8], usize>, Refusal> {
         let own = self.reading.rows.iter();
         let own = own.filter(|row| row.kind == Kind::DefinitionName);

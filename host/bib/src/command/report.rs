@@ -28,8 +28,8 @@ pub struct Spot<'a> {
 }
 
 impl Report<'_> {
-    /// Puts a finding, with the lines of the file that it is in: the source, or one that lends definitions. A file may have millions: nothing is allocated where
-    /// it is put for people.
+    /// Puts a finding, with the lines of the file that it is in: the source, or one that lends
+    /// definitions. A file may have millions: nothing is allocated where it is put for people.
     pub fn finding(
         &self,
         source: &Source,

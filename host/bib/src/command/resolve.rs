@@ -21,7 +21,7 @@ pub const CHUNK: usize = 5;
 pub fn resolve(ways: &Ways, source: &Source, out: &mut impl Write) -> Result<Status, Trouble> {
     let strings = Strings::of(&ways.strings)?;
     let file = source.file()?;
-    match resolved(ways, &strings, &file, out) {
+    match resolved(ways, &strings.lent, &file, out) {
         Ok(status) => Ok(status),
         Err(Stop::Output(error)) => Err(error.into()),
         Err(Stop::Refused(refusal)) if refusal.reason == Reason::NoRoom => {
@@ -56,13 +56,7 @@ impl From<io::Error> for Stop {
 }
 
 /// Prints every value. One that is refused stops no other, but the exit status says it.
-fn resolved(
-    ways: &Ways,
-    strings: &Strings,
-    file: &[u8],
-    out: &mut impl Write,
-) -> Result<Status, Stop> {
-    let lent = &strings.lent;
+fn resolved(ways: &Ways, lent: &Lent, file: &[u8], out: &mut impl Write) -> Result<Status, Stop> {
     let rows = if ways.salvage {
         bib::salvage(file)?
     } else {
@@ -171,8 +165,8 @@ fn refused(refusal: &Refusal, lent: &Lent, out: &mut impl Write) -> io::Result<(
     places(&[refusal.start as u32, refusal.end as u32], lent, out)
 }
 
-/// Places to the end of a line. One in the definitions that a file lends has the number of that before it, the
-/// first being 1.
+/// Places to the end of a line. One in the definitions that a file lends has the number of that before
+/// it, the first being 1.
 fn places(all: &[u32], lent: &Lent, out: &mut impl Write) -> io::Result<()> {
     for place in all {
         let at = *place as usize;

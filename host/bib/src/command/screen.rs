@@ -1,5 +1,5 @@
-//! `bib show --json`: entries as objects of JSON, with the bytes of all that they are made of, so that a screen can
-//! lead back to the file.
+//! `bib show --json`: entries as objects of JSON, with the bytes of all that they are made of, so that a
+//! screen can lead back to the file.
 
 use std::collections::HashMap;
 
@@ -68,8 +68,8 @@ impl Screen<'_> {
             .json("error", &error))
     }
 
-    /// The chunks of a value. One that is joined of several parts has the start of the first and the end of the
-    /// last.
+    /// The chunks of a value. One that is joined of several parts has the start of the first and the end
+    /// of the last.
     fn chunks(&self, value: ResolvedValue, all: &mut Vec<Object>) -> Result<(), Refusal> {
         for row in value.rows.chunks_exact(CHUNK) {
             let [kind, from, to, start, end] = [0, 1, 2, 3, 4].map(|n| row[n] as usize);

@@ -21,7 +21,8 @@ use crate::width::width;
 use crate::words::Showing;
 use crate::{say, shown, Status, Trouble};
 
-/// Columns behind a line's number that need no more than so many characters, with the colon, stand below each other.
+/// Columns behind a line's number that need no more than so many characters, with the colon, stand below
+/// each other.
 const LONGEST_COLUMN: usize = 3;
 
 /// Names of fields that are wider do not move the texts of the others.
@@ -207,8 +208,8 @@ impl<W: Write> Shower<'_, W> {
         write!(self.out, "{place:<wide$} ").map_err(Stop::Caller)
     }
 
-    /// The names that stand in the value of a field, where places are asked for: each with its own, and with that of
-    /// its definition.
+    /// The names that stand in the value of a field, where places are asked for: each with its own, and
+    /// with that of its definition.
     fn names(
         &mut self,
         entry: &Entry,

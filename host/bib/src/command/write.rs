@@ -115,9 +115,7 @@ fn entries(
         }
         Ok(())
     })?;
-    let Some(opened) = opened else {
-        return Ok(());
-    };
+    let Some(opened) = opened else { return Ok(()) };
     if how.only.is_empty() {
         said.tally.damaged = opened.damaged;
     }
@@ -136,8 +134,8 @@ fn entries(
         }
     }
     writer.read_back()?;
-    let rows = &opened.reading.rows;
-    said.missing = said.wanted.missing(writer.errors.source, file, rows);
+    let (source, rows) = (writer.errors.source, &opened.reading.rows);
+    said.missing = said.wanted.missing(source, file, rows);
     writer.out.flush().map_err(Stop::Caller)
 }
 

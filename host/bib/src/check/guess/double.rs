@@ -1,5 +1,6 @@
-//! Encodings of Chinese, Japanese and Korean, with two bytes for most characters. Which bytes may follow each other, and
-//! which characters are frequent, is enough to tell them apart; to show a text would need tables of all characters.
+//! Encodings of Chinese, Japanese and Korean, with two bytes for most characters. Which bytes may follow
+//! each other, and which characters are frequent, is enough to tell them apart; to show a text would need
+//! tables of all characters.
 
 use super::tables::{CHINESE, JAPANESE, KOREAN, TRADITIONAL};
 use super::{Likely, Worth, LEAST};
@@ -8,7 +9,8 @@ use super::{Likely, Worth, LEAST};
 pub(crate) struct Double {
     label: &'static str,
     iconv: &'static str,
-    /// How many bytes the character has that begins a text, and what it is worth; nothing where none can begin so.
+    /// How many bytes the character has that begins a text, and what it is worth; nothing where none can
+    /// begin so.
     step: fn(&[u8]) -> Option<(usize, Worth)>,
     /// How much rarer it is than the commonest.
     rare: Worth,

@@ -103,8 +103,8 @@ impl Single {
     }
 }
 
-/// What stands around a character: the characters before and behind it, and how many letters that are not ASCII end
-/// with it.
+/// What stands around a character: the characters before and behind it, and how many letters that are not
+/// ASCII end with it.
 struct Around {
     before: char,
     after: char,
