@@ -141,8 +141,16 @@ impl Checking<'_> {
                 .finding(source, finding, level, lines, &mut text);
             page.write(&text)
         };
+        let own = match self.own_strings(source) {
+            Ok(own) => own,
+            Err(what) => {
+                outcome.trouble = Some(what);
+                return Ok(());
+            }
+        };
+        let strings = own.as_ref().unwrap_or(self.strings);
         let name = source.to_string();
-        let reading = self.reading(file, &name);
+        let reading = self.reading(file, strings, &name);
         let checked = check::check_reading(file, &reading, self.asked.levels.lints(), print)?;
         outcome.entries = checked.counts();
         if let Ok(reading) = &reading {
@@ -151,11 +159,29 @@ impl Checking<'_> {
         Ok(())
     }
 
-    fn reading<'s>(&'s self, file: &[u8], name: &'s str) -> Result<Reading<'s>, Refusal> {
+    fn reading<'s>(
+        &self,
+        file: &[u8],
+        strings: &'s Strings,
+        name: &'s str,
+    ) -> Result<Reading<'s>, Refusal> {
         if self.asked.no_resolve {
             Reading::of(file)
         } else {
-            self.strings.resolved(self.asked.limit.0, file, name)
+            strings.resolved(self.asked.limit.0, file, name)
+        }
+    }
+
+    /// The files that lend definitions to one of them: it needs none of its own.
+    fn own_strings(&self, source: &Source) -> Result<Option<Strings<'_>>, String> {
+        let sources = self.strings.sources;
+        if !sources.iter().any(|lender| lender.is_same(source)) {
+            return Ok(None);
+        }
+        match Strings::to(source, sources) {
+            Ok(strings) => Ok(Some(strings)),
+            Err(Trouble::Input(what)) => Err(what),
+            Err(_) => Err(source.beyond_memory("check")),
         }
     }
 

@@ -15,9 +15,20 @@ pub struct Strings<'a> {
 impl<'a> Strings<'a> {
     /// Reads them. One that cannot be read, or is too long, is trouble.
     pub fn of(sources: &'a [Source]) -> Result<Self, Trouble> {
+        Self::lent_to(sources, None)
+    }
+
+    /// The same for a file that may be one of them: to itself it lends nothing.
+    pub fn to(source: &Source, sources: &'a [Source]) -> Result<Self, Trouble> {
+        Self::lent_to(sources, Some(source))
+    }
+
+    fn lent_to(sources: &'a [Source], file: Option<&Source>) -> Result<Self, Trouble> {
         let mut lent = Lent::default();
         for source in sources {
-            let added = lent.add(source.to_string(), source.file()?);
+            let is_file = file.is_some_and(|file| source.is_same(file));
+            let file = if is_file { Vec::new() } else { source.file()? };
+            let added = lent.add(source.to_string(), file);
             added.map_err(|refusal| match refusal.reason {
                 Reason::TooLong => Trouble::Input(format!("{source}: {}", refusal.what())),
                 _ => Trouble::Input(source.beyond_memory("read")),

@@ -19,7 +19,7 @@ use crate::{Status, Trouble};
 pub const CHUNK: usize = 5;
 
 pub fn resolve(ways: &Ways, source: &Source, out: &mut impl Write) -> Result<Status, Trouble> {
-    let strings = Strings::of(&ways.strings)?;
+    let strings = Strings::to(source, &ways.strings)?;
     let file = source.file()?;
     match resolved(ways, &strings.lent, &file, out) {
         Ok(status) => Ok(status),

@@ -34,7 +34,7 @@ pub fn show(
     keys: &[OsString],
     out: &mut impl Write,
 ) -> Result<Status, Trouble> {
-    let strings = Strings::of(&showing.strings)?;
+    let strings = Strings::to(source, &showing.strings)?;
     let file = source.file()?;
     let mut shower = Shower {
         source,

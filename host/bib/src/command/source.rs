@@ -2,7 +2,7 @@
 
 use std::ffi::OsString;
 use std::fmt;
-use std::fs::File;
+use std::fs::{self, File};
 use std::io::{self, Read};
 use std::os::fd::AsFd;
 use std::path::PathBuf;
@@ -29,6 +29,15 @@ impl Source {
         } else {
             Self::Named(word.into())
         }
+    }
+
+    /// Whether both are one and the same file.
+    pub fn is_same(&self, other: &Self) -> bool {
+        let (Self::Named(one), Self::Named(other)) = (self, other) else {
+            return false;
+        };
+        let found = fs::canonicalize(one).ok().zip(fs::canonicalize(other).ok());
+        one == other || found.is_some_and(|(one, other)| one == other)
     }
 
     /// Its name, byte by byte.

@@ -191,6 +191,7 @@ fn show(words: impl Iterator<Item = OsString>) -> Result<Words, Trouble> {
     }
     let mut words = rest.files.into_iter();
     let source = words.next().map_or(Source::Stdin, Source::of);
+    read_once(&showing.strings, [&source])?;
     Ok(Words::Show(showing, source, words.collect()))
 }
 
@@ -221,7 +222,9 @@ fn write(words: impl Iterator<Item = OsString>) -> Result<Words, Trouble> {
             }
         }
     }
-    Ok(Words::Write(writing, rest.source("write")?))
+    let source = rest.source("write")?;
+    read_once(&writing.strings, [&source])?;
+    Ok(Words::Write(writing, source))
 }
 
 fn resolve(words: impl Iterator<Item = OsString>) -> Result<Words, Trouble> {
@@ -249,7 +252,9 @@ fn resolve(words: impl Iterator<Item = OsString>) -> Result<Words, Trouble> {
             }
         }
     }
-    Ok(Words::Resolve(ways, rest.source("resolve")?))
+    let source = rest.source("resolve")?;
+    read_once(&ways.strings, [&source])?;
+    Ok(Words::Resolve(ways, source))
 }
 
 fn check(words: impl Iterator<Item = OsString>) -> Result<Words, Trouble> {
@@ -273,7 +278,22 @@ fn check(words: impl Iterator<Item = OsString>) -> Result<Words, Trouble> {
             _ => return Err(unknown(&option, &OPTIONS)),
         }
     }
-    Ok(Words::Check(asked, rest.sources()))
+    let sources = rest.sources();
+    read_once(&asked.strings, &sources)?;
+    Ok(Words::Check(asked, sources))
+}
+
+/// Standard input cannot lend definitions and be read besides.
+fn read_once<'a>(
+    strings: &'a [Source],
+    sources: impl IntoIterator<Item = &'a Source>,
+) -> Result<(), Trouble> {
+    let is_stdin = |source: &&Source| **source == Source::Stdin;
+    let lent = strings.iter().filter(is_stdin).count();
+    if lent > 0 && lent + sources.into_iter().filter(is_stdin).count() > 1 {
+        return Err(Trouble::Words("standard input is read only once".into()));
+    }
+    Ok(())
 }
 
 /// The name of an option, and what stands behind its "=".

@@ -24,7 +24,7 @@ use crate::{say, shown, Status, Trouble, BUFFER};
 const FORMULA: u32 = 2;
 
 pub fn write(how: &Writing, source: &Source, out: &mut impl Write) -> Result<Status, Trouble> {
-    let strings = Strings::of(&how.strings)?;
+    let strings = Strings::to(source, &how.strings)?;
     let file = source.file()?;
     match &how.to {
         None => written(&file, how, &strings, source, out),

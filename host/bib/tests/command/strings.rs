@@ -198,6 +198,14 @@ fn longest_together() {
     // What is not resolved is lent nothing.
     let words = ["check", "--no-resolve", lent[0], lent[1]];
     bib(&words, &file).is(0, "0 entries sound, 0 errors, 0 warnings\n");
+    // A file lends nothing to itself.
+    file[0] = b'%';
+    let content = [b"@string{a = 1}", &file[..16_777_215 - 14]].concat();
+    let lender = Scratch::new("long-own.bib", &content);
+    for work in ["check", "show", "write", "resolve"] {
+        let run = bib(&[work, "--strings", lender.name(), lender.name()], b"");
+        assert_eq!(run.status, Some(0), "{work}: {}", run.text());
+    }
     file.resize(16_777_216, b'\n');
     let long = Scratch::new("long-lender.bib", &file);
     let name = long.name();
@@ -226,6 +234,18 @@ fn files_that_cannot_be_read_or_written() {
         &format!("bib: {name} is the file that is read: write another one\n"),
     );
     assert_eq!(std::fs::read(name).expect("it is there"), STRINGS);
+}
+
+/// Standard input may lend, or be read.
+#[test]
+fn standard_input() {
+    let refs = Scratch::new("stdin-refs.bib", REFS);
+    bib(&["check", "--strings", "-", refs.name()], STRINGS)
+        .is(0, "1 entry sound, 0 errors, 0 warnings\n");
+    let twice = "bib: standard input is read only once; `bib --help` shows what can be asked\n";
+    for work in ["check", "show", "write", "resolve"] {
+        bib(&[work, "--strings", "-"], STRINGS).says(2, twice);
+    }
 }
 
 /// Names that are not UTF-8 are found, behind the option and behind its "=".
