@@ -16,9 +16,12 @@
 //! assert_eq!(seen, [("1:23".to_string(), message)]);
 //! ```
 
+mod characters;
+mod commas;
 mod cursor;
 mod damage;
 mod encoding;
+mod entities;
 mod entries;
 mod errors;
 mod explain;
@@ -28,8 +31,15 @@ mod heads;
 mod hints;
 mod items;
 mod lines;
+mod lists;
+mod misspelt;
+mod model;
+mod near;
+mod numbers;
+mod odd;
 mod outside;
 mod places;
+mod refs;
 mod text;
 mod trace;
 mod unresolved;
@@ -41,7 +51,9 @@ pub use explain::Explainer;
 pub use finding::{About, Code, Finding, Level, Lint, Lints, LINTS};
 pub use items::{Item, Items, What};
 pub use lines::{Line, Lines};
+pub use near::distance;
 pub use places::Places;
+pub use refs::{other_keys, references, Keys, Reference};
 pub use text::key_name;
 pub use unresolved::{without_damage, Unresolved};
 
@@ -163,8 +175,9 @@ pub fn check_reading<E>(
         rows,
         is_cut: reading.is_cut,
         values: Values::of(file, reading)?,
-        keys: Repeats::in_file(file, rows, Kind::Key)?,
-        names: Repeats::in_file(file, rows, Kind::DefinitionName)?,
+        keys: Repeats::of_keys(file, rows)?,
+        names: Repeats::of_names(file, rows)?,
+        all_keys: OnceCell::new(),
         encoding: Encoding::of(file, rows),
         format: Format::of(file),
         places: Places::of(file, reading),
@@ -308,6 +321,8 @@ pub(crate) struct Checker<'a, S> {
     values: Values<'a>,
     keys: Repeats,
     names: Repeats,
+    /// Made when the first field names a key.
+    all_keys: OnceCell<Keys<'a>>,
     encoding: Encoding,
     /// What else than BibTeX the file looks like; said once.
     format: Option<Format>,

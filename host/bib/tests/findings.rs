@@ -60,7 +60,7 @@ fn lints_of_keys() {
         Lint::DuplicateKey,
         twice,
         "2:7",
-        "@book{k, a = 1}\n@book{K, a = 1}",
+        "@book{k, a = 1}\n@book{l, a = 1}",
     );
     assert_eq!(
         findings(twice.as_bytes())[0].1.message,
@@ -226,6 +226,215 @@ fn lint_of_encoding() {
     );
 }
 
+/// A lint that is said in these words, hint included, and a file where nothing is said.
+#[track_caller]
+fn said(lint: Lint, file: &str, (place, message, hint): (&str, &str, &str), without: &str) {
+    let found = findings(file.as_bytes());
+    let words = |(place, finding): &(String, Finding)| {
+        let hint = finding.hint.clone().unwrap_or_default();
+        (place.clone(), finding.code, finding.message.clone(), hint)
+    };
+    let want = (
+        place.into(),
+        Code::Lint(lint),
+        message.into(),
+        hint.to_string(),
+    );
+    assert_eq!(
+        found.iter().map(words).collect::<Vec<_>>(),
+        [want],
+        "{file}"
+    );
+    assert_eq!(findings(without.as_bytes()), [], "{without}");
+}
+
+#[test]
+fn lints_of_characters() {
+    said(
+        Lint::ReplacementCharacter,
+        "@book{k, title = {Na\u{fffd}ve}}",
+        (
+            "1:21",
+            "the replacement character U+FFFD: a letter was lost when the file was converted",
+            "write the letter that stood here",
+        ),
+        "@book{k, title = {Naïve}}",
+    );
+    said(
+        Lint::Mojibake,
+        "@book{k, title = {Les MisÃ©rables}}",
+        (
+            "1:26",
+            "`Ã©` for `é`: UTF-8 was read as another encoding, and written again",
+            "write `é`",
+        ),
+        "@book{k, title = {Les Misérables, ÃO}}",
+    );
+    said(
+        Lint::HtmlEntity,
+        "@book{k, author = {Ren&eacute; Descartes}}",
+        ("1:23", "`&eacute;` is HTML", "write `é`"),
+        "@book{k, url = {http://a.b/?c=d&e;f=1}, note = {R\\&D; AT\\&T}}",
+    );
+    said(
+        Lint::InvisibleCharacter,
+        "@book{knuth\u{200b}84, title = {T}}",
+        (
+            "1:12",
+            "a zero-width space, U+200B, which is not seen",
+            "take it out: with it, this is another word to whoever cites, sorts or searches",
+        ),
+        "@book{k, title = {A\u{200b}B}, author = {می\u{200c}خواهم}}",
+    );
+    said(
+        Lint::LookAlike,
+        "@book{k, author = {Dоnald E. Knuth}}",
+        (
+            "1:21",
+            "`о` in `Dоnald` is Cyrillic, not Latin",
+            "it only looks like the Latin letter: write `o`",
+        ),
+        "@book{k, author = {Иванов (Ivanov)}, title = {Dоnald}}",
+    );
+}
+
+#[test]
+fn lints_of_names() {
+    said(
+        Lint::KeyCase,
+        "@book{Knuth84, title = {A}}\n@book{knuth84, title = {B}}",
+        (
+            "2:7",
+            "the key knuth84 is Knuth84, at 1:7, in other letters",
+            "to BibTeX, small and large letters are the same: give one of them another key",
+        ),
+        "@book{Knuth84, title = {A}}\n@book{knuth85, title = {B}}",
+    );
+    // The same key twice is said as such, beside one in other letters.
+    let found = lints("@book{A, t = 1}\n@book{a, t = 1}\n@book{a, t = 1}");
+    let want = [
+        (Lint::KeyCase, "2:7".into()),
+        (Lint::DuplicateKey, "3:7".into()),
+    ];
+    assert_eq!(found, want);
+    said(
+        Lint::UnknownType,
+        "@artcle{k, title = {T}}",
+        (
+            "1:2",
+            "the entry type `artcle` is not known",
+            "did you mean `article`?",
+        ),
+        "@mytype{k, title = {T}}\n@ebook{l, title = {T}}",
+    );
+    said(
+        Lint::UnknownField,
+        "@book{k, auhtor = {A}}",
+        (
+            "1:10",
+            "the field `auhtor` is not known",
+            "did you mean `author`?",
+        ),
+        "@book{k, author = {A}, authors = {B}, mood = {C}, fjournal = {D}, note-2 = {E}}",
+    );
+}
+
+#[test]
+fn lint_of_references() {
+    said(
+        Lint::UnknownCrossref,
+        "@inbook{k, title = {T}, crossref = {l}}",
+        (
+            "1:37",
+            "no entry has the key l, which `crossref` names",
+            "if it is in another file, check both together",
+        ),
+        "@inbook{k, crossref = {L}}\n@book{l, title = {T}}",
+    );
+    // Before and behind, in lists, by other names, and empty.
+    assert_eq!(
+        lints("@set{m, ids = {a, b}}\n@x{k, xdata = {m, a,b}, xref = {k}, crossref = {}}"),
+        []
+    );
+    // A damaged entry has its key still.
+    assert_eq!(lints("@x{k, xref = {l}}\n@book{l, title = }"), []);
+    let found = lints("@x{k, xdata = {m, k,n}, xref = a # {b}}");
+    let want = ["1:16", "1:21"].map(|place| (Lint::UnknownCrossref, place.to_string()));
+    assert_eq!(found[..2], want);
+}
+
+#[test]
+fn lints_of_what_cannot_be() {
+    let empty = (
+        "1:20",
+        "the field `author` is empty",
+        "fill it in, or take it out",
+    );
+    said(
+        Lint::EmptyField,
+        "@book{k, author = {}, title = {T}}",
+        empty,
+        "@book{k, author = {}, editor = {E}, title = {{}}, note = {}}",
+    );
+    said(
+        Lint::OddDate,
+        "@book{k, year = {20144}}",
+        ("1:18", "the year 20144 has 5 digits", ""),
+        "@book{k, year = {1998/99}}@book{l, year = {to appear}}@book{m, year = {c. 1650}}",
+    );
+    said(
+        Lint::OddDate,
+        "@book{k, month = 13}",
+        (
+            "1:18",
+            "there is no month 13",
+            "months are 1 to 12, or the names jan to dec without braces",
+        ),
+        "@book{k, month = 12}@book{l, month = jan}@book{m, month = {1/2}}",
+    );
+    said(
+        Lint::OddPages,
+        "@article{k, pages = {1--3, 45-12}}",
+        ("1:28", "the pages 45-12 end before they begin", ""),
+        "@article{k, pages = {123--9}}@article{l, pages = {e12--e10}}@article{m, pages = {xv--xi}}",
+    );
+    said(
+        Lint::NameSeparator,
+        "@book{k, author = {D. E. Knuth, L. Lamport}}",
+        (
+            "1:31",
+            "`,` between two names is taken for a part of one",
+            "write `and` between two names, and braces around one that has such a mark in it",
+        ),
+        "@book{k, author = {Knuth, D. E. and King, Jr., Martin Luther}}",
+    );
+}
+
+/// What is outside is not lost where it was left out on purpose, or is prose.
+#[test]
+fn fields_outside_on_purpose() {
+    for file in [
+        "encoding = \"utf-8\"\n@book{k, a = 1}",
+        "@book{k, a = 1}\n\nUse the type field, e.g.,\ntype = \"Patent\"\n",
+        "@book{k, a = 1}\n% not cited\n  author = {A},\n  title = {T}\n}",
+        "@comment{l,\n  a = {1},\n  b = {2},\n  c = 3}\n@book{k, a = 1}",
+        "%  @booklet{,\n  key = \"\",\n  author = \"\"\n}\n@book{k, a = 1}",
+    ] {
+        assert_eq!(lints(file), [], "{file}");
+    }
+    for (file, place) in [
+        ("@book{k, a = 1}\n\n  author = {A}\n}", "3:3"),
+        ("@book{k, a = 1}, % the first\n  b = 2}", "2:3"),
+        ("@book{k, a = 1},\n% c = 3,\n  b = 2}", "3:3"),
+        (
+            "\u{feff}author = {A},\n title = {T}}\n@book{k, a = 1}",
+            "1:1",
+        ),
+    ] {
+        assert_eq!(lints(file), [(Lint::FieldOutside, place.into())], "{file}");
+    }
+}
+
 /// What `bib check --list` shows of a lint has just that lint.
 #[test]
 fn examples_of_lints() {
@@ -247,7 +456,7 @@ fn hints(file: &str) -> Vec<String> {
 }
 
 /// A hint, a file that it is for, and one like it where it must not appear.
-const HINTS: [(&str, &str, &str); 58] = [
+const HINTS: [(&str, &str, &str); 57] = [
     (
         "the entry has no key: write `@article{KEY,` before its first field",
         "@article{\n  author = {A},\n}",
@@ -440,12 +649,7 @@ const HINTS: [(&str, &str, &str); 58] = [
     (
         "the entry before it may have been closed too early",
         "@book{k, a = 1}, b = 2}",
-        "b = 2\n@book{k, a = 1}",
-    ),
-    (
-        "an @comment ends at its first \"}\"",
-        "@comment{ a = {1},\n b = {2} }\n@book{k,}",
-        "@book{k, a = 1}, b = 2}",
+        "a = {1},\nb = 2\n@book{k, a = 1}",
     ),
     (
         "the last definition counts, for uses before it too",

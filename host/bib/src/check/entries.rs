@@ -5,26 +5,13 @@ use std::ops::Range;
 
 use super::finding::{Finding, Lint};
 use super::items::Item;
+use super::lists::{is_name_list, wrong_names};
+use super::odd::Entry;
+use super::refs::{by_letters, is_alone};
 use super::text::{field_in_value, is_typographic, key_name, quoted, TYPOGRAPHIC};
 use super::{Checker, Stop};
 use crate::memory::push;
 use crate::{Kind, Refusal, Row, Rows};
-
-/// Fields that hold lists of names.
-const NAME_LISTS: [&str; 12] = [
-    "author",
-    "editor",
-    "editora",
-    "editorb",
-    "editorc",
-    "translator",
-    "bookauthor",
-    "annotator",
-    "commentator",
-    "foreword",
-    "afterword",
-    "holder",
-];
 
 /// Rows with the same text as an earlier one: the row, and the first that has it.
 #[derive(Default)]
@@ -52,15 +39,37 @@ impl Repeats {
         Ok(Self { pairs, next: 0 })
     }
 
-    /// The keys or definitions of a file, but empty ones.
-    pub fn in_file(file: &[u8], rows: &Rows, kind: Kind) -> Result<Self, Refusal> {
-        let mut which = Vec::new();
-        for (index, row) in rows.iter().enumerate() {
-            if row.kind == kind && row.start < row.end {
-                push(&mut which, index as u32)?;
+    /// The definitions of a file.
+    pub fn of_names(file: &[u8], rows: &Rows) -> Result<Self, Refusal> {
+        let which = numbers_of(rows, Kind::DefinitionName)?;
+        Self::of(rows, which, |a, b| file[a.span()].cmp(&file[b.span()]))
+    }
+
+    /// The keys of a file. Where an earlier row has the same key only in other letters, that one is the first.
+    pub fn of_keys(file: &[u8], rows: &Rows) -> Result<Self, Refusal> {
+        let key = |index: u32| {
+            let row = rows.get(index as usize).expect("it is a row's number");
+            &file[row.span()]
+        };
+        let mut which = numbers_of(rows, Kind::Key)?;
+        which.sort_unstable_by(|a, b| {
+            let letters = by_letters(key(*a), key(*b));
+            letters.then_with(|| key(*a).cmp(key(*b))).then(a.cmp(b))
+        });
+        let mut pairs = Vec::new();
+        for group in which.chunk_by(|a, b| by_letters(key(*a), key(*b)).is_eq()) {
+            let first = *group.iter().min().expect("a group has one at least");
+            for same in group.chunk_by(|a, b| key(*a) == key(*b)) {
+                if same[0] != first {
+                    push(&mut pairs, (same[0], first))?;
+                }
+                for other in &same[1..] {
+                    push(&mut pairs, (*other, same[0]))?;
+                }
             }
         }
-        Self::of(rows, which, |a, b| file[a.span()].cmp(&file[b.span()]))
+        pairs.sort_unstable();
+        Ok(Self { pairs, next: 0 })
     }
 
     /// The fields of an entry, in small or large letters.
@@ -90,6 +99,17 @@ impl Repeats {
     }
 }
 
+/// The numbers of the rows of this kind, but of empty ones.
+fn numbers_of(rows: &Rows, kind: Kind) -> Result<Vec<u32>, Refusal> {
+    let mut which = Vec::new();
+    for (index, row) in rows.iter().enumerate() {
+        if row.kind == kind && row.start < row.end {
+            push(&mut which, index as u32)?;
+        }
+    }
+    Ok(which)
+}
+
 impl<E, S: FnMut(&Finding, &super::Lines) -> Result<(), E>> Checker<'_, S> {
     /// What is wrong in the rows of an entry; or of one `@string`, which has neither a key nor fields.
     pub(crate) fn rows_of(&mut self, item: &Item) -> Result<(), Stop<E>> {
@@ -98,6 +118,7 @@ impl<E, S: FnMut(&Finding, &super::Lines) -> Result<(), E>> Checker<'_, S> {
         self.last_key = key.map(|row| row.span()).filter(|key| !key.is_empty());
         let name = key.map(|row| key_name(&self.file[row.span()]));
         let mut fields = Repeats::in_entry(self.file, self.rows, item.rows.clone())?;
+        let mut entry = Entry::new(item.rows.clone(), name);
         let mut field = None;
         for index in item.rows.clone() {
             let Some(row) = self.rows.get(index) else {
@@ -116,8 +137,9 @@ impl<E, S: FnMut(&Finding, &super::Lines) -> Result<(), E>> Checker<'_, S> {
                 _ => None,
             };
             if let Some(finding) = finding {
-                self.say(finding.with_key(name.clone()))?;
+                self.say(finding.with_key(entry.key.clone()))?;
             }
+            self.odd(index, row, field, &mut entry)?;
         }
         Ok(())
     }
@@ -147,8 +169,28 @@ impl<E, S: FnMut(&Finding, &super::Lines) -> Result<(), E>> Checker<'_, S> {
             return Ok(Some(finding.with_hint(Some(hint.into()))));
         }
         let first = self.keys.first_of(index);
+        let is_other = |first: usize| {
+            let first = self.rows.get(first);
+            first.is_some_and(|first| self.file[first.span()] != self.file[row.span()])
+        };
+        if let Some(first) = first.filter(|first| is_other(*first)) {
+            return Ok(Some(self.key_in_other_letters(row, first)?));
+        }
         let words = ("the key ", " is that of another entry");
         self.repeated(Lint::DuplicateKey, row, first, words)
+    }
+
+    fn key_in_other_letters(&mut self, row: Row, first: usize) -> Result<Finding, Refusal> {
+        let place = self.place_of(first)?;
+        let other = self.rows.get(first).map(|first| self.shown(first));
+        let message = format!(
+            "the key {} is {}, at {place}, in other letters",
+            self.shown(row),
+            other.unwrap_or_default()
+        );
+        let hint = "to BibTeX, small and large letters are the same: give one of them another key";
+        let finding = Finding::of_row(Lint::KeyCase, row, message);
+        Ok(finding.with_hint(Some(hint.into())))
     }
 
     fn odd_key(&self, row: Row) -> Finding {
@@ -198,34 +240,10 @@ impl<E, S: FnMut(&Finding, &super::Lines) -> Result<(), E>> Checker<'_, S> {
         }
         let is_list = field.is_some_and(|field| is_name_list(&self.file[field.span()]));
         // A value that is joined of parts may have its names in the others.
-        let is_alone =
-            |index: usize| !matches!(self.rows.get(index), Some(row) if is_part(row.kind));
-        if is_list && is_alone(index.wrapping_sub(1)) && is_alone(index + 1) {
-            return self.names(row);
+        if is_list && is_alone(self.rows, index) {
+            return wrong_names(text, row.start);
         }
         None
-    }
-
-    /// What is wrong in a list of names; the first of it is said.
-    fn names(&self, row: Row) -> Option<Finding> {
-        let text = &self.file[row.span()];
-        let finding = |lint, word: Range<usize>, message: &str| {
-            let (start, end) = (row.start + word.start, row.start + word.end);
-            Finding::lint(lint, start, end, message.into())
-        };
-        if let Some((place, message)) = lone_and(text) {
-            return Some(finding(Lint::AndList, place..place + 3, message));
-        }
-        if let Some(word) = et_al(text) {
-            let hint = "write `and others` for names that are left out";
-            let found = finding(Lint::EtAl, word, "`et al.` is taken for a name");
-            return Some(found.with_hint(Some(hint.into())));
-        }
-        let (word, message) = separator(text)?;
-        let hint =
-            "write `and` between two names, and braces around one that has such a mark in it";
-        let found = finding(Lint::NameSeparator, word, message);
-        Some(found.with_hint(Some(hint.into())))
     }
 
     /// A value that was closed too late. The delimiter stands before the literal.
@@ -280,129 +298,5 @@ fn odd_mark(key: &[u8]) -> Option<&'static str> {
         [b'"', ..] | [.., b'"'] => Some("quotation mark"),
         [.., b';'] => Some("semicolon"),
         _ => None,
-    }
-}
-
-fn is_part(kind: Kind) -> bool {
-    matches!(kind, Kind::Literal | Kind::Name)
-}
-
-fn is_name_list(field: &[u8]) -> bool {
-    NAME_LISTS
-        .iter()
-        .any(|name| field.eq_ignore_ascii_case(name.as_bytes()))
-}
-
-/// Where a list of names has an `and` without a name on one of its sides, and what that is.
-fn lone_and(text: &[u8]) -> Option<(usize, &'static str)> {
-    let is_and = |word: &Range<usize>| text[word.clone()].eq_ignore_ascii_case(b"and");
-    let mut before = None;
-    for word in words(text) {
-        match &before {
-            None if is_and(&word) => {
-                return Some((word.start, "the list of names begins with `and`"))
-            }
-            Some(other) if is_and(other) && is_and(&word) => {
-                return Some((word.start, "the list of names has `and` twice in a row"))
-            }
-            _ => before = Some(word),
-        }
-    }
-    let last = before.filter(is_and)?;
-    Some((last.start, "the list of names ends with `and`"))
-}
-
-/// Where a list of names has `et al`, with or without a point, as words of their own.
-fn et_al(text: &[u8]) -> Option<Range<usize>> {
-    let is = |word: &Range<usize>, other: &str| {
-        let word = text[word.clone()]
-            .strip_suffix(b",")
-            .unwrap_or(&text[word.clone()]);
-        word.strip_suffix(b".")
-            .unwrap_or(word)
-            .eq_ignore_ascii_case(other.as_bytes())
-    };
-    let mut before: Option<Range<usize>> = None;
-    for word in words(text) {
-        if let Some(et) = before.filter(|before| is(before, "et") && is(&word, "al")) {
-            return Some(et.start..word.end);
-        }
-        before = Some(word);
-    }
-    None
-}
-
-/// Where a list of names has another mark than `and` between two of them, and what is said of it. A mark
-/// inside braces is a part of a name; that of `&amp;` is none.
-fn separator(text: &[u8]) -> Option<(Range<usize>, &'static str)> {
-    let mut all = words(text).peekable();
-    // Something stands before it and behind it.
-    all.next_if(|word| !text[word.clone()].ends_with(b";"));
-    while let Some(word) = all.next() {
-        let part = &text[word.clone()];
-        all.peek()?;
-        if matches!(part, b"&" | b"\\&") {
-            return Some((word, "`&` between two names is taken for a part of one"));
-        }
-        if part.ends_with(b";") && !part.contains(&b'&') {
-            let mark = word.end - 1..word.end;
-            return Some((mark, "`;` between two names is taken for a part of one"));
-        }
-    }
-    None
-}
-
-/// The words of a value, between the white space that stands outside braces.
-fn words(text: &[u8]) -> impl Iterator<Item = Range<usize>> + '_ {
-    let mut place = 0;
-    std::iter::from_fn(move || {
-        let rest = &text[place..];
-        let start = place + rest.iter().position(|byte| !byte.is_ascii_whitespace())?;
-        let mut depth = 0usize;
-        let is_end = |byte: &u8| {
-            match byte {
-                b'{' => depth += 1,
-                b'}' => depth = depth.saturating_sub(1),
-                _ => {}
-            }
-            byte.is_ascii_whitespace() && depth == 0
-        };
-        let length = text[start..].iter().position(is_end);
-        place = start + length.unwrap_or(text.len() - start);
-        Some(start..place)
-    })
-}
-
-#[cfg(test)]
-mod tests {
-    use super::*;
-
-    #[test]
-    fn other_marks_in_lists() {
-        let at = |text: &str| separator(text.as_bytes()).map(|(word, _)| word.start);
-        assert_eq!(at("A. Author; B. Writer"), Some(9));
-        assert_eq!(at("Author; Writer"), Some(6));
-        assert_eq!(at("A. Author & B. Writer"), Some(10));
-        assert_eq!(at("A \\& B"), Some(2));
-        assert_eq!(at("{A & B} and {C; D}"), None);
-        assert_eq!(at("Ren&eacute; Descartes"), None);
-        assert_eq!(at("A. Author;"), None);
-        assert_eq!(at("& A"), None);
-        let at = |text: &str| et_al(text.as_bytes()).map(|word| word.start);
-        assert_eq!(at("A. Author and et al."), Some(14));
-        assert_eq!(at("A. Author et al"), Some(10));
-        assert_eq!(at("Et Alii and Al Et"), None);
-    }
-
-    #[test]
-    fn lists_of_names() {
-        let at = |text: &str| lone_and(text.as_bytes()).map(|found| found.0);
-        assert_eq!(at("and A. Author"), Some(0));
-        assert_eq!(at("A. Author and"), Some(10));
-        assert_eq!(at("A and  AND B"), Some(7));
-        assert_eq!(at("A and B and others"), None);
-        assert_eq!(at("{and Sons} and {Rock and and Roll}"), None);
-        assert_eq!(at("Anderson and Landand"), None);
-        assert_eq!(at(""), None);
     }
 }

@@ -40,6 +40,18 @@ pub enum Lint {
     TypographicQuotes,
     CutInside,
     Encoding,
+    ReplacementCharacter,
+    Mojibake,
+    HtmlEntity,
+    InvisibleCharacter,
+    LookAlike,
+    KeyCase,
+    UnknownCrossref,
+    UnknownType,
+    UnknownField,
+    EmptyField,
+    OddDate,
+    OddPages,
 }
 
 /// A set of lints.
@@ -87,7 +99,7 @@ pub struct About {
 }
 
 /// All lints, in the order of the enum.
-pub const LINTS: [About; 17] = [
+pub const LINTS: [About; 29] = [
     About {
         lint: Lint::FieldOutside,
         name: "field-outside",
@@ -163,7 +175,7 @@ pub const LINTS: [About; 17] = [
     About {
         lint: Lint::NameSeparator,
         name: "name-separator",
-        meaning: "A list of names has `;` or `&` between two of them, which is taken for a part of one name.",
+        meaning: "A list of names has `;`, `&` or `,` between two of them, which is taken for a part of one name.",
         example: "@book{k, author = {Donald E. Knuth; Leslie Lamport}}",
     },
     About {
@@ -189,6 +201,78 @@ pub const LINTS: [About; 17] = [
         name: "encoding",
         meaning: "The file is read as UTF-8, but has the escape sequences of ISO-2022-JP.",
         example: "@book{k, title = {\u{1b}$B4A;z\u{1b}(B}}",
+    },
+    About {
+        lint: Lint::ReplacementCharacter,
+        name: "replacement-character",
+        meaning: "U+FFFD stands where a program could not read a character when the file was converted.",
+        example: "@book{k, title = {Na\u{fffd}ve}}",
+    },
+    About {
+        lint: Lint::Mojibake,
+        name: "mojibake",
+        meaning: "UTF-8 was read as Latin-1 or Windows-1252 and written again: several characters stand for one.",
+        example: "@book{k, title = {Les MisÃ©rables}}",
+    },
+    About {
+        lint: Lint::HtmlEntity,
+        name: "html-entity",
+        meaning: "A character is written as HTML writes it, which TeX does not understand.",
+        example: "@book{k, publisher = {Simon &amp; Schuster}}",
+    },
+    About {
+        lint: Lint::InvisibleCharacter,
+        name: "invisible-character",
+        meaning: "A key, a name or a list of names has a character that is not seen, so that it is another one than it looks.",
+        example: "@book{knuth\u{200b}84, title = {T}}",
+    },
+    About {
+        lint: Lint::LookAlike,
+        name: "look-alike",
+        meaning: "A word of a key, a name or a list of names has a Cyrillic or Greek letter among Latin ones, which looks like one of them; or a Latin one among the others.",
+        example: "@book{k, author = {Dоnald E. Knuth}}",
+    },
+    About {
+        lint: Lint::KeyCase,
+        name: "key-case",
+        meaning: "Two keys of a file differ in small and large letters alone, which are one key to BibTeX.",
+        example: "@book{Knuth84, title = {A}}\n@book{knuth84, title = {B}}",
+    },
+    About {
+        lint: Lint::UnknownCrossref,
+        name: "unknown-crossref",
+        meaning: "`crossref`, `xref` or `xdata` names a key that no entry of the files given has.",
+        example: "@inbook{k, title = {T}, crossref = {l}}",
+    },
+    About {
+        lint: Lint::UnknownType,
+        name: "unknown-type",
+        meaning: "The type of an entry is not known, but one letter from one that is, or two of its letters are exchanged.",
+        example: "@artcle{k, title = {T}}",
+    },
+    About {
+        lint: Lint::UnknownField,
+        name: "unknown-field",
+        meaning: "The name of a field is not known, but one letter from one that is and that the entry does not have, or two of its letters are exchanged.",
+        example: "@book{k, auhtor = {Donald E. Knuth}}",
+    },
+    About {
+        lint: Lint::EmptyField,
+        name: "empty-field",
+        meaning: "The field `title` is empty, or `author` and no editor, organization or institution stands for it.",
+        example: "@book{k, author = {}, title = {T}}",
+    },
+    About {
+        lint: Lint::OddDate,
+        name: "odd-date",
+        meaning: "A `year` has five digits or more, or a letter that looks like a digit; a `month` or a `date` has a month or a day that there is not.",
+        example: "@book{k, title = {T}, year = {20144}}",
+    },
+    About {
+        lint: Lint::OddPages,
+        name: "odd-pages",
+        meaning: "A range of `pages` ends before it begins, and is not a shortened one such as `123--9`.",
+        example: "@article{k, title = {T}, pages = {45--12}}",
     },
 ];
 

@@ -6,7 +6,7 @@ use std::collections::TryReserveError;
 use crate::memory::push;
 
 /// What some editors put before a text in UTF-8. It is shown nowhere and counted in no column.
-const BYTE_ORDER_MARK: &[u8] = b"\xef\xbb\xbf";
+pub(crate) const BYTE_ORDER_MARK: &[u8] = b"\xef\xbb\xbf";
 
 /// Where the lines of a file begin. A line ends with LF, with CR LF, or with CR alone.
 pub struct Lines<'a> {

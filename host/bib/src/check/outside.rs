@@ -5,6 +5,7 @@ use std::ops::Range;
 use super::encoding::Format;
 use super::finding::{Finding, Lint};
 use super::items::{Item, What};
+use super::lines::BYTE_ORDER_MARK;
 use super::text::{entries_outside, fields_outside, is_conflict, key_name, quoted, Lost, CONFLICT};
 use super::{Checker, Lines, Stop};
 
@@ -12,11 +13,15 @@ impl<E, S: FnMut(&Finding, &Lines) -> Result<(), E>> Checker<'_, S> {
     /// Text that belongs to nothing, behind an item of this kind. Comments in it are left out.
     pub(crate) fn outside(&mut self, item: &Item, before: Option<What>) -> Result<(), Stop<E>> {
         let mut place = item.span.start;
+        if place == 0 && self.file.starts_with(BYTE_ORDER_MARK) {
+            place += BYTE_ORDER_MARK.len();
+        }
+        let mut behind = Behind::of(&self.file[place..item.span.end], before);
         while place < item.span.end {
             let text = &self.file[place..item.span.end];
             let comment = text.iter().position(|byte| *byte == b'%');
             let text = &text[..comment.unwrap_or(text.len())];
-            self.lost(text, place, before)?;
+            self.lost(text, place, &mut behind)?;
             self.conflicts(text, place)?;
             place += text.len();
             let rest = &self.file[place..item.span.end];
@@ -28,10 +33,10 @@ impl<E, S: FnMut(&Finding, &Lines) -> Result<(), E>> Checker<'_, S> {
 
     /// The fields and the entries that are lost in this text. Fields behind the beginning of an entry are
     /// that entry's.
-    fn lost(&mut self, text: &[u8], place: usize, before: Option<What>) -> Result<(), Stop<E>> {
+    fn lost(&mut self, text: &[u8], place: usize, behind: &mut Behind) -> Result<(), Stop<E>> {
         let mut entries = entries_outside(text).peekable();
         let first = entries.peek().map_or(text.len(), |entry| entry.span.start);
-        if let Some(finding) = lost_fields(&text[..first], place, before) {
+        if let Some(finding) = behind.lost_fields(&text[..first], place) {
             let key = self.last_key().filter(|_| self.is_of_entry);
             self.say(finding.with_key(key))?;
         }
@@ -71,7 +76,7 @@ impl<E, S: FnMut(&Finding, &Lines) -> Result<(), E>> Checker<'_, S> {
             .file
             .iter()
             .position(|byte| !byte.is_ascii_whitespace());
-        let Some(first) = first.filter(|_| !self.has_said && self.file != b"\xef\xbb\xbf") else {
+        let Some(first) = first.filter(|_| !self.has_said && self.file != BYTE_ORDER_MARK) else {
             return Ok(());
         };
         let message = "no entries in this file".to_string();
@@ -129,10 +134,56 @@ const VALUE: &str = "put a blank before it, so that damage elsewhere in the file
 /// So many fields are named that are lost with the first.
 const MOST_NAMED: usize = 8;
 
-/// The fields that are lost in this text.
-fn lost_fields(text: &[u8], place: usize, before: Option<What>) -> Option<Finding> {
-    let mut names = fields_outside(text);
-    let first = names.next()?;
+/// What text outside every entry stands behind. Fields in it were lost where they follow at once; prose has
+/// fields too, and so have patterns of entries, which mostly stand behind a comment of their own.
+struct Behind {
+    before: Option<What>,
+    /// Nothing but lost fields came so far.
+    follows: bool,
+    /// A comma stands behind the entry: it was surely to go on.
+    goes_on: bool,
+}
+
+impl Behind {
+    fn of(text: &[u8], before: Option<What>) -> Self {
+        Self {
+            before,
+            // What an `@comment` leaves behind its first brace was to be left out.
+            follows: before != Some(What::Comment),
+            goes_on: before == Some(What::Entry) && text.trim_ascii_start().starts_with(b","),
+        }
+    }
+
+    /// The fields that are lost in this text, which ends with a comment or at the next item.
+    fn lost_fields(&mut self, text: &[u8], place: usize) -> Option<Finding> {
+        let mut names = fields_outside(text).peekable();
+        let first = names.peek().map_or(text.len(), |first| first.start);
+        let is_between = |byte: &u8| byte.is_ascii_whitespace() || matches!(byte, b',' | b'}');
+        self.follows &= text[..first].iter().all(is_between);
+        let found = names
+            .peek()
+            .is_some()
+            .then(|| lost_fields(text, place, names));
+        let found = found.filter(|_| self.follows);
+        // One field alone may be meant for a program, as `encoding = "utf-8"` is for R.
+        let is_entry = self.before == Some(What::Entry);
+        let found = found.filter(|(_, count)| is_entry || *count > 1);
+        let line = text.rsplit(|byte| *byte == b'\n').next().unwrap_or(text);
+        let is_own_line =
+            line.trim_ascii().is_empty() && (line.len() < text.len() || self.before.is_none());
+        self.follows &= found.is_some() || self.goes_on || !is_own_line;
+        let hint = "the entry before it may have been closed too early";
+        found.map(|(finding, _)| finding.with_hint(is_entry.then(|| hint.into())))
+    }
+}
+
+/// What is said of the fields of these names, which are lost in this text, and how many they are.
+fn lost_fields(
+    text: &[u8],
+    place: usize,
+    mut names: impl Iterator<Item = Range<usize>>,
+) -> (Finding, usize) {
+    let first = names.next().unwrap_or(0..0);
     let name = |span: Range<usize>| ["`", &quoted(&text[span]), "`"].concat();
     let mut message = format!(
         "the field {} is outside every entry, and lost",
@@ -148,12 +199,7 @@ fn lost_fields(text: &[u8], place: usize, before: Option<What>) -> Option<Findin
     if more > 0 {
         message += &format!(" and {more} more");
     }
-    let hint = match before {
-        Some(What::Entry) => Some("the entry before it may have been closed too early"),
-        Some(What::Comment) => Some("an @comment ends at its first \"}\""),
-        _ => None,
-    };
     let (start, end) = (place + first.start, place + first.end);
     let finding = Finding::lint(Lint::FieldOutside, start, end, message);
-    Some(finding.with_hint(hint.map(String::from)))
+    (finding, 1 + others.len() + more)
 }

@@ -9,6 +9,7 @@ use bib::check::{
 };
 use bib::{Kind, Reason, Refusal};
 
+use crate::crossrefs::{Crossrefs, Unmet, Waiting};
 use crate::cut::Cut;
 use crate::defined::Defined;
 use crate::folder;
@@ -54,9 +55,11 @@ pub fn check(asked: &Asked, sources: Vec<Source>) -> Result<Status, Trouble> {
             ..Tally::default()
         },
         keys: HashMap::new(),
+        unmet: Unmet::default(),
     };
     let mut results = Turns::run(results, sources.len(), |page| checking.file(page))?;
     results.progress.clear();
+    results.unmet()?;
     if results.tally.read > 0 && !asked.json && !asked.quiet {
         writeln!(results.out, "{}", results.tally.summary())?;
     }
@@ -82,12 +85,15 @@ struct Outcome {
     warnings: usize,
     cut: Cut,
     keys: Vec<Key>,
+    crossrefs: Crossrefs,
     /// What kept it from being checked to its end.
     trouble: Option<String>,
 }
 
 /// A key, and where it is.
 struct Key {
+    /// The number of its entry.
+    entry: usize,
     text: Vec<u8>,
     start: usize,
     line: usize,
@@ -151,10 +157,18 @@ impl Checking<'_> {
         let strings = own.as_ref().unwrap_or(self.strings);
         let name = source.to_string();
         let reading = self.reading(file, strings, &name);
-        let checked = check::check_reading(file, &reading, self.asked.levels.lints(), print)?;
+        let mut lints = self.asked.levels.lints();
+        if self.sources.len() > 1 {
+            lints = lints.without(Lint::UnknownCrossref);
+        }
+        let checked = check::check_reading(file, &reading, lints, print)?;
         outcome.entries = checked.counts();
-        if let Ok(reading) = &reading {
+        let reading = reading.as_ref().ok().filter(|_| self.sources.len() > 1);
+        if let Some(reading) = reading {
             outcome.keys = self.keys(file, reading, &checked)?;
+            if self.asked.levels.of_lint(Lint::UnknownCrossref).is_some() {
+                outcome.crossrefs = Crossrefs::of(file, &reading.rows, &checked)?;
+            }
         }
         Ok(())
     }
@@ -208,19 +222,24 @@ impl Checking<'_> {
         checked: &Checked,
     ) -> Result<Vec<Key>, Stop<Failed>> {
         let mut keys = Vec::new();
-        if self.sources.len() < 2 || self.asked.levels.of_lint(Lint::KeyInTwoFiles).is_none() {
+        let lints = [Lint::KeyInTwoFiles, Lint::UnknownCrossref];
+        if lints
+            .iter()
+            .all(|lint| self.asked.levels.of_lint(*lint).is_none())
+        {
             return Ok(keys);
         }
         let lines = Lines::of(file)?;
         let all = reading.rows.iter().filter(|row| row.kind == Kind::Key);
-        let all = all.zip(&checked.standings);
-        for (key, standing) in all.filter(|(key, _)| key.start < key.end) {
+        let all = all.zip(&checked.standings).enumerate();
+        for (entry, (key, standing)) in all.filter(|(_, (key, _))| key.start < key.end) {
             let (line, column) = lines.line_and_column(key.start);
             let mut text = Vec::new();
             text.try_reserve_exact(key.end - key.start)?;
             text.extend_from_slice(&file[key.span()]);
             keys.try_reserve(1)?;
             keys.push(Key {
+                entry,
                 text,
                 start: key.start,
                 line,
@@ -258,6 +277,7 @@ struct Results<'a> {
     tally: Tally,
     /// Where a key was seen first: the file's number, line and column.
     keys: HashMap<Vec<u8>, (usize, usize, usize)>,
+    unmet: Unmet,
 }
 
 impl Sink for Results<'_> {
@@ -279,9 +299,16 @@ impl Sink for Results<'_> {
 
     fn end(&mut self, index: usize, mut outcome: Outcome) -> io::Result<()> {
         let keys = std::mem::take(&mut outcome.keys);
+        let mut warned = Vec::new();
         for key in keys {
-            self.key(index, key, &mut outcome)?;
+            let entry = key.entry;
+            if self.key(index, key, &mut outcome)? {
+                warned.push(entry);
+            }
         }
+        let crossrefs = std::mem::take(&mut outcome.crossrefs);
+        let is_found = outcome.errors + outcome.warnings > 0;
+        self.unmet.add(index, is_found, crossrefs, &warned);
         let Checking {
             report, sources, ..
         } = self.checking;
@@ -301,8 +328,8 @@ impl Sink for Results<'_> {
 }
 
 impl Results<'_> {
-    /// A key that another file has too is a finding.
-    fn key(&mut self, index: usize, key: Key, outcome: &mut Outcome) -> io::Result<()> {
+    /// A key that another file has too is a finding. Says whether it is one.
+    fn key(&mut self, index: usize, key: Key, outcome: &mut Outcome) -> io::Result<bool> {
         let Checking {
             asked,
             report,
@@ -312,13 +339,13 @@ impl Results<'_> {
         if self.keys.try_reserve(1).is_err() {
             let what = sources[index].beyond_memory("compare the keys of");
             outcome.trouble = Some(what);
-            return Ok(());
+            return Ok(false);
         }
         let place = (index, key.line, key.column);
         let first = *self.keys.entry(key.text.clone()).or_insert(place);
         let level = asked.levels.of_lint(Lint::KeyInTwoFiles);
         let Some(level) = level.filter(|_| first.0 != index) else {
-            return Ok(());
+            return Ok(false);
         };
         let other = format!("{}:{}:{}", sources[first.0], first.1, first.2);
         let finding = key.finding(&other);
@@ -326,17 +353,62 @@ impl Results<'_> {
             outcome.entries.sound -= 1;
             outcome.entries.warned += 1;
         }
-        if !outcome.shows(&finding, level, asked) {
-            return Ok(());
+        if outcome.shows(&finding, level, asked) {
+            let spot = Spot {
+                source: &sources[index],
+                line: key.line,
+                column: key.column,
+            };
+            let mut text = Vec::new();
+            report.bare(&spot, &finding, level, &mut text);
+            self.out.write_all(&text)?;
         }
-        let spot = Spot {
-            source: &sources[index],
-            line: key.line,
-            column: key.column,
+        Ok(true)
+    }
+
+    /// Says which keys that fields name are in none of the files.
+    fn unmet(&mut self) -> io::Result<()> {
+        let unmet = std::mem::take(&mut self.unmet);
+        for waiting in unmet.without(self.keys.keys()) {
+            self.unmet_of(waiting)?;
+        }
+        Ok(())
+    }
+
+    fn unmet_of(&mut self, waiting: Waiting) -> io::Result<()> {
+        let Checking {
+            asked,
+            report,
+            sources,
+        } = self.checking;
+        let Some(level) = asked.levels.of_lint(Lint::UnknownCrossref) else {
+            return Ok(());
         };
-        let mut text = Vec::new();
-        report.bare(&spot, &finding, level, &mut text);
-        self.out.write_all(&text)
+        let source = &sources[waiting.index];
+        let mut outcome = Outcome::default();
+        let mut last = None;
+        for named in &waiting.named {
+            // An entry may name several.
+            let is_new = last.replace(named.entry) != Some(named.entry);
+            outcome.entries.warned += usize::from(named.is_sound && is_new);
+            if outcome.shows(&named.finding, level, asked) {
+                let (line, column) = (named.line, named.column);
+                let spot = Spot {
+                    source,
+                    line,
+                    column,
+                };
+                let mut text = Vec::new();
+                report.bare(&spot, &named.finding, level, &mut text);
+                self.out.write_all(&text)?;
+            }
+        }
+        for cut in outcome.cut.left_out() {
+            let text = report.left_out(source, cut, "--all");
+            self.out.write_all(text.as_bytes())?;
+        }
+        self.tally.unmet(&outcome, waiting.is_found);
+        Ok(())
     }
 }
 
@@ -379,6 +451,16 @@ impl Tally {
         self.errors += outcome.errors;
         self.warnings += outcome.warnings;
         self.found += usize::from(outcome.errors + outcome.warnings > 0);
+    }
+
+    /// What was found of a file at last, of which something was said before or not.
+    fn unmet(&mut self, outcome: &Outcome, is_found: bool) {
+        self.entries.sound -= outcome.entries.warned;
+        self.entries.warned += outcome.entries.warned;
+        self.errors += outcome.errors;
+        self.warnings += outcome.warnings;
+        let count = outcome.errors + outcome.warnings;
+        self.found += usize::from(!is_found && count > 0);
     }
 
     fn status(&self, levels: &Levels) -> Status {

@@ -2,6 +2,7 @@
 
 mod back;
 mod check;
+mod crossrefs;
 mod cut;
 mod defined;
 mod entries;

@@ -1,6 +1,7 @@
 //! The command, run as people and scripts run it.
 
 mod check;
+mod crossrefs;
 mod cut;
 mod encodings;
 mod entries;

@@ -6,9 +6,13 @@ const LONGEST: usize = 16_777_215;
 
 /// The processor's seconds that a check of this file takes, of so many bytes.
 fn seconds(part: &str, bytes: usize) -> f64 {
-    let name = format!("slow-{bytes}.bib");
     let text: Vec<u8> = part.bytes().cycle().take(bytes).collect();
-    let file = Scratch::new(name, &text);
+    seconds_of(&format!("slow-{bytes}.bib"), &text)
+}
+
+/// The processor's seconds that a check of this file takes.
+fn seconds_of(name: &str, text: &[u8]) -> f64 {
+    let file = Scratch::new(name, text);
     let line = format!(
         "TIMEFORMAT='%U %S'; time $BIB check {} > /dev/null",
         file.name()
@@ -36,6 +40,17 @@ fn lints_in_proportion() {
         "=",
         "\n @a{k,t={",
         "}@a{k,",
+        "&",
+        "&amp;",
+        ",",
+        ";",
+        "Ã©",
+        "\u{fffd}",
+        "@a{k,author={&amp;Ã©а, b, c, d \u{200b}}}\n",
+        "@a{k,t=\"&amp;\",auhtor={a,b,c,d},year=20144,pages={9-1},}\n",
+        "@artcle{K,a=1}@artcle{k,a=1}",
+        "@a{k,author={a,b,c,d},xdata={a,b,c,d,e,f},crossref=l}\n",
+        "@a{k,publishet=1,publihser=1,pubisher=1,organisation=1,}",
     ];
     for part in parts {
         let (half, whole) = (seconds(part, LONGEST / 2), seconds(part, LONGEST));
@@ -43,6 +58,49 @@ fn lints_in_proportion() {
         assert!(
             whole < 3.0 * half + 0.5,
             "{part:?} takes {half} s, and twice as much of it {whole} s"
+        );
+    }
+}
+
+/// Keys and names of fields that all differ, in case alone or in a letter, and as many references.
+#[test]
+fn names_in_proportion() {
+    let keys = |n: usize| {
+        let letters = format!("{n:024b}");
+        format!("@a{{{},}}", letters.replace('0', "k").replace('1', "K"))
+    };
+    let fields = |n: usize| {
+        let mut name = *b"publisher";
+        for (place, letter) in name.iter_mut().enumerate() {
+            *letter += ((n >> (2 * place)) % 3) as u8;
+        }
+        let name = String::from_utf8_lossy(&name).into_owned();
+        format!("{}@a{{k,{name}=1,", if n > 0 { "}" } else { "" })
+    };
+    let references = |n: usize| format!("@a{{k{n},xdata={{z{n},k{}}}}}", n / 2);
+    for (what, part) in [
+        ("keys", &keys as &dyn Fn(usize) -> String),
+        ("fields", &fields),
+        ("references", &references),
+    ] {
+        let text = |bytes: usize| {
+            let mut text = String::new();
+            for part in (0..).map(part) {
+                if text.len() + part.len() >= bytes {
+                    break;
+                }
+                text += &part;
+            }
+            text
+        };
+        let [half, whole] = [LONGEST / 2, LONGEST].map(|bytes| {
+            let name = format!("slow-{what}-{bytes}.bib");
+            seconds_of(&name, text(bytes).as_bytes())
+        });
+        assert!(whole < 5.0, "{what} take {whole} s");
+        assert!(
+            whole < 3.0 * half + 0.5,
+            "{what} take {half} s, and twice as many {whole} s"
         );
     }
 }
