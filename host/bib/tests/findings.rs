@@ -273,7 +273,11 @@ fn lints_of_characters() {
     said(
         Lint::HtmlEntity,
         "@book{k, author = {Ren&eacute; Descartes}}",
-        ("1:23", "`&eacute;` is HTML", "write `é`"),
+        (
+            "1:23",
+            "`&eacute;` is a character as HTML writes it",
+            "write `é`",
+        ),
         "@book{k, url = {http://a.b/?c=d&e;f=1}, note = {R\\&D; AT\\&T}}",
     );
     said(
@@ -305,8 +309,8 @@ fn lints_of_names() {
         "@book{Knuth84, title = {A}}\n@book{knuth84, title = {B}}",
         (
             "2:7",
-            "the key knuth84 is Knuth84, at 1:7, in other letters",
-            "to BibTeX, small and large letters are the same: give one of them another key",
+            "the key knuth84 differs from Knuth84, at 1:7, in small and large letters alone",
+            "to BibTeX they are the same: give one of them another key",
         ),
         "@book{Knuth84, title = {A}}\n@book{knuth85, title = {B}}",
     );
@@ -379,7 +383,11 @@ fn lints_of_what_cannot_be() {
     said(
         Lint::OddDate,
         "@book{k, year = {20144}}",
-        ("1:18", "the year 20144 has 5 digits", ""),
+        (
+            "1:18",
+            "the year 20144 has 5 digits",
+            "a year has four digits",
+        ),
         "@book{k, year = {1998/99}}@book{l, year = {to appear}}@book{m, year = {c. 1650}}",
     );
     said(
@@ -395,7 +403,11 @@ fn lints_of_what_cannot_be() {
     said(
         Lint::OddPages,
         "@article{k, pages = {1--3, 45-12}}",
-        ("1:28", "the pages 45-12 end before they begin", ""),
+        (
+            "1:28",
+            "the pages 45-12 end before they begin",
+            "write the smaller number first",
+        ),
         "@article{k, pages = {123--9}}@article{l, pages = {e12--e10}}@article{m, pages = {xv--xi}}",
     );
     said(

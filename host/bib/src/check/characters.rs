@@ -66,13 +66,17 @@ fn is_joining(c: char) -> bool {
 
 /// The first letter that looks like one of another script, which the letters beside it are of.
 pub(crate) fn look_alike(text: &str, place: usize) -> Option<Finding> {
-    let (at, c, twin, word) = words(text).find_map(|word| strange(text, word))?;
-    let (own, other) = if c.is_ascii() {
-        ("Latin", script(twin))
-    } else {
-        (script(c), "Latin")
+    let found = words(text).find_map(|word| strange(text, word));
+    let (at, c, twin, word) = found.or_else(|| strange_initial(text))?;
+    let (own, other) = match c.is_ascii() {
+        true => ("Latin", script(twin)),
+        false => (script(c), "Latin"),
     };
-    let message = format!("`{c}` in `{}` is {own}, not {other}", &text[word]);
+    let word = match word.len() > c.len_utf8() {
+        true => format!(" in `{}`", &text[word]),
+        false => String::new(),
+    };
+    let message = format!("`{c}`{word} is {own}, not {other}");
     let hint = match c.is_ascii() {
         true => format!("write the {other} letter that it looks like"),
         false => format!("it only looks like the {other} letter: write `{twin}`"),
@@ -80,6 +84,27 @@ pub(crate) fn look_alike(text: &str, place: usize) -> Option<Finding> {
     let start = place + at;
     let finding = Finding::lint(Lint::LookAlike, start, start + c.len_utf8(), message);
     Some(finding.with_hint(Some(hint)))
+}
+
+/// A word of one letter of another script, where all longer ones are Latin.
+fn strange_initial(text: &str) -> Option<(usize, char, char, Range<usize>)> {
+    let mut found = None;
+    let mut has_latin = false;
+    for word in words(text) {
+        let letters = &text[word.clone()];
+        let c = letters.chars().next()?;
+        if letters.chars().all(is_latin) {
+            has_latin = true;
+        } else {
+            let twin = latin_twin(c).filter(|_| letters.len() == c.len_utf8())?;
+            found = found.or(Some((word.start, c, twin, word)));
+        }
+    }
+    found.filter(|_| has_latin)
+}
+
+fn is_latin(c: char) -> bool {
+    matches!(c, '\0'..='\u{24f}' | '\u{1e00}'..='\u{1eff}')
 }
 
 fn script(c: char) -> &'static str {
@@ -108,7 +133,6 @@ fn strange(text: &str, word: Range<usize>) -> Option<(usize, char, char, Range<u
     if letters.is_ascii() {
         return None;
     }
-    let is_latin = |c: char| matches!(c, '\0'..='\u{24f}' | '\u{1e00}'..='\u{1eff}');
     let is_twin = |c: char| matches!(c, '\u{370}'..='\u{52f}');
     if !letters.chars().all(|c| is_latin(c) || is_twin(c)) {
         return None;
@@ -273,7 +297,8 @@ pub(crate) fn entity(text: &[u8], place: usize) -> Option<Finding> {
             continue;
         };
         let end = from + length + 1;
-        let message = format!("`{}` is HTML", String::from_utf8_lossy(&text[at..end]));
+        let wrong = String::from_utf8_lossy(&text[at..end]);
+        let message = format!("`{wrong}` is a character as HTML writes it");
         let hint = match meant {
             '&' => "write `\\&`; in a URL, `&`".to_string(),
             '\u{a0}' => "write `~`".to_string(),
@@ -349,11 +374,14 @@ mod tests {
             ("Иванoв", "o"),
             ("Knuth and Lamроrt", "р"),
             ("Μicro", "Μ"),
+            ("А. Knuth", "А"),
         ] {
             assert_eq!(found(look_alike, text), Some(wrong), "{text}");
         }
         for text in [
             "Ivanov (Иванов)",
+            "А. Иванов and D. Knuth",
+            "α. Knuth",
             "Иванов",
             "ΛCDM",
             "νMSM",

@@ -184,11 +184,11 @@ impl<E, S: FnMut(&Finding, &super::Lines) -> Result<(), E>> Checker<'_, S> {
         let place = self.place_of(first)?;
         let other = self.rows.get(first).map(|first| self.shown(first));
         let message = format!(
-            "the key {} is {}, at {place}, in other letters",
+            "the key {} differs from {}, at {place}, in small and large letters alone",
             self.shown(row),
             other.unwrap_or_default()
         );
-        let hint = "to BibTeX, small and large letters are the same: give one of them another key";
+        let hint = "to BibTeX they are the same: give one of them another key";
         let finding = Finding::of_row(Lint::KeyCase, row, message);
         Ok(finding.with_hint(Some(hint.into())))
     }

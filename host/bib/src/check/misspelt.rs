@@ -7,66 +7,98 @@ use super::near::distance;
 /// No known name is longer, by one letter.
 const LONGEST: usize = 24;
 
+static TYPE_NAMES: List<{ TYPES.len() }> = List::of(&TYPES);
+static OTHER_TYPE_NAMES: List<{ OTHER_TYPES.len() }> = List::of(&OTHER_TYPES);
+static FIELD_NAMES: List<{ FIELDS.len() }> = List::of(&FIELDS);
+static OTHER_FIELD_NAMES: List<{ OTHER_FIELDS.len() }> = List::of(&OTHER_FIELDS);
+
 /// The type that this one may mean, if it is not known itself.
 pub(crate) fn meant_type(name: &[u8]) -> Option<&'static str> {
-    meant(name, &TYPES, &OTHER_TYPES, &TYPE_LETTERS)
+    let small = Small::of(name)?;
+    let is_known = TYPE_NAMES.place(&small).or(OTHER_TYPE_NAMES.place(&small));
+    is_known.is_none().then(|| TYPE_NAMES.near(&small))?
 }
 
 /// The field that this one may mean, if it is not known itself.
 pub(crate) fn meant_field(name: &[u8]) -> Option<&'static str> {
-    meant(name, &FIELDS, &OTHER_FIELDS, &FIELD_LETTERS)
+    let small = Small::of(name)?;
+    let is_known = FIELD_NAMES
+        .place(&small)
+        .or_else(|| OTHER_FIELD_NAMES.place(&small));
+    is_known.is_none().then(|| FIELD_NAMES.near(&small))?
 }
 
-fn meant(
-    name: &[u8],
-    known: &'static [&str],
-    others: &[&str],
-    letters: &[u32],
-) -> Option<&'static str> {
-    let mut small = [0; LONGEST];
-    let small = small.get_mut(..name.len())?;
-    small.copy_from_slice(name);
-    small.make_ascii_lowercase();
-    // Digits and hyphens are put to a name on purpose, as in `note-2`.
-    let is_word = small.iter().all(u8::is_ascii_lowercase);
-    if !is_word || is_in(small, known) || is_in(small, others) {
-        return None;
+/// A name in small letters. Digits and hyphens are put to a name on purpose, as in `note-2`.
+struct Small {
+    bytes: [u8; LONGEST],
+    length: usize,
+    letters: u32,
+}
+
+impl Small {
+    fn of(name: &[u8]) -> Option<Self> {
+        let mut bytes = [0; LONGEST];
+        let own = bytes.get_mut(..name.len())?;
+        own.copy_from_slice(name);
+        own.make_ascii_lowercase();
+        let is_word = !own.is_empty() && own.iter().all(u8::is_ascii_lowercase);
+        let letters = letters_of(own);
+        is_word.then_some(Self {
+            bytes,
+            length: name.len(),
+            letters,
+        })
     }
-    let own = letters_of(small);
-    let near = known.iter().zip(letters);
-    // A change puts in one letter and takes out another at most.
-    let near = near.filter(|(_, letters)| (own ^ **letters).count_ones() <= 2);
-    let near = near.filter(|(one, _)| is_near(small, one.as_bytes()));
-    near.map(|(one, _)| *one).next()
-}
 
-fn is_in(name: &[u8], names: &[&str]) -> bool {
-    let found = names.binary_search_by(|known| known.as_bytes().cmp(name));
-    found.is_ok()
-}
-
-/// Whether one name may have been typed for another. A letter before a known name makes a new one, as in
-/// `fjournal`, and so does one that counts, as in `publishera`; among names of four letters, too many are one
-/// letter apart, but few have the same letters.
-fn is_near(name: &[u8], known: &[u8]) -> bool {
-    let is_new = name.ends_with(known) || matches!(name.strip_prefix(known), Some([b'a'..=b'd']));
-    if is_new || name.len().abs_diff(known.len()) > 1 {
-        return false;
+    fn text(&self) -> &[u8] {
+        &self.bytes[..self.length]
     }
-    let is_same = || name.len() == known.len() && letters_of(name) == letters_of(known);
-    (known.len() > 4 || is_same()) && distance(name, known) == 1
 }
 
-const TYPE_LETTERS: [u32; TYPES.len()] = letters_of_all(&TYPES);
-const FIELD_LETTERS: [u32; FIELDS.len()] = letters_of_all(&FIELDS);
+/// Names in alphabetical order, with what makes it quick to find one.
+struct List<const N: usize> {
+    names: &'static [&'static str; N],
+    letters: [u32; N],
+    /// Where the names that begin with each letter begin.
+    begins: [u16; 27],
+}
 
-const fn letters_of_all<const N: usize>(names: &[&str; N]) -> [u32; N] {
-    let (mut all, mut n) = ([0; N], 0);
-    while n < N {
-        all[n] = letters_of(names[n].as_bytes());
-        n += 1;
+impl<const N: usize> List<N> {
+    const fn of(names: &'static [&'static str; N]) -> Self {
+        let (mut letters, mut begins, mut n) = ([0; N], [N as u16; 27], N);
+        while n > 0 {
+            n -= 1;
+            let name = names[n].as_bytes();
+            letters[n] = letters_of(name);
+            let mut letter = (name[0] - b'a') as usize + 1;
+            while letter > 0 {
+                letter -= 1;
+                begins[letter] = n as u16;
+            }
+        }
+        Self {
+            names,
+            letters,
+            begins,
+        }
     }
-    all
+
+    /// The place of this name in the list.
+    fn place(&self, name: &Small) -> Option<usize> {
+        let letter = (name.bytes[0] - b'a') as usize;
+        let mut places = self.begins[letter] as usize..self.begins[letter + 1] as usize;
+        places
+            .find(|n| self.letters[*n] == name.letters && self.names[*n].as_bytes() == name.text())
+    }
+
+    /// The first name that this one may mean.
+    fn near(&self, name: &Small) -> Option<&'static str> {
+        let near = self.names.iter().zip(&self.letters);
+        // A change puts in one letter and takes out another at most.
+        let mut near = near.filter(|(_, letters)| (name.letters ^ **letters).count_ones() <= 2);
+        let found = near.find(|(known, _)| is_near(name, known.as_bytes()));
+        found.map(|(known, _)| *known)
+    }
 }
 
 /// Which letters a word has, a bit for each.
@@ -79,27 +111,34 @@ const fn letters_of(word: &[u8]) -> u32 {
     letters
 }
 
+/// Whether one name may have been typed for another. A letter before a known name makes a new one, as in
+/// `fjournal`, and so does one that counts, as in `publishera`; among names of four letters, too many are one
+/// letter apart, but few have the same letters.
+fn is_near(small: &Small, known: &[u8]) -> bool {
+    let name = small.text();
+    let is_new = name.ends_with(known) || matches!(name.strip_prefix(known), Some([b'a'..=b'd']));
+    if is_new || name.len().abs_diff(known.len()) > 1 {
+        return false;
+    }
+    let is_same = || name.len() == known.len() && small.letters == letters_of(known);
+    (known.len() > 4 || is_same()) && distance(name, known) == 1
+}
+
 /// The fields of an entry that a misspelt one may mean, a bit for each.
 #[derive(Default)]
 pub(crate) struct Present([u64; FIELDS.len().div_ceil(64)]);
 
 impl Present {
     pub fn add(&mut self, name: &[u8]) {
-        let mut small = [0; LONGEST];
-        let Some(small) = small.get_mut(..name.len()) else {
-            return;
-        };
-        small.copy_from_slice(name);
-        small.make_ascii_lowercase();
-        let found = FIELDS.binary_search_by(|known| known.as_bytes().cmp(small));
-        if let Ok(n) = found {
+        let place = Small::of(name).and_then(|small| FIELD_NAMES.place(&small));
+        if let Some(n) = place {
             self.0[n / 64] |= 1 << (n % 64);
         }
     }
 
     pub fn has(&self, name: &str) -> bool {
-        let found = FIELDS.binary_search(&name);
-        found.is_ok_and(|n| self.0[n / 64] >> (n % 64) & 1 == 1)
+        let place = FIELDS.binary_search(&name);
+        place.is_ok_and(|n| self.0[n / 64] >> (n % 64) & 1 == 1)
     }
 }
 
@@ -113,12 +152,12 @@ mod tests {
             assert!(list.is_sorted());
             assert!(list.iter().all(|name| name.len() < LONGEST));
         }
-        assert!(!FIELDS
-            .iter()
-            .any(|name| is_in(name.as_bytes(), &OTHER_FIELDS)));
-        assert!(!TYPES
-            .iter()
-            .any(|name| is_in(name.as_bytes(), &OTHER_TYPES)));
+        assert!(!FIELDS.iter().any(|name| OTHER_FIELDS.contains(name)));
+        assert!(!TYPES.iter().any(|name| OTHER_TYPES.contains(name)));
+        for (n, name) in FIELDS.iter().enumerate() {
+            let small = Small::of(name.as_bytes()).expect("it is a name");
+            assert_eq!(FIELD_NAMES.place(&small), Some(n));
+        }
     }
 
     #[test]

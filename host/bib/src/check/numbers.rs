@@ -7,11 +7,11 @@ use std::ops::Range;
 pub(crate) struct Wrong {
     pub span: Range<usize>,
     pub message: String,
-    pub hint: Option<&'static str>,
+    pub hint: &'static str,
 }
 
 impl Wrong {
-    fn new(span: Range<usize>, message: String, hint: Option<&'static str>) -> Option<Self> {
+    fn new(span: Range<usize>, message: String, hint: &'static str) -> Option<Self> {
         Some(Self {
             span,
             message,
@@ -62,12 +62,12 @@ fn wrong_year(text: &[u8], span: Range<usize>) -> Option<Wrong> {
     let digits = year.iter().filter(|byte| byte.is_ascii_digit()).count();
     if digits == year.len() && digits > 4 {
         let message = format!("the year {} has {digits} digits", shown(year));
-        return Wrong::new(span, message, None);
+        return Wrong::new(span, message, "a year has four digits");
     }
     let is_like = |byte: &u8| matches!(byte, b'O' | b'o' | b'l' | b'I') || byte.is_ascii_digit();
     if year.len() == 4 && matches!(digits, 2 | 3) && year.iter().all(is_like) {
         let message = format!("the year {} has a letter among its digits", shown(year));
-        return Wrong::new(span, message, Some("write the digit that it looks like"));
+        return Wrong::new(span, message, "write the digit that it looks like");
     }
     None
 }
@@ -76,7 +76,7 @@ fn wrong_year(text: &[u8], span: Range<usize>) -> Option<Wrong> {
 fn wrong_month(text: &[u8], span: Range<usize>) -> Option<Wrong> {
     let month = number(&text[span.clone()])?;
     let message = format!("there is no month {month}");
-    let hint = Some("months are 1 to 12, or the names jan to dec without braces");
+    let hint = "months are 1 to 12, or the names jan to dec without braces";
     (!(1..=12).contains(&month)).then(|| Wrong::new(span, message, hint))?
 }
 
@@ -93,12 +93,12 @@ fn wrong_day(text: &[u8], span: Range<usize>) -> Option<Wrong> {
         };
         if !matches!(month, 1..=12 | 21..=41) {
             let message = format!("there is no month {month}");
-            return Wrong::new(span, message, Some("a date is YYYY-MM-DD"));
+            return Wrong::new(span, message, "a date is YYYY-MM-DD");
         }
         let day = parts.next().filter(|day| day.len() == 2).and_then(number);
         if day.is_some_and(|day| day == 0 || day > most_days(month)) {
             let message = format!("there is no day {} in the month {month}", day.unwrap_or(0));
-            return Wrong::new(span, message, Some("a date is YYYY-MM-DD"));
+            return Wrong::new(span, message, "a date is YYYY-MM-DD");
         }
     }
     None
@@ -133,7 +133,8 @@ pub(crate) fn wrong_pages(text: &[u8]) -> Option<Wrong> {
         if let (Some(from), Some(to)) = (number(first), number(last)) {
             if to < from && last.len() >= first.len() {
                 let message = format!("the pages {} end before they begin", shown(range));
-                return Wrong::new(start + own.start..start + own.end, message, None);
+                let span = start + own.start..start + own.end;
+                return Wrong::new(span, message, "write the smaller number first");
             }
         }
     }

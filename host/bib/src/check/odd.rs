@@ -190,5 +190,5 @@ fn odd_value(field: &[u8], text: &[u8], row: Row) -> Option<Finding> {
         hint,
     } = wrong;
     let finding = Finding::lint(lint, row.start + span.start, row.start + span.end, message);
-    Some(finding.with_hint(hint.map(String::from)))
+    Some(finding.with_hint(Some(hint.into())))
 }

@@ -7,7 +7,7 @@ use super::finding::{Finding, Lint};
 use super::heads::Heads;
 use super::text::{key_name, quoted};
 use crate::memory::push;
-use crate::{Kind, Refusal, Row, Rows};
+use crate::{Kind, Refusal, Rows};
 
 /// A key that a field names.
 #[derive(Debug, Clone, PartialEq, Eq)]
@@ -65,27 +65,29 @@ fn named<'a>(
 ) -> impl Iterator<Item = Reference> + 'a {
     let mut entries = 0;
     let mut owner = 0..0;
-    let mut field: Option<Row> = None;
-    rows.iter().enumerate().flat_map(move |(index, row)| {
+    let fields = rows.iter().enumerate().filter_map(move |(index, row)| {
         match row.kind {
             Kind::Entry => entries += 1,
             Kind::Key => owner = row.span(),
-            Kind::FieldName => field = Some(row).filter(|row| is_wanted(&file[row.span()])),
-            Kind::DefinitionName => field = None,
+            Kind::FieldName if is_wanted(&file[row.span()]) => {
+                return Some((index, row.span(), entries - 1, owner.clone()));
+            }
             _ => {}
         }
-        let is_one = row.kind == Kind::Literal && is_alone(rows, index);
-        let field = field.filter(|_| is_one);
-        let keys = field.map(|field| (field, keys_in(file, row.span())));
-        let owner = owner.clone();
-        keys.into_iter().flat_map(move |(field, keys)| {
-            let owner = owner.clone();
-            keys.map(move |key| Reference {
-                entry: entries - 1,
-                owner: owner.clone(),
-                field: field.span(),
-                key,
-            })
+        None
+    });
+    fields.flat_map(move |(index, field, entry, owner)| {
+        // A value's row comes between a name's and those of its parts.
+        let part = rows
+            .get(index + 2)
+            .filter(|part| part.kind == Kind::Literal);
+        let part = part.filter(|_| is_alone(rows, index + 2));
+        let keys = keys_in(file, part.map_or(0..0, |part| part.span()));
+        keys.map(move |key| Reference {
+            entry,
+            owner: owner.clone(),
+            field: field.clone(),
+            key,
         })
     })
 }

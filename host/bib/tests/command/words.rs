@@ -1,5 +1,7 @@
 //! What the command is told.
 
+use bib::check::LINTS;
+
 use crate::run::{bib, shell, Folder, Scratch};
 
 /// A word that it does not know, and what it says of it.
@@ -144,6 +146,16 @@ fn manual_and_completions() {
     }
     let version = env!("CARGO_PKG_VERSION");
     assert!(page.contains(&format!("\"bib {version}\"")));
+    let readme = include_str!("../../../../README.md");
+    for about in &LINTS {
+        assert!(
+            page.contains(about.name),
+            "{} is not in the manual",
+            about.name
+        );
+        let name = format!("`{}`", about.name);
+        assert!(readme.contains(&name), "{name} is not in README.md");
+    }
 }
 
 #[test]
