@@ -40,6 +40,7 @@ mod odd;
 mod outside;
 mod places;
 mod refs;
+mod scripts;
 mod text;
 mod trace;
 mod unresolved;

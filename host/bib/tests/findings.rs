@@ -1,7 +1,7 @@
 //! What the library finds in files: every lint and every hint, with a file that it is for and one
 //! where it must not appear.
 
-use bib::check::{check, Code, Counts, Finding, Level, Lint, Stop, LINTS};
+use bib::check::{check, About, Code, Counts, Finding, Level, Lint, Stop, LINTS};
 
 /// All findings, each with its line and column.
 fn findings(file: &[u8]) -> Vec<(String, Finding)> {
@@ -447,18 +447,58 @@ fn fields_outside_on_purpose() {
     }
 }
 
-/// What `bib check --list` shows of a lint has just that lint.
+/// What is said of the example of each lint: its place, what is wrong, and what to do.
+#[rustfmt::skip]
+const WORDS: [(&str, &str, &str, &str); 28] = [
+    ("field-outside", "1:24", "the field `year` is outside every entry, and lost", "the entry before it may have been closed too early"),
+    ("entry-outside", "1:1", "`article{k,` without an \"@\": the entry is lost", ""),
+    ("no-entries", "1:1", "no entries in this file", ""),
+    ("merge-conflict", "1:1", "two versions that a merge left", "this line was left by a merge: keep one of the two versions, and take the lines of `<`, `=` and `>` out"),
+    ("duplicate-key", "2:7", "the key k is that of another entry, at 1:7", ""),
+    ("empty-key", "1:7", "this entry has no key", "write a key before the comma: nobody can cite the entry without one"),
+    ("odd-key", "1:7", "the key year=1997 looks like a field", "put a key and a comma before it"),
+    ("duplicate-field", "1:23", "the entry has the field `year` already, at 1:10", ""),
+    ("duplicate-definition", "2:9", "`acm` is defined already, at 1:9", "the last definition counts, for uses before it too"),
+    ("late-close", "2:11", "the value of `title` holds what looks like the field `year`", "the brace that opens the value may be closed too late"),
+    ("and-list", "1:30", "the list of names ends with `and`", "write the name that is missing, or take the `and` out"),
+    ("name-separator", "1:35", "`;` between two names is taken for a part of one", "write `and` between two names, and braces around one that has such a mark in it"),
+    ("et-al", "1:40", "`et al.` is taken for a name", "write `and others` for names that are left out"),
+    ("typographic-quotes", "2:18", "“T” is taken for the name of a definition", "typographic quotation marks delimit nothing: write \"..\" or {..}"),
+    ("cut-inside", "2:1", "an \"@\" begins a line inside an entry: salvage would cut there", "put a blank before it, so that damage elsewhere in the file does not reach it"),
+    ("encoding", "1:19", "escape sequences of another encoding", "perhaps it is ISO-2022-JP: try `iconv -f ISO-2022-JP -t UTF-8`"),
+    ("replacement-character", "1:21", "the replacement character U+FFFD: a letter was lost when the file was converted", "write the letter that stood here"),
+    ("mojibake", "1:26", "`Ã©` for `é`: UTF-8 was read as another encoding, and written again", "write `é`"),
+    ("html-entity", "1:29", "`&amp;` is a character as HTML writes it", "write `\\&`; in a URL, `&`"),
+    ("invisible-character", "1:12", "a zero-width space, U+200B, which is not seen", "take it out: with it, this is another word to whoever cites, sorts or searches"),
+    ("look-alike", "1:21", "`о` in `Dоnald` is Cyrillic, not Latin", "it only looks like the Latin letter: write `o`"),
+    ("key-case", "2:7", "the key knuth84 differs from Knuth84, at 1:7, in small and large letters alone", "to BibTeX they are the same: give one of them another key"),
+    ("unknown-crossref", "1:37", "no entry has the key l, which `crossref` names", "if it is in another file, check both together"),
+    ("unknown-type", "1:2", "the entry type `artcle` is not known", "did you mean `article`?"),
+    ("unknown-field", "1:10", "the field `auhtor` is not known", "did you mean `author`?"),
+    ("empty-field", "1:20", "the field `author` is empty", "fill it in, or take it out"),
+    ("odd-date", "1:31", "the year 20144 has 5 digits", "a year has four digits"),
+    ("odd-pages", "1:35", "the pages 45--12 end before they begin", "write the smaller number first"),
+];
+
+/// What `bib check --list` shows of a lint has just that lint, in these words. One file alone does not have a key
+/// of two.
 #[test]
 fn examples_of_lints() {
-    for about in &LINTS {
-        // One file alone does not have it.
-        let want = Some(about.lint).filter(|lint| *lint != Lint::KeyInTwoFiles);
-        let found: Vec<Lint> = lints(about.example)
-            .into_iter()
-            .map(|(lint, _)| lint)
-            .collect();
-        assert!(found.iter().copied().eq(want), "{}: {found:?}", about.name);
+    let of_one = |about: &&About| about.lint != Lint::KeyInTwoFiles;
+    let mut words = WORDS.iter();
+    for about in LINTS.iter().filter(of_one) {
+        let found = findings(about.example.as_bytes()).into_iter();
+        let is_lint = |finding: &Finding| matches!(finding.code, Code::Lint(_));
+        let found: Vec<_> = found.filter(|(_, finding)| is_lint(finding)).collect();
+        let [(place, finding)] = &found[..] else {
+            panic!("{}: {found:?}", about.name);
+        };
+        assert_eq!(finding.code, Code::Lint(about.lint));
+        let hint = finding.hint.as_deref().unwrap_or_default();
+        let said = (about.name, place.as_str(), finding.message.as_str(), hint);
+        assert_eq!(Some(&said), words.next());
     }
+    assert_eq!(words.next(), None);
 }
 
 /// The hints of all findings.

@@ -157,7 +157,9 @@ impl<E, S: FnMut(&Finding, &super::Lines) -> Result<(), E>> Checker<'_, S> {
     fn key(&mut self, index: usize, row: Row) -> Result<Option<Finding>, Refusal> {
         if row.start == row.end {
             let message = "this entry has no key".to_string();
-            return Ok(Some(Finding::of_row(Lint::EmptyKey, row, message)));
+            let hint = "write a key before the comma: nobody can cite the entry without one";
+            let finding = Finding::of_row(Lint::EmptyKey, row, message);
+            return Ok(Some(finding.with_hint(Some(hint.into()))));
         }
         if is_odd(&self.file[row.span()]) {
             return Ok(Some(self.odd_key(row)));

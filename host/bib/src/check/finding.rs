@@ -83,6 +83,11 @@ impl Lints {
         Self(self.0 & !(1 << lint as u32))
     }
 
+    /// Whether it has one that is not of these.
+    pub(crate) fn has_more_than(self, others: Self) -> bool {
+        self.0 & !others.0 != 0
+    }
+
     pub fn has(self, lint: Lint) -> bool {
         self.0 >> lint as u32 & 1 == 1
     }

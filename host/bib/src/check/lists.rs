@@ -28,7 +28,9 @@ pub(crate) fn wrong_names(text: &[u8], place: usize) -> Option<Finding> {
         Finding::lint(lint, start, end, message.into())
     };
     if let Some((place, message)) = lone_and(text) {
-        return Some(finding(Lint::AndList, place..place + 3, message));
+        let hint = "write the name that is missing, or take the `and` out";
+        let found = finding(Lint::AndList, place..place + 3, message);
+        return Some(found.with_hint(Some(hint.into())));
     }
     if let Some(word) = et_al(text) {
         let hint = "write `and others` for names that are left out";

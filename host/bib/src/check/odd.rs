@@ -3,12 +3,13 @@
 
 use std::ops::Range;
 
-use super::characters::{entity, invisible, look_alike, mojibake, replaced};
-use super::finding::{Finding, Lint};
+use super::characters::{entity, mojibake, replaced};
+use super::finding::{Finding, Lint, Lints};
 use super::lists::is_name_list;
 use super::misspelt::{meant_field, meant_type, Present};
 use super::numbers::{wrong_date, wrong_pages, Wrong};
 use super::refs::{is_alone, is_reference, keys_in, unknown_key, Keys};
+use super::scripts::{invisible, look_alike};
 use super::text::quoted;
 use super::{Checker, Stop};
 use crate::{Kind, Refusal, Row};
@@ -41,6 +42,10 @@ impl<E, S: FnMut(&Finding, &super::Lines) -> Result<(), E>> Checker<'_, S> {
         field: Option<Row>,
         entry: &mut Entry,
     ) -> Result<(), Stop<E>> {
+        // What is lost is found elsewhere.
+        if !self.lints.has_more_than(Lints::LOST) {
+            return Ok(());
+        }
         match row.kind {
             Kind::EntryType | Kind::Key | Kind::FieldName | Kind::DefinitionName => {
                 self.odd_name(row, entry)
