@@ -58,6 +58,7 @@ pub use refs::{other_keys, references, Keys, Reference};
 pub use text::key_name;
 pub use unresolved::{without_damage, Unresolved};
 
+use std::cell::OnceCell;
 use std::collections::TryReserveError;
 use std::ops::Range;
 

@@ -5,7 +5,7 @@ use std::io::{self, BufWriter, Stdout, Write};
 use std::sync::OnceLock;
 
 use bib::check::{
-    self, Checked, Code, Counts, Finding, Level, Lines, Lint, Reading, Standing, Stop,
+    self, Checked, Code, Counts, Finding, Level, Lines, Lint, Lints, Reading, Standing, Stop,
 };
 use bib::{Kind, Reason, Refusal};
 
@@ -157,18 +157,36 @@ impl Checking<'_> {
         let strings = own.as_ref().unwrap_or(self.strings);
         let name = source.to_string();
         let reading = self.reading(file, strings, &name);
-        let mut lints = self.asked.levels.lints();
-        if self.sources.len() > 1 {
-            lints = lints.without(Lint::UnknownCrossref);
-        }
-        let checked = check::check_reading(file, &reading, lints, print)?;
+        let checked = check::check_reading(file, &reading, self.lints(), print)?;
         outcome.entries = checked.counts();
-        let reading = reading.as_ref().ok().filter(|_| self.sources.len() > 1);
-        if let Some(reading) = reading {
-            outcome.keys = self.keys(file, reading, &checked)?;
-            if self.asked.levels.of_lint(Lint::UnknownCrossref).is_some() {
-                outcome.crossrefs = Crossrefs::of(file, &reading.rows, &checked)?;
+        match reading {
+            Ok(reading) if self.sources.len() > 1 => {
+                self.compared_later(file, &reading, &checked, outcome)
             }
+            _ => Ok(()),
+        }
+    }
+
+    /// The lints that one file is looked through for. Of several, another may have the key that a field names.
+    fn lints(&self) -> Lints {
+        let lints = self.asked.levels.lints();
+        if self.sources.len() > 1 {
+            return lints.without(Lint::UnknownCrossref);
+        }
+        lints
+    }
+
+    /// Keeps what is compared with the other files: the keys, and those that fields name.
+    fn compared_later(
+        &self,
+        file: &[u8],
+        reading: &Reading,
+        checked: &Checked,
+        outcome: &mut Outcome,
+    ) -> Result<(), Stop<Failed>> {
+        outcome.keys = self.keys(file, reading, checked)?;
+        if self.asked.levels.of_lint(Lint::UnknownCrossref).is_some() {
+            outcome.crossrefs = Crossrefs::of(file, &reading.rows, checked)?;
         }
         Ok(())
     }
@@ -380,6 +398,7 @@ impl Results<'_> {
             asked,
             report,
             sources,
+            ..
         } = self.checking;
         let Some(level) = asked.levels.of_lint(Lint::UnknownCrossref) else {
             return Ok(());
