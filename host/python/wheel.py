@@ -1,5 +1,5 @@
-"""Builds the wheel that `pip install host/python` asks for (PEP 517): bib.py, and the library for this machine out of lib/, as one shared
-object in the folder `knurravoe`. It needs a C compiler, and nothing from elsewhere.
+"""Builds the wheel that `pip install host/python` asks for (PEP 517): bib.py, and in the folder `knurravoe` the library for this machine out
+of lib/ as libbib.so, and libbibcheck.so. It needs a C compiler and cargo, and nothing from elsewhere.
 """
 
 import base64
@@ -36,6 +36,12 @@ def _shared_object():
         return made.read_bytes()
 
 
+def _findings():
+    host = HERE.parent
+    subprocess.run(["cargo", "build", "--release", "--quiet", "-p", "bibcheck"], cwd=host, check=True)
+    return (pathlib.Path(os.environ.get("CARGO_TARGET_DIR", host / "target")) / "release/libbibcheck.so").read_bytes()
+
+
 def _row(name, content):
     digest = base64.urlsafe_b64encode(hashlib.sha256(content).digest()).rstrip(b"=").decode()
     return f"{name},sha256={digest},{len(content)}\n"
@@ -49,6 +55,7 @@ def build_wheel(wheel_directory, config_settings=None, metadata_directory=None):
     files = {
         "bib.py": (HERE / "bib.py").read_bytes(),
         f"{NAME}/libbib.so": _shared_object(),
+        f"{NAME}/libbibcheck.so": _findings(),
         f"{info}/METADATA": f"Metadata-Version: 2.1\nName: {NAME}\nVersion: {version}\nSummary: {summary}\nLicense: MIT OR Apache-2.0\n".encode(),
         f"{info}/WHEEL": f"Wheel-Version: 1.0\nGenerator: {NAME}\nRoot-Is-Purelib: false\nTag: {tag}\n".encode(),
     }
