@@ -163,7 +163,8 @@ impl Letters {
 
     /// The part of a line around a place as it would read, without blanks at its ends.
     fn read(&self, likely: &Likely, line: &[u8], place: usize) -> Option<String> {
-        let (mut first, mut last) = (place.saturating_sub(AROUND), line.len().min(place + AROUND));
+        let mut first = likely.begin(line, place.saturating_sub(AROUND))?;
+        let mut last = line.len().min(place + AROUND);
         let cut = |is_cut: bool| if is_cut { "…" } else { "" };
         let [before, behind] = [cut(first > 0), cut(last < line.len())];
         if !self.is_mixed {

@@ -2,6 +2,7 @@
 
 mod double;
 mod single;
+mod system;
 mod tables;
 
 use std::cmp::Reverse;
@@ -29,6 +30,9 @@ const NEAR: Worth = 25;
 /// A text is taken for one of an encoding where each of its characters, on the average, is worth so much.
 const LEAST: Worth = 3;
 
+/// So far back the beginning of a character is looked for.
+const FAR: usize = 256;
+
 impl Likely {
     /// Whether it has two bytes for most characters.
     pub fn is_double(&self) -> bool {
@@ -37,6 +41,9 @@ impl Likely {
 
     /// The first byte of a text of which this makes another character than that.
     pub fn differs(&self, other: &Self, text: &[u8]) -> Option<usize> {
+        if self.is_double() || other.is_double() {
+            return None;
+        }
         let all: Vec<u8> = (0x80..=0xff).collect();
         let (one, other) = (self.decoded(&all)?, other.decoded(&all)?);
         let differ = one
@@ -54,9 +61,25 @@ impl Likely {
         all.iter().any(|likely| likely.iconv == self.iconv)
     }
 
+    /// The last place up to this one where a character of a line surely begins. Of encodings with two bytes, no character but a single byte
+    /// has one below 0x30, as a blank or a comma is.
+    pub fn begin(&self, line: &[u8], place: usize) -> Option<usize> {
+        if !self.is_double() {
+            return Some(place);
+        }
+        let least = place.saturating_sub(FAR);
+        let single = line[least..place].iter().rposition(|byte| *byte < 0x30);
+        single
+            .map(|single| least + single + 1)
+            .or((least == 0).then_some(0))
+    }
+
     /// A text as it would read, where that is known.
     pub fn decoded(&self, text: &[u8]) -> Option<String> {
-        let table: Vec<char> = self.table?.chars().collect();
+        let Some(table) = self.table else {
+            return system::decoded(self.iconv, text);
+        };
+        let table: Vec<char> = table.chars().collect();
         let decode = |byte: &u8| match byte.checked_sub(0x80) {
             None => char::from(*byte),
             Some(place) => table[usize::from(place)],

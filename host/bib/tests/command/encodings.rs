@@ -3,7 +3,7 @@
 use std::io::Write;
 use std::process::{Command, Stdio};
 
-use crate::run::bib;
+use crate::run::{bib, knows};
 
 /// Names and titles, as Python's codecs encode them.
 #[rustfmt::skip]
@@ -77,7 +77,7 @@ fn what_comes_of_the_hint() {
     }
 }
 
-/// The line is shown as it would read, where that takes no table of ten thousand characters.
+/// The line is shown as it would read. Encodings of ten thousand characters are asked of the C library.
 #[test]
 fn lines_as_they_would_read() {
     let latin = b"@a{k,\n  t = {Kurt G\xf6del},\n}";
@@ -91,8 +91,11 @@ fn lines_as_they_would_read() {
                 try `iconv -f WINDOWS-1252 -t UTF-8` or `iconv -f WINDOWS-1250 -t UTF-8`";
     assert_eq!(hint(two), read);
     let chinese = b"@a{k, t = {\xd6\xd0\xb9\xfa\xd1\xd0\xbe\xbf}}";
-    let read = "perhaps it is GB18030 (Chinese): try `iconv -f GB18030 -t UTF-8`";
-    assert_eq!(hint(chinese), read);
+    let read = "perhaps it is GB18030 (Chinese), in which it reads `@a{k, t = {\u{4e2d}\u{56fd}\u{7814}\u{7a76}}}`: \
+                try `iconv -f GB18030 -t UTF-8`";
+    if knows("GB18030") {
+        assert_eq!(hint(chinese), read);
+    }
     let long = [
         b"@a{k, t = {",
         &[b'x'; 100][..],

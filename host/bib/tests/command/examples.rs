@@ -3,7 +3,7 @@
 use std::path::Path;
 use std::{fs, process};
 
-use crate::run::{Run, BIB};
+use crate::run::{knows, Run, BIB};
 
 /// What a work prints of an example, and ends with.
 fn run(root: &Path, work: &str, name: &str) -> Run {
@@ -14,6 +14,9 @@ fn run(root: &Path, work: &str, name: &str) -> Run {
         .output();
     Run::of(output.expect("the command starts"))
 }
+
+/// Examples that are shown as they would read by the C library, which may lack their encodings.
+const ENCODINGS: [(&str, &str); 2] = [("gb18030", "GB18030"), ("shift-jis", "CP932")];
 
 #[test]
 fn broken_files() {
@@ -27,6 +30,10 @@ fn broken_files() {
         .collect();
     assert!(files.len() >= 48, "{} examples are too few", files.len());
     for name in files {
+        let encoding = ENCODINGS.iter().find(|(file, _)| *file == name);
+        if encoding.is_some_and(|(_, encoding)| !knows(encoding)) {
+            continue;
+        }
         let kept = |end: &str| fs::read_to_string(root.join(format!("examples/{name}.{end}")));
         let said = kept("out").expect("it is kept");
         let status = i32::from(said.contains(": error: "));

@@ -74,6 +74,11 @@ pub fn shell(line: &str) -> Run {
     Run::of(output.expect("bash starts"))
 }
 
+/// Whether the C library knows an encoding. A line of another is not shown as it would read.
+pub fn knows(encoding: &str) -> bool {
+    shell(&format!("iconv -f {encoding} -t UTF-8 </dev/null")).status == Some(0)
+}
+
 /// A file of this test alone, which goes when the test ends.
 pub struct Scratch(pub PathBuf);
 
