@@ -7,7 +7,8 @@
 
 Rows are a sequence whose items are tuples of kind, detail, start and end; start and end are bytes of
 the file. They are kept as numbers, four a row, which `rows.numbers` lends out. What is refused raises
-`Refusal`, with the number and the place; a file that is not bytes raises `TypeError`. What `bib check`
+`Refusal`, with the number and the place; an argument of a wrong type, as a file that is not bytes, raises
+`TypeError`. What `bib check`
 finds in a file, `check` gives:
 
     for finding in bib.check(open("mine.bib", "rb").read()):
@@ -26,6 +27,7 @@ import ctypes.util
 import enum
 import functools
 import mmap
+import operator
 import os
 import pathlib
 from typing import Iterable, NamedTuple, Optional, Tuple, Union
@@ -107,7 +109,9 @@ class _Numbers(collections.abc.Sequence):
     __slots__ = ("numbers",)
 
     def __init__(self, numbers: memoryview):
-        self.numbers = numbers.toreadonly()
+        self.numbers = memoryview(numbers).toreadonly()
+        if self.numbers.format != "I" or len(self.numbers) % self._WIDTH:
+            raise TypeError(f"give the numbers of rows, as `numbers` lends them out, {self._WIDTH} a row")
 
     def __len__(self):
         return len(self.numbers) // self._WIDTH
@@ -262,6 +266,39 @@ def _bytes(given) -> bytes:
         raise TypeError(f"give the bytes of a file, as open(.., 'rb').read() does, not {type(given).__name__}") from None
 
 
+def _text(given) -> bytes:
+    """A text in UTF-8."""
+    if not isinstance(given, str):
+        raise TypeError(f"give a text, not {type(given).__name__}")
+    return given.encode()
+
+
+def _whole(given, what: str) -> int:
+    """A whole number."""
+    try:
+        return operator.index(given)
+    except TypeError:
+        raise TypeError(f"give a whole number as {what}, not {type(given).__name__}") from None
+
+
+def _flag(given, what: str) -> int:
+    """True or False as a number. A text is neither, though Python takes it for true."""
+    if given not in (True, False):
+        raise TypeError(f"give True or False as {what}, not {given!r}")
+    return int(given)
+
+
+def _pairs(given: Iterable, what: str) -> list:
+    """What is given in pairs. A text of two letters is none."""
+    try:
+        pairs = [() if isinstance(pair, str) else tuple(pair) for pair in given]
+    except TypeError:
+        pairs = [()]
+    if any(len(pair) != 2 for pair in pairs):
+        raise TypeError(f"give {what} as pairs")
+    return pairs
+
+
 def _room(numbers: int):
     """So many numbers of 32 bits, to be lent. They are zeros of the system, which take memory only where they are written."""
     return (ctypes.c_uint32 * numbers).from_buffer(mmap.mmap(-1, 4 * numbers)) if numbers else (ctypes.c_uint32 * 0)()
@@ -286,12 +323,19 @@ def _rows(function, data: bytes, most: int) -> Rows:
     return Rows(_written_numbers(room, _call(function, (data, len(data)), room) * _NUMBERS))
 
 
-def _numbers(rows: Iterable[Tuple[int, ...]]):
-    """The numbers of rows, to be lent. What is no number of 32 bits is refused as bad rows are."""
-    if isinstance(rows, _Numbers):
+def _numbers(rows: Iterable[Tuple[int, ...]], kind: type):
+    """The numbers of rows of this kind, to be lent. Rows of another length, and what is no number of 32 bits, are refused as bad rows
+    are."""
+    if isinstance(rows, kind):
         return (ctypes.c_uint32 * len(rows.numbers)).from_buffer_copy(rows.numbers)
+    try:
+        if isinstance(rows, _Numbers):
+            raise TypeError(f"these are {type(rows).__name__}")
+        rows = [tuple(map(operator.index, row)) for row in rows]
+    except TypeError as error:
+        raise TypeError(f"give {kind.__name__}, or rows of {kind._WIDTH} whole numbers: {error}") from error
     numbers = [number for row in rows for number in row]
-    if not all(0 <= number < 1 << 32 for number in numbers):
+    if not all(len(row) == kind._WIDTH for row in rows) or not all(0 <= number < 1 << 32 for number in numbers):
         raise Refusal(17, 0, 0)
     return (ctypes.c_uint32 * len(numbers))(*numbers)
 
@@ -311,7 +355,7 @@ def salvage(file: bytes) -> Rows:
 
 def pack(rows: Iterable[Tuple[int, int, int, int]]) -> bytes:
     """Packs rows, seven bytes each."""
-    lent = _numbers(rows)
+    lent = _numbers(rows, Rows)
     room = (ctypes.c_uint8 * (len(lent) // _NUMBERS * _BYTES))()
     count = _call(_pack, (lent, len(lent)), room)
     return bytes(memoryview(room)[:count])
@@ -330,7 +374,7 @@ def _written(function, text: bytes, chunks: Iterable[Tuple[int, int, int, int, i
     # Numbers that cannot be lent are bad rows, but a text that is not UTF-8 comes first: the call refuses either, since one number is
     # no row.
     try:
-        lent = _numbers(chunks)
+        lent = _numbers(chunks, ChunkRows)
     except Refusal:
         lent = (ctypes.c_uint32 * 1)()
     lengths = (min(max(end - start, 0), len(text)) for start, end in zip(lent[1::_CHUNK_NUMBERS], lent[2::_CHUNK_NUMBERS]))
@@ -347,17 +391,18 @@ def format_verbatim(text: bytes, chunks: Iterable[Tuple[int, int, int, int, int]
 
 def to_biblatex_string(text: bytes, chunks: Iterable[Tuple[int, int, int, int, int]], is_verbatim: bool) -> str:
     """Writes chunks as a BibLaTeX string, for a verbatim field, as `file` or `url`, or another."""
-    return _written(_to_biblatex_string, text, chunks, (int(bool(is_verbatim)),), 2)
+    return _written(_to_biblatex_string, text, chunks, (_flag(is_verbatim, "is_verbatim"),), 2)
 
 
 def resolve_literal(file: bytes, start: int, end: int, is_verbatim: bool) -> Resolved:
     """Resolves the literal that stands in a file at start..end, of a verbatim field, as `file` or `url`, or another."""
     file = _bytes(file)
     # What cannot be lent as a place lies outside the file.
-    start, end = (place if 0 <= place <= len(file) else len(file) + 1 for place in (start, end))
+    places = _whole(start, "start"), _whole(end, "end")
+    start, end = (place if 0 <= place <= len(file) else len(file) + 1 for place in places)
     # A literal of n bytes has at most n + 1 chunks and 2 * n bytes of text. A longer one than the most is refused.
     length = min(max(end - start, 0), MOST_LITERAL)
-    return _resolved(_resolve_literal, (file, len(file), start, end, int(bool(is_verbatim))), length + 1, 2 * length)
+    return _resolved(_resolve_literal, (file, len(file), start, end, _flag(is_verbatim, "is_verbatim")), length + 1, 2 * length)
 
 
 def _resolved(function, given: tuple, most_chunks: int, most_text: int) -> Resolved:
@@ -376,7 +421,7 @@ def _resolved(function, given: tuple, most_chunks: int, most_text: int) -> Resol
 def _months(months: Iterable[Tuple[str, str]]):
     """The numbers of month words, to be lent, and the bytes that they are of."""
     places, words = [], b""
-    for part in (part.encode() for month in months for part in month):
+    for part in (_text(part) for month in _pairs(months, "months") for part in month):
         places += [len(words), len(words) + len(part)]
         words += part
     return (ctypes.c_uint32 * len(places))(*places), words
@@ -403,11 +448,12 @@ def resolve_field(
     stands for its last definition or, if it has none, for the text of the first month word that is the same; months are words with
     their texts."""
     file = _bytes(file)
-    lent = _numbers(rows)
+    lent = _numbers(rows, Rows)
     # What cannot be lent as a row's number is past the rows.
-    which = which if 0 <= which < len(lent) // _NUMBERS else len(lent)
+    which = which if 0 <= _whole(which, "which") < len(lent) // _NUMBERS else len(lent)
     month_rows, words = _months(months)
-    given = (file, len(file), lent, len(lent), which, int(bool(is_verbatim)), month_rows, len(month_rows), words, len(words))
+    is_verbatim = _flag(is_verbatim, "is_verbatim")
+    given = (file, len(file), lent, len(lent), which, is_verbatim, month_rows, len(month_rows), words, len(words))
     # Enough for literals alone.
     start, end = lent[4 * which + 2 : 4 * which + 4] or (0, 0)
     room = min(max(end - start, 0), len(file)) + 256
@@ -420,9 +466,9 @@ def resolve_file(
     """Resolves every value of a file, each as `resolve_field` does, in one call. The flags say of each value, in the order of the rows,
     whether its field is verbatim. A value that is refused has its refusal in the answer; it is not raised, and stops no other."""
     file = _bytes(file)
-    lent = _numbers(rows)
+    lent = _numbers(rows, Rows)
     values = list(memoryview(lent).cast("B").cast("I")[::_NUMBERS]).count(Kind.VALUE)
-    lent_flags = bytes(bool(flag) for flag in flags)
+    lent_flags = bytes(_flag(flag, "a flag") for flag in flags)
     month_rows, words = _months(months)
     given = (file, len(file), lent, len(lent), lent_flags, len(lent_flags), month_rows, len(month_rows), words, len(words))
     return _in_more_room(lambda room: _resolved_all(given, len(lent) // _NUMBERS, values, room), 2 * values + len(file) + 256)
@@ -500,9 +546,12 @@ def check(
     """What `bib check` finds in a file, in its order. The strings are other files, each with its name, that lend their
     @string definitions; the file's own name is said where one of those is at fault. Without resolve, what only resolving
     refuses is left out. The values of the file may come to so many bytes as the limit says."""
-    file, lent = _bytes(file), [(lender.encode(), _bytes(text)) for lender, text in strings]
+    file, lent = _bytes(file), [(_text(lender), _bytes(text)) for lender, text in _pairs(strings, "strings")]
     lenders = (_Lender * len(lent))(*(_Lender(lender, text, len(text)) for lender, text in lent))
-    options = _Options(name.encode(), lenders, len(lenders), limit, not resolve)
+    limit = _whole(limit, "limit")
+    if limit < 1:
+        raise ValueError("give a limit of one byte at least")
+    options = _Options(_text(name), lenders, len(lenders), min(limit, (1 << 64) - 1), 1 - _flag(resolve, "resolve"))
     found = []
 
     def say(_, finding) -> int:

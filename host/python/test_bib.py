@@ -38,12 +38,60 @@ class Reading(unittest.TestCase):
     def test_only_bytes(self):
         calls = [bib.read, bib.salvage, bib.unpack, lambda file: bib.resolve_file(file, (), ())]
         calls += [lambda file: bib.resolve_literal(file, 0, 0, False), lambda file: bib.resolve_field(file, (), 0, False)]
-        calls += [lambda text: bib.format_verbatim(text, ()), lambda text: bib.to_biblatex_string(text, (), False)]
+        calls += [lambda text: bib.format_verbatim(text, ()), lambda text: bib.to_biblatex_string(text, (), False), bib.check]
         for call in calls:
             for given in (5, "@a{k,}", None, [64]):
                 with self.assertRaisesRegex(TypeError, "give the bytes of a file, .* not " + type(given).__name__):
                     call(given)
-        self.assertEqual(bib.read(memoryview(b"@a{k,}")), bib.read(b"@a{k,}"))
+        for given in (memoryview(b"@a{k,}"), memoryview(b"@.a.{.k.,.}")[::2]):
+            self.assertEqual(bib.read(given), bib.read(b"@a{k,}"))
+
+    def test_only_rows(self):
+        """Rows of a wrong type, and rows of chunks for rows of a file, are no rows; rows of a wrong length are bad ones."""
+        rows, chunks = bib.read(b"@a{k,}"), bib.resolve_literal(b"x", 0, 1, False).chunks
+        for given in (5, "@a{", None, b"@a{k", [5], [None], ["abcd"], [(1, 0, 0, "5")], [(1, 0, 0, 5.0)], chunks):
+            calls = [bib.pack, lambda rows: bib.resolve_field(b"", rows, 0, False), lambda rows: bib.resolve_file(b"", rows, ())]
+            for call in calls:
+                with self.assertRaisesRegex(TypeError, "give Rows, or rows of 4 whole numbers: "):
+                    call(given)
+        for given in (5, "@a{", None, [5], [(0, 0, 0, 0, "0")], rows):
+            for call in (lambda rows: bib.format_verbatim(b"", rows), lambda rows: bib.to_biblatex_string(b"", rows, False)):
+                with self.assertRaisesRegex(TypeError, "give ChunkRows, or rows of 5 whole numbers: "):
+                    call(given)
+        with self.assertRaises(Refusal):
+            bib.pack([(9, 0, 0), (4, 10, 7, 4, 4)])
+        self.assertEqual(bib.Rows(rows.numbers), rows)
+        for given in (5, b"1234", rows.numbers[:3]):
+            with self.assertRaises(TypeError):
+                bib.Rows(given)
+
+    def test_other_arguments(self):
+        """Numbers are whole, what is true or false is one of the two, and what comes in pairs does."""
+        file = b"@a{k,t={x}}"
+        rows = bib.read(file)
+        for given in ("0", None, 1.0, b"0", [0]):
+            calls = [lambda: bib.resolve_literal(file, given, 9, False), lambda: bib.resolve_literal(file, 8, given, False)]
+            calls += [lambda: bib.resolve_field(file, rows, given, False), lambda: bib.check(file, limit=given)]
+            for call in calls:
+                with self.assertRaisesRegex(TypeError, "give a whole number as .*, not " + type(given).__name__):
+                    call()
+        for given in ("no", None, 2, [0]):
+            calls = [lambda: bib.resolve_literal(file, 8, 9, given), lambda: bib.to_biblatex_string(b"", (), given)]
+            calls += [lambda: bib.resolve_field(file, rows, 4, given), lambda: bib.resolve_file(file, rows, [given])]
+            for call in calls + [lambda: bib.check(file, resolve=given)]:
+                with self.assertRaisesRegex(TypeError, "give True or False as "):
+                    call()
+        for given in (5, None, "abab", ["ab"], [("a",)], [5], [("a", "b", "c")], [(5, b"")]):
+            calls = [lambda: bib.check(file, strings=given), lambda: bib.resolve_field(file, rows, 4, False, given)]
+            for call in calls + [lambda: bib.resolve_file(file, rows, [False], given)]:
+                with self.assertRaisesRegex(TypeError, "give (months as pairs|strings as pairs|a text, not int)"):
+                    call()
+        with self.assertRaisesRegex(TypeError, "give a text, not NoneType"):
+            bib.check(file, name=None)
+        for given in (0, -1):
+            with self.assertRaises(ValueError):
+                bib.check(file, limit=given)
+        self.assertEqual(bib.check(file, limit=1 << 70), ())
 
     def test_salvage(self):
         rows = bib.salvage(b"@a{\n@b{k,}")

@@ -8,6 +8,7 @@ import os
 import pathlib
 import platform
 import re
+import shutil
 import subprocess
 import tempfile
 import zipfile
@@ -28,17 +29,23 @@ def _archive():
     return archive
 
 
+def _run(words, **more):
+    if shutil.which(words[0]) is None:
+        raise SystemExit(f"{words[0]} is not on the PATH: the libraries are built by cargo and a C compiler")
+    subprocess.run(words, check=True, **more)
+
+
 def _shared_object():
     with tempfile.TemporaryDirectory() as folder:
         made = pathlib.Path(folder) / "libbib.so"
         words = ["-shared", "-Wl,-soname,libbib.so", "-Wl,--whole-archive", str(_archive()), "-Wl,--no-whole-archive", "-o", str(made)]
-        subprocess.run([os.environ.get("CC", "cc"), *words], check=True)
+        _run([os.environ.get("CC", "cc"), *words])
         return made.read_bytes()
 
 
 def _findings():
     host = HERE.parent
-    subprocess.run(["cargo", "build", "--release", "--quiet", "-p", "bibcheck"], cwd=host, check=True)
+    _run(["cargo", "build", "--release", "--quiet", "-p", "bibcheck"], cwd=host)
     return (pathlib.Path(os.environ.get("CARGO_TARGET_DIR", host / "target")) / "release/libbibcheck.so").read_bytes()
 
 
