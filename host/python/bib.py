@@ -18,7 +18,8 @@ It is of libbibcheck.so, which is not proved, and all else of libbib.so, which i
 
 A library is looked for when it is first called: in the folder that the variable KNURRAVOE_LIB names; then
 in `knurravoe` beside this file, where pip puts it; then in `lib` beside this file's folder and its
-parents, where host/install puts it, and in `target/release`, where cargo does; then where the system looks.
+parents, where host/install puts it, and in `target/release`, where cargo does; then in `~/.local/lib`, where
+host/install puts it unless it is told otherwise; then where the system looks.
 """
 
 import collections.abc
@@ -30,6 +31,7 @@ import mmap
 import operator
 import os
 import pathlib
+import site
 from typing import Iterable, NamedTuple, Optional, Tuple, Union
 
 __all__ = ["Chunk", "ChunkRow", "ChunkRows", "Finding", "Kind", "MONTHS", "MOST_BYTES", "MOST_LITERAL", "Refusal", "Resolved", "Row", "Rows"]
@@ -224,6 +226,7 @@ def _library(name: str) -> ctypes.CDLL:
     folders = [pathlib.Path(os.environ["KNURRAVOE_LIB"])] if "KNURRAVOE_LIB" in os.environ else []
     here = pathlib.Path(__file__).resolve().parent
     folders += [here / "knurravoe"] + [parent / folder for parent in here.parents for folder in ("lib", "target/release")]
+    folders += [pathlib.Path(site.getuserbase(), "lib")]
     for folder in folders:
         if (folder / f"lib{name}.so").is_file():
             return ctypes.CDLL(str(folder / f"lib{name}.so"))
