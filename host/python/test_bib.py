@@ -310,6 +310,12 @@ class Words(unittest.TestCase):
         for kind in [*Kind, *Chunk]:
             self.assertRegex(header.read_text(), rf"\bBIB_{kind.name} = {kind.value}\b")
 
+    def test_version(self):
+        """What pip installs has the header's version."""
+        root = pathlib.Path(__file__).resolve().parents[2]
+        version = re.search(r'^version = "(.*)"$', (root / "host/python/pyproject.toml").read_text(), re.M)[1]
+        self.assertIn(f'#define BIB_VERSION "{version}"', (root / "include/bib.h").read_text())
+
     def test_as_the_rust_has_them(self):
         """The words for refusals are those of host/bib."""
         source = (pathlib.Path(__file__).resolve().parents[1] / "bib/src/refusal.rs").read_text()
