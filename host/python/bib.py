@@ -8,8 +8,7 @@
 Rows are a sequence whose items are tuples of kind, detail, start and end; start and end are bytes of
 the file. They are kept as numbers, four a row, which `rows.numbers` lends out. What is refused raises
 `Refusal`, with the number and the place; an argument of a wrong type, as a file that is not bytes, raises
-`TypeError`. What `bib check`
-finds in a file, `check` gives:
+`TypeError`. What `bib check` finds in a file, `check` gives:
 
     for finding in bib.check(open("mine.bib", "rb").read()):
         print(finding.line, finding.level, finding.message, finding.hint)

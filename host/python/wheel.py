@@ -22,8 +22,10 @@ def _version():
 
 
 def _archive():
-    folder = os.environ.get("KNURRAVOE_LIB") or HERE.parents[1] / "lib" / platform.machine()
-    archive = pathlib.Path(folder) / "libbib.a"
+    root, folder = HERE.parents[1], os.environ.get("KNURRAVOE_LIB")
+    if not folder and subprocess.run([root / "host/sources", "--kept"]).returncode != 0:
+        raise SystemExit("the sources of the library are not those that lib/ was made of: ./bib prove proves them and makes it anew")
+    archive = pathlib.Path(folder or root / "lib" / platform.machine()) / "libbib.a"
     if not archive.is_file():
         raise SystemExit(f"there is no {archive}: the library is in lib/ for x86-64 and Arm, or KNURRAVOE_LIB names its folder")
     return archive
