@@ -11,7 +11,7 @@ use crate::{Kind, Reason, Refusal, Row, Rows};
 
 /// An encoding that is guessed from bytes.
 enum Guess {
-    /// With the name that `iconv` has for it.
+    /// With the name that `iconv` has for it; UTF-32 has zeros too.
     Utf16(&'static str),
     Iso2022Jp,
     Other(Letters),
@@ -76,13 +76,23 @@ fn is_not_utf8(cause: Row) -> bool {
 /// By the byte order mark, or by many zeros: the name that `iconv` has for it. By its name alone it would
 /// take a text without a mark for one of the machine's own order.
 fn utf16(file: &[u8]) -> Option<&'static str> {
+    if file.starts_with(b"\xff\xfe\0\0") || file.starts_with(b"\0\0\xfe\xff") {
+        return Some("UTF-32");
+    }
     if file.starts_with(b"\xff\xfe") || file.starts_with(b"\xfe\xff") {
         return Some("UTF-16");
     }
     let few = &file[..file.len().min(4096)];
     let zeros = |from: usize| few.iter().skip(from).step_by(2).filter(|byte| **byte == 0);
     let (even, odd) = (zeros(0).count(), zeros(1).count());
-    let name = if even > odd { "UTF-16BE" } else { "UTF-16LE" };
+    // Of four bytes for each letter of ASCII three are zeros, of two one.
+    let is_wide = (even + odd) * 8 > few.len() * 5;
+    let name = match (is_wide, even > odd) {
+        (true, _) if few.starts_with(b"\0\0") => "UTF-32BE",
+        (true, _) => "UTF-32LE",
+        (false, true) => "UTF-16BE",
+        (false, false) => "UTF-16LE",
+    };
     ((even + odd) * 4 > few.len()).then_some(name)
 }
 
