@@ -65,7 +65,7 @@ impl<E, S: FnMut(&Finding, &Lines) -> Result<(), E>> Checker<'_, S> {
     /// well. The one that begins at this place has been named.
     fn lost_with_it(&mut self, piece: Row, cause: Row, named: usize) -> Result<(), Stop<E>> {
         if self.encoding.is_utf16() {
-            return self.lost_in_utf16(piece, cause);
+            return self.lost_in_utf16(piece, cause, named);
         }
         let mut hint = Some(OWN_LINE.to_string());
         for head in Heads::of(self.file, piece.span()) {
@@ -79,8 +79,9 @@ impl<E, S: FnMut(&Finding, &Lines) -> Result<(), E>> Checker<'_, S> {
         Ok(())
     }
 
-    /// The same where a zero stands between the characters: the entries are found without these.
-    fn lost_in_utf16(&mut self, piece: Row, cause: Row) -> Result<(), Stop<E>> {
+    /// The same where a zero stands between the characters: the entries are found without these. Where none
+    /// does, in a part of the file, the first was named.
+    fn lost_in_utf16(&mut self, piece: Row, cause: Row, named: usize) -> Result<(), Stop<E>> {
         let mut text = Vec::new();
         text.try_reserve_exact(piece.end - piece.start)?;
         let bytes = piece.span().filter(|place| self.file[*place] != 0);
@@ -90,6 +91,9 @@ impl<E, S: FnMut(&Finding, &Lines) -> Result<(), E>> Checker<'_, S> {
             self.damaged += 1;
             let at = places.nth(head.at - passed).unwrap_or(piece.start);
             passed = head.at + 1;
+            if at == named && self.file.get(at + 1) != Some(&0) {
+                continue;
+            }
             let key = head.key.map(|key| &text[key]);
             let finding = self.lost_entry(at, key, cause)?;
             self.say(finding)?;
