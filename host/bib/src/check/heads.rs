@@ -4,6 +4,7 @@
 use std::ops::Range;
 
 use super::cursor::Cursor;
+use super::misspelt::is_type;
 use super::text::without_blanks;
 use super::trace::{is_other, Stage, Trace};
 
@@ -79,8 +80,17 @@ impl Iterator for Heads<'_> {
     }
 }
 
+/// A type, and what stands behind it where another bracket is taken for a part of its name: `article[k`.
+pub(crate) fn divided(kind: &[u8]) -> (&[u8], &[u8]) {
+    let bracket = kind.iter().position(|byte| matches!(byte, b'[' | b'<'));
+    match bracket {
+        Some(place) => (&kind[..place], &kind[place + 1..]),
+        None => (kind, b""),
+    }
+}
+
 /// The entry that begins with the "@" of this text, though its type or its brace may be missing: then a
-/// comma must follow the key, since an "@" may stand in running text.
+/// comma must follow the key, unless the type is known, since an "@" may stand in running text.
 pub(crate) fn head_at(file: &[u8], text: Range<usize>) -> Option<Head> {
     let at = text.start;
     let mut cursor = Cursor::new(file, text);
@@ -95,14 +105,22 @@ pub(crate) fn head_at(file: &[u8], text: Range<usize>) -> Option<Head> {
     {
         return None;
     }
+    let (name, rest) = divided(kind.as_ref().map_or(b"", |kind| &file[kind.clone()]));
+    let is_typed = is_type(name);
+    if is_typed && !rest.is_empty() {
+        cursor.place -= rest.len();
+    }
     cursor.white();
     // The reader takes a quotation mark for a brace.
     let is_open = cursor.eat(b'{') || cursor.eat(b'"');
     let is_begun = is_open || cursor.eat(b'(') || begins_line(file, at);
     cursor.white();
     let key = cursor.key();
+    let is_ended = cursor.peek().is_none_or(|byte| byte.is_ascii_whitespace());
     cursor.white();
-    let is_key = !key.is_empty() && cursor.peek() == Some(b',');
+    let is_comma = cursor.peek() == Some(b',');
+    // The comma may be missing with the brace.
+    let is_key = !key.is_empty() && (is_comma || !is_open && is_typed && is_ended);
     let is_entry = is_open && kind.is_some() || is_begun && is_key;
     is_entry.then(|| Head {
         at,
@@ -138,6 +156,9 @@ mod tests {
         assert_eq!(keys("@{k, t = 1}"), ["k"]);
         assert_eq!(keys("@ book{k, t = 1}"), ["k"]);
         assert_eq!(keys("@article a14,\n t = 1}"), ["a14"]);
+        assert_eq!(keys("@article a14\n t = 1}"), ["a14"]);
+        assert_eq!(keys("@article[a14, t = 1]"), ["a14"]);
+        assert_eq!(keys("@Book<a14,\n t = 1>"), ["a14"]);
         assert_eq!(keys("@a{, t = }"), ["-"]);
         assert_eq!(keys("@a{k"), ["-"]);
     }
@@ -145,6 +166,8 @@ mod tests {
     #[test]
     fn what_is_no_entry() {
         assert_eq!(keys("mail me@home, please"), [""; 0]);
+        assert_eq!(keys("@home we\n"), [""; 0]);
+        assert_eq!(keys("@home[we\n"), [""; 0]);
         assert_eq!(keys("@"), [""; 0]);
         assert_eq!(keys("@string{a = }\n @comment{x}"), [""; 0]);
         assert_eq!(keys("@a{k, t = {mail me @home\n @work} u}"), ["k"]);

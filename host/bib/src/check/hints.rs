@@ -4,7 +4,8 @@
 use super::cursor::Cursor;
 use super::damage::{subject, Story};
 use super::entries::is_odd;
-use super::heads::head_at;
+use super::heads::{divided, head_at};
+use super::lists::is_name_list;
 use super::text::{is_conflict, is_typographic, quoted, without_blanks, CONFLICT, TYPOGRAPHIC};
 use super::trace::{Form, Part, Stage};
 use crate::Reason;
@@ -35,9 +36,33 @@ impl Story<'_> {
         self.trace.next_byte()
     }
 
-    /// Whether the text goes on with this.
-    fn is_next(&self, text: &[u8]) -> bool {
-        self.file[self.place..].starts_with(text)
+    /// A list of names of which each has its own braces or quotation marks, as `"A" and "B"`.
+    fn names_apart(&self, form: Form) -> Hint {
+        let rest = &self.file[self.place..];
+        let word = rest.iter().take_while(|byte| byte.is_ascii_alphabetic());
+        let word = &rest[..word.count()];
+        let length = match word {
+            [] => rest.iter().take_while(|b| b"&;,".contains(b)).count(),
+            _ if word.eq_ignore_ascii_case(b"and") => 3,
+            _ => return None,
+        };
+        let next = rest[length..].trim_ascii_start().first();
+        let written = match form {
+            Form::Quoted => "\"A and B\"",
+            _ => "{A and B}",
+        };
+        matches!(next, Some(b'"' | b'{'))
+            .then(|| format!("a list of names is one value: write {written}"))
+    }
+
+    /// Whether the text goes on with another mark where a comma should stand before the next field.
+    fn is_other_mark(&self) -> bool {
+        let mut cursor = Cursor::new(self.file, self.place + 1..self.file.len());
+        cursor.white();
+        let is_mark = matches!(self.next(), Some(b';' | b'.' | b':'));
+        let is_word = is_mark && cursor.ident().is_some();
+        cursor.white();
+        is_word && cursor.peek() == Some(b'=')
     }
 
     /// A line that a merge left.
@@ -134,15 +159,23 @@ impl Story<'_> {
 
     /// `@article a14,` or `@ article{a14,`: what it should have been.
     fn no_opening(&self) -> Hint {
+        if self.trace.stage == Stage::Type {
+            let mut cursor = Cursor::new(self.file, self.trace.at + 1..self.file.len());
+            cursor.white();
+            return match self.next()? {
+                b'@' => some("there is an \"@\" too many"),
+                _ if self.place < cursor.place && cursor.ident().is_some() => {
+                    some("no blank stands between the \"@\" and the type")
+                }
+                _ => None,
+            };
+        }
         let head = head_at(self.file, self.trace.at..self.file.len())?;
         let key = quoted(&self.file[head.key?]);
-        if self.trace.stage == Stage::Type {
-            let is_blank = self.next().is_some_and(|byte| byte.is_ascii_whitespace());
-            return is_blank.then(|| "no blank stands between the \"@\" and the type".into());
-        }
-        let kind = quoted(self.trace.text(&self.trace.kind));
+        let (kind, _) = divided(self.trace.text(&self.trace.kind));
         Some(format!(
-            "a brace is missing behind the type: write `@{kind}{{{key},`"
+            "a brace is missing behind the type: write `@{}{{{key},`",
+            quoted(kind)
         ))
     }
 
@@ -161,6 +194,14 @@ impl Story<'_> {
     fn key_comma(&self) -> Hint {
         let key = self.trace.key.as_ref()?;
         let shown = quoted(self.trace.text(key));
+        if self.next() == Some(b'}') && shown.contains('{') {
+            return some("a key stands without braces around it, or in it");
+        }
+        if let Some(shown) = shown.strip_suffix(';') {
+            return Some(format!(
+                "a comma stands behind a key, and no semicolon: write `{shown},`"
+            ));
+        }
         if self.next() == Some(b'}') {
             return Some(format!(
                 "BibTeX takes an entry without fields so, but this reader wants a comma: write `{{{shown},}}`"
@@ -184,6 +225,11 @@ impl Story<'_> {
             b'@' => self.not_closed_before(),
             b',' => some("there is a comma too many"),
             b'=' => some("the field has no name"),
+            b'"' | b'{' => {
+                let field = self.trace.text(self.trace.field.as_ref()?);
+                let form = self.trace.part.as_ref()?.form;
+                is_name_list(field).then(|| self.names_apart(form))?
+            }
             _ => None,
         }
     }
@@ -250,12 +296,20 @@ impl Story<'_> {
                 "BibTeX takes a quotation mark inside braces inside quotation marks, but this reader ends the value there: write the value in braces",
             );
         }
-        if self.is_on_later_line(part.span.end) || self.is_field_next() {
-            let field = quoted(self.trace.text(self.trace.field.as_ref()?));
-            return Some(format!("a comma is missing behind the value of `{field}`"));
+        if matches!(part.form, Form::Quoted | Form::Braced) {
+            if let Some(hint) = self.names_apart(part.form) {
+                return Some(hint);
+            }
         }
-        if part.form == Form::Quoted && self.is_next(b"and ") {
-            return some("a list of names is one value: write \"A and B\"");
+        let field = quoted(self.trace.text(self.trace.field.as_ref()?));
+        if self.is_other_mark() {
+            let mark = self.next()? as char;
+            return Some(format!(
+                "a comma stands behind the value of `{field}`, and no `{mark}`"
+            ));
+        }
+        if self.is_on_later_line(part.span.end) || self.is_field_next() {
+            return Some(format!("a comma is missing behind the value of `{field}`"));
         }
         match part.form {
             Form::Number | Form::Name => self.in_braces(part),

@@ -12,11 +12,29 @@ static OTHER_TYPE_NAMES: List<{ OTHER_TYPES.len() }> = List::of(&OTHER_TYPES);
 static FIELD_NAMES: List<{ FIELDS.len() }> = List::of(&FIELDS);
 static OTHER_FIELD_NAMES: List<{ OTHER_FIELDS.len() }> = List::of(&OTHER_FIELDS);
 
+/// Whether a type is one of BibLaTeX or BibTeX.
+pub(crate) fn is_type(name: &[u8]) -> bool {
+    Small::of(name).is_some_and(|small| TYPE_NAMES.place(&small).is_some())
+}
+
 /// The type that this one may mean, if it is not known itself.
 pub(crate) fn meant_type(name: &[u8]) -> Option<&'static str> {
     let small = Small::of(name)?;
     let is_known = TYPE_NAMES.place(&small).or(OTHER_TYPE_NAMES.place(&small));
-    is_known.is_none().then(|| TYPE_NAMES.near(&small))?
+    let is_slip = |known: &&str| known.len() == 4 && is_letter_more_or_less(&small, known);
+    let near = || {
+        let of_four = || TYPES.into_iter().find(is_slip);
+        TYPE_NAMES.near(&small).or_else(of_four)
+    };
+    is_known.is_none().then(near)?
+}
+
+/// Whether a type has a letter of a known one twice, or not at all: few invent such types.
+fn is_letter_more_or_less(small: &Small, known: &str) -> bool {
+    let (name, known) = (small.text(), known.as_bytes());
+    let letters = letters_of(known);
+    let is_of_it = small.letters & !letters == 0 && name[0] == known[0];
+    is_of_it && name.len().abs_diff(known.len()) == 1 && distance(name, known) == 1
 }
 
 /// The field that this one may mean, if it is not known itself.
@@ -25,7 +43,19 @@ pub(crate) fn meant_field(name: &[u8]) -> Option<&'static str> {
     let is_known = FIELD_NAMES
         .place(&small)
         .or_else(|| OTHER_FIELD_NAMES.place(&small));
-    is_known.is_none().then(|| FIELD_NAMES.near(&small))?
+    is_known
+        .is_none()
+        .then(|| FIELD_NAMES.near(&small).or_else(|| exchanged(&small)))?
+}
+
+/// A short field of which two letters are exchanged.
+fn exchanged(small: &Small) -> Option<&'static str> {
+    let is_exchanged = |known: &&str| {
+        let (name, known) = (small.text(), known.as_bytes());
+        let is_same = name.len() == known.len() && small.letters == letters_of(known);
+        is_same && distance(name, known) == 1
+    };
+    ["date", "doi", "url"].into_iter().find(is_exchanged)
 }
 
 /// A name in small letters. Digits and hyphens are put to a name on purpose, as in `note-2`.
@@ -174,6 +204,9 @@ mod tests {
             ("PUBLIHSER", "publisher"),
             ("organisation", "organization"),
             ("howpubished", "howpublished"),
+            ("dtae", "date"),
+            ("ulr", "url"),
+            ("dio", "doi"),
         ] {
             assert_eq!(field(name), Some(known), "{name}");
         }
@@ -182,6 +215,9 @@ mod tests {
             ("artcle", "article"),
             ("inproceeding", "inproceedings"),
             ("bokk", "book"),
+            ("boook", "book"),
+            ("bok", "book"),
+            ("mis", "misc"),
             ("msic", "misc"),
             ("masterthesis", "mastersthesis"),
         ] {

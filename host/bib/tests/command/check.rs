@@ -447,3 +447,22 @@ fn names_of_files() {
         "bib: cannot read no\\u{1b}such: no such file or directory\n",
     );
 }
+
+/// An entry is counted though its brace is missing, or another bracket stands for it.
+#[test]
+fn entries_without_a_brace() {
+    for file in [
+        "@article a14\n  title = {T}\n}\n",
+        "@article[a14, title = {T}]\n",
+    ] {
+        let run = bib(&["check"], file.as_bytes());
+        let text = run.text();
+        let hint = "  hint: a brace is missing behind the type: write `@article{a14,`\n";
+        assert!(text.contains(hint), "{text}");
+        let last = "\n0 entries sound, 1 damaged, 1 error, 0 warnings\n";
+        assert!(text.ends_with(last), "{text}");
+        let run = bib(&["write"], file.as_bytes());
+        let last = "<stdin>: 0 entries written, 0 changed, 1 left out: a14 (line 1)\n";
+        assert!(run.err.ends_with(last), "{}", run.err);
+    }
+}
