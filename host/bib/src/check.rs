@@ -187,6 +187,7 @@ pub fn check_reading<E>(
         has_said: false,
         is_of_entry: false,
         last_key: None,
+        is_in_conflict: false,
         standings: Vec::new(),
         damaged: 0,
         say,
@@ -337,6 +338,8 @@ pub(crate) struct Checker<'a, S> {
     is_of_entry: bool,
     /// Its key, unless that is empty.
     last_key: Option<Range<usize>>,
+    /// The first of two versions that a merge left has begun.
+    is_in_conflict: bool,
     standings: Vec<Standing>,
     /// How many entries the damaged pieces have so far.
     damaged: usize,

@@ -43,9 +43,36 @@ fn lints_outside() {
         "1:1",
         "some {words, here}\n@book{k, title = {T}}",
     );
+    for (lost, place) in [
+        ("@book{k, title = {T}}\n  month = jan\n}", "2:3"),
+        (
+            "@book{k, title = {T}}\n  author =\n    {A. Author}\n}",
+            "2:3",
+        ),
+        ("@book{k, title = {T}};\n  author = {A. Author}\n}", "2:3"),
+        ("@book{k, title = {T}}.\n  author = {A. Author}\n}", "2:3"),
+    ] {
+        lint(Lint::FieldOutside, lost, place, prose);
+    }
+    lint(
+        Lint::EntryOutside,
+        "@book{k, title = {T}}\n{knuth84, title = {T}}",
+        "2:1",
+        "@book{k, title = {T}}\n{some, words}",
+    );
     let conflict = "<<<<<<< HEAD\n@book{k, a = 1}\n=======\n@book{l, a = 2}\n>>>>>>> mine\n";
     let line = "<<<<<<<<< not one\n <<<<<<< nor this\n% <<<<<<< HEAD\n=======\n@book{k, a = 1}";
     lint(Lint::MergeConflict, conflict, "1:1", line);
+    let inside = "@book{k, title = {A\n<<<<<<< HEAD\nB\n=======\nC\n>>>>>>> mine\n}}";
+    lint(
+        Lint::MergeConflict,
+        inside,
+        "2:1",
+        "@book{k, title = {A\n>> B}}",
+    );
+    // Someone has taken out the first line alone.
+    let rest = "@book{k, a = 1}\n=======\n@book{l, a = 2}\n>>>>>>> mine\n";
+    lint(Lint::MergeConflict, rest, "4:1", line);
     lint(Lint::NoEntries, "to be done", "1:1", " \n\t");
     assert_eq!(lints("@string{a = 1}"), []);
     assert_eq!(lints("@preamble{\"x\"}"), []);
@@ -78,10 +105,14 @@ fn lints_of_keys() {
         "1:7",
         "@book{abnt-doi=link, title = {T}}",
     );
-    for key in ["{k", "\"k\"", "k;"] {
+    let odd = [
+        "{k", "\"k\"", "k;", "k{", "a{b", "k\"", "'k'", "`k'", "“k”", "‘k’", ";k",
+    ];
+    for key in odd {
         let file = format!("@book{{{key}, title = {{T}}}}");
         lint(Lint::OddKey, &file, "1:7", "@book{k:1, title = {T}}");
     }
+    assert_eq!(lints("@book{O'Neil;a:d’Alembert, title = {T}}"), []);
     assert_eq!(
         findings(b"@book{{k, title = {T}}}")[0].1.message,
         "the key {k has a brace in it"
@@ -139,6 +170,19 @@ fn lints_of_lists() {
         "1:41",
         "@book{k, author = {Knuth, Donald E. and others}, note = {Knuth et al.}}",
     );
+    for (lint_, names) in [
+        (Lint::EtAl, "Knuth and {et al.}"),
+        (Lint::EtAl, "Knuth and \\emph{et al.}"),
+        (Lint::EtAl, "Knuth and et~al."),
+        (Lint::NameSeparator, "A. Author;B. Writer"),
+        (Lint::NameSeparator, "A. Author\\&B. Writer"),
+        (Lint::NameSeparator, "Donald E. Knuth, Leslie Lamport"),
+        (Lint::NameSeparator, "Knuth DE, Lamport L"),
+    ] {
+        let file = format!("@book{{k, author = {{{names}}}}}");
+        let found: Vec<Lint> = lints(&file).into_iter().map(|(lint, _)| lint).collect();
+        assert_eq!(found, [lint_], "{names}");
+    }
 }
 
 #[test]
@@ -380,6 +424,31 @@ fn lints_of_what_cannot_be() {
         empty,
         "@book{k, author = {}, editor = {E}, title = {{}}, note = {}}",
     );
+    // Nobody stands for the author.
+    assert_eq!(
+        lints("@book{k, author = {}, editor = {}, title = {T}}"),
+        [(Lint::EmptyField, "1:20".into())]
+    );
+    said(
+        Lint::OddDate,
+        "@book{k, year = 3021}",
+        (
+            "1:17",
+            "the year 3021 is not to be for long",
+            "write the year that is meant",
+        ),
+        "@book{k, year = 2567}@book{l, year = 5784}@book{m, year = 800}",
+    );
+    said(
+        Lint::OddPages,
+        "@article{k, pages = {S269--S268}}",
+        (
+            "1:22",
+            "the pages S269--S268 end before they begin",
+            "write the smaller number first",
+        ),
+        "@article{k, pages = {24--5}}@article{l, pages = {S12--S15}}",
+    );
     said(
         Lint::OddDate,
         "@book{k, year = {20144}}",
@@ -508,7 +577,7 @@ fn hints(file: &str) -> Vec<String> {
 }
 
 /// A hint, a file that it is for, and one like it where it must not appear.
-const HINTS: [(&str, &str, &str); 57] = [
+const HINTS: [(&str, &str, &str); 67] = [
     (
         "the entry has no key: write `@article{KEY,` before its first field",
         "@article{\n  author = {A},\n}",
@@ -761,7 +830,7 @@ const HINTS: [(&str, &str, &str); 57] = [
     (
         "a brace is missing behind the type: write `@article{a14,`",
         "@article a14,\n  title = {T}\n}",
-        "@article a14\n  title = {T}\n}",
+        "@work a14\n  title = {T}\n}",
     ),
     (
         "no blank stands between the \"@\" and the type",
@@ -772,6 +841,56 @@ const HINTS: [(&str, &str, &str); 57] = [
         "this line was left by a merge: keep one of the two versions, and take the lines of `<`, `=` and `>` out",
         "@book{k,\n<<<<<<< HEAD\n  year = 1,\n=======\n  year = 2,\n>>>>>>> mine\n}",
         "@book{k,\n<<< HEAD\n  year = 1,\n}",
+    ),
+    (
+        "a list of names is one value: write {A and B}",
+        "@book{k, author = {A} and {B}}",
+        "@book{k, author = {A} und {B}}",
+    ),
+    (
+        "a list of names is one value: write \"A and B\"",
+        "@book{k,\n  author = \"A\"\n  AND \"B\"}",
+        "@book{k, author = \"A\" or \"B\"}",
+    ),
+    (
+        "a list of names is one value: write \"A and B\"",
+        "@book{k, author = \"A\", \"B\"}",
+        "@book{k, title = \"A\", \"B\"}",
+    ),
+    (
+        "a comma stands behind the value of `title`, and no `;`",
+        "@book{k, title = {T}; year = 1997}",
+        "@book{k, title = {T}; 1997}",
+    ),
+    (
+        "a comma stands behind a key, and no semicolon: write `k,`",
+        "@book{k;\n  title = {T}}",
+        "@book{k\n  title = {T}}",
+    ),
+    (
+        "a key stands without braces around it, or in it",
+        "@book{{k}, title = {T}}",
+        "@book{k}",
+    ),
+    (
+        "there is an \"@\" too many",
+        "@@book{k, title = {T}}",
+        "@ book{k, title = {T}}",
+    ),
+    (
+        "no blank stands between the \"@\" and the type",
+        "@ string{a = 1}",
+        "@(a = 1)",
+    ),
+    (
+        "a brace is missing behind the type: write `@article{a14,`",
+        "@article[a14, title = {T}]",
+        "@home[a14 title = {T}]",
+    ),
+    (
+        "a brace is missing behind the type: write `@article{a14,`",
+        "@article a14\n  title = {T}\n}",
+        "@home a14\n  title = {T}\n}",
     ),
     (
         "the value has escape sequences: the file may be ISO-2022-JP",

@@ -92,8 +92,12 @@ fn is_usual(letter: char, sign: char) -> bool {
 pub(crate) fn entity(text: &[u8], place: usize) -> Option<Finding> {
     let mut from = 0;
     loop {
-        let at = from + text[from..].iter().position(|byte| *byte == b'&')?;
+        let mut at = from + text[from..].iter().position(|byte| *byte == b'&')?;
         from = at + 1;
+        // Programs put braces around the `&` of an entity that they do not know: `{\&}amp;`.
+        if text[..at].ends_with(b"{\\") && text.get(from) == Some(&b'}') {
+            (at, from) = (at - 2, from + 1);
+        }
         // The longest have eight letters, or a number of seven digits.
         let few = &text[from..text.len().min(from + 10)];
         let Some(length) = few.iter().position(|byte| *byte == b';') else {

@@ -32,7 +32,8 @@ fn names(text: &[u8]) -> impl Iterator<Item = Range<usize>> + '_ {
 }
 
 /// The comma in what is taken for one name that divides two. Four parts are too many for one; of three, none is
-/// a `Jr.` and each has several words; two are both like `D. E. Knuth`.
+/// a `Jr.` and each has several words; of two the first is like `D. E. Knuth` or `Donald E. Knuth`, and the
+/// second a whole name too, or both are like `Knuth DE`.
 fn comma_of(text: &[u8], name: Range<usize>) -> Option<usize> {
     // BibLaTeX takes `family=Knuth, given=Donald`.
     if text[name.clone()].contains(&b'=') {
@@ -63,9 +64,10 @@ fn comma_of(text: &[u8], name: Range<usize>) -> Option<usize> {
             parts.iter().all(is_full).then_some(one)
         }
         1 => {
-            let parts = [name.start..one, one + 1..name.end];
-            let is_full = |part: &Range<usize>| is_short_and_last(&text[part.clone()]);
-            parts.iter().all(is_full).then_some(one)
+            let [first, last] = [&text[name.start..one], &text[one + 1..name.end]];
+            let is_first_last = is_short_and_last(first) && is_long(last) && is_last_word(last);
+            let is_last_first = is_last_and_short(first) && is_last_and_short(last);
+            (is_first_last || is_last_first).then_some(one)
         }
         _ => None,
     }
@@ -87,12 +89,27 @@ fn is_long(text: &[u8]) -> bool {
     parts(text).count() > 1 && parts(text).any(is_word) && !parts(text).any(is_junior)
 }
 
-/// Whether a part of a name is like `D. E. Knuth`.
+/// Whether a part of a name is like `D. E. Knuth`, or `Donald E. Knuth`.
 fn is_short_and_last(text: &[u8]) -> bool {
-    parts(text).next().is_some_and(is_initial)
-        && parts(text)
-            .next_back()
-            .is_some_and(|last| is_word(last) && !is_junior(last))
+    let count = parts(text).count();
+    let mut first = parts(text).take(count.saturating_sub(1));
+    first.any(is_initial) && is_last_word(text)
+}
+
+/// Whether a part of a name ends with a word that may be a family's.
+fn is_last_word(text: &[u8]) -> bool {
+    parts(text)
+        .next_back()
+        .is_some_and(|last| is_word(last) && !is_junior(last))
+}
+
+/// Whether a part of a name is like `Knuth DE`, as some catalogues write it.
+fn is_last_and_short(text: &[u8]) -> bool {
+    let is_letters = |word: &[u8]| word.len() < 4 && word.iter().all(u8::is_ascii_uppercase);
+    let last = parts(text).next_back();
+    parts(text).count() == 2
+        && parts(text).next().is_some_and(is_word)
+        && last.is_some_and(|last| is_letters(last) && !is_junior(last))
 }
 
 /// `D.`, `D.E.` or `J.-P.`
@@ -131,6 +148,9 @@ mod tests {
         );
         assert_eq!(at("Donald Knuth, Leslie Lamport, Ann Author"), Some(12));
         assert_eq!(at("A. Author and D. E. Knuth, L. Lamport"), Some(25));
+        assert_eq!(at("Donald E. Knuth, Leslie Lamport"), Some(15));
+        assert_eq!(at("D. E. Knuth, Leslie Lamport and A. Author"), Some(11));
+        assert_eq!(at("Knuth DE, Lamport L"), Some(8));
     }
 
     #[test]
@@ -148,6 +168,10 @@ mod tests {
             "{University of X}, {Dept. of Y}",
             "J. Smith, Jr.",
             "O. Henry, W.",
+            "Knuth DE, Donald",
+            "St. John, Mary Ann",
+            "Marquez G., Jose Maria",
+            "King MD, PhD",
             "Knuth, Donald E.,",
             "given=Martin, family=King, suffix=Jr., prefix=x",
         ] {

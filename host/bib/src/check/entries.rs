@@ -8,7 +8,7 @@ use super::items::Item;
 use super::lists::{is_name_list, wrong_names};
 use super::odd::Entry;
 use super::refs::{by_letters, is_alone};
-use super::text::{field_in_value, is_typographic, key_name, quoted, TYPOGRAPHIC};
+use super::text::{field_in_value, has_typographic, is_typographic, key_name, quoted, TYPOGRAPHIC};
 use super::{Checker, Stop};
 use crate::memory::push;
 use crate::{Kind, Refusal, Row, Rows};
@@ -292,13 +292,16 @@ pub(crate) fn is_odd(key: &[u8]) -> bool {
     key.starts_with(b"@") || equals.is_some_and(is_field)
 }
 
-/// What a key has in it that was surely not meant as a part of it: a brace, a quotation mark around it, or a
-/// semicolon in place of the comma.
+/// What a key has in it that was surely not meant as a part of it: a brace, a quotation mark, or a semicolon in
+/// place of the comma. Names have apostrophes, so that these count only around the whole key.
 fn odd_mark(key: &[u8]) -> Option<&'static str> {
-    match key {
-        [b'{', ..] => Some("brace"),
-        [b'"', ..] | [.., b'"'] => Some("quotation mark"),
-        [.., b';'] => Some("semicolon"),
-        _ => None,
+    if key.contains(&b'{') {
+        return Some("brace");
     }
+    let is_around = matches!(key, [b'\'' | b'`', .., b'\'' | b'`']);
+    if is_around || key.contains(&b'"') || has_typographic(key) {
+        return Some("quotation mark");
+    }
+    let is_end = matches!(key, [b';', ..] | [.., b';']);
+    is_end.then_some("semicolon")
 }

@@ -126,7 +126,7 @@ pub const LINTS: [About; 29] = [
     About {
         lint: Lint::MergeConflict,
         name: "merge-conflict",
-        meaning: "A line between entries begins with `<<<<<<<`: a merge left two versions of what follows.",
+        meaning: "A line between entries or in a value begins with `<<<<<<<`: a merge left two versions of what follows.",
         example: "<<<<<<< HEAD\n@book{k, title = {A}}\n=======\n@book{l, title = {B}}\n>>>>>>> mine",
     },
     About {
@@ -150,7 +150,7 @@ pub const LINTS: [About; 29] = [
     About {
         lint: Lint::OddKey,
         name: "odd-key",
-        meaning: "A key begins with \"@\", or reads like `year=1997`: the next entry, or a field, is taken for the key. Or it has a brace, a quotation mark or a semicolon at an end.",
+        meaning: "A key begins with \"@\", or reads like `year=1997`: the next entry, or a field, is taken for the key. Or it has a brace or a quotation mark in it, or a semicolon at an end.",
         example: "@book{year=1997, title = {T}}",
     },
     About {
@@ -270,7 +270,7 @@ pub const LINTS: [About; 29] = [
     About {
         lint: Lint::OddDate,
         name: "odd-date",
-        meaning: "A `year` has five digits or more, or a letter that looks like a digit; a `month` or a `date` has a month or a day that there is not.",
+        meaning: "A `year` is 0, has five digits or more, or a letter that looks like a digit, or is not to be for long; a `month` or a `date` has a month or a day that there is not.",
         example: "@book{k, title = {T}, year = {20144}}",
     },
     About {

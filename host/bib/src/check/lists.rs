@@ -42,7 +42,8 @@ pub(crate) fn wrong_names(text: &[u8], place: usize) -> Option<Finding> {
         let message = "`,` between two names is taken for a part of one";
         Some((place..place + 1, message))
     };
-    let (word, message) = separator(text).or_else(comma)?;
+    let inside = || separator_inside(text);
+    let (word, message) = separator(text).or_else(inside).or_else(comma)?;
     let hint = "write `and` between two names, and braces around one that has such a mark in it";
     let found = finding(Lint::NameSeparator, word, message);
     Some(found.with_hint(Some(hint.into())))
@@ -73,7 +74,8 @@ fn lone_and(text: &[u8]) -> Option<(usize, &'static str)> {
     Some((last.start, "the list of names ends with `and`"))
 }
 
-/// Where a list of names has `et al`, with or without a point, as words of their own.
+/// Where a list of names has `et al`, with or without a point, as words of their own; or as one, with a tie, in
+/// braces or in a command.
 fn et_al(text: &[u8]) -> Option<Range<usize>> {
     let is = |word: &Range<usize>, other: &str| {
         let word = text[word.clone()]
@@ -85,12 +87,35 @@ fn et_al(text: &[u8]) -> Option<Range<usize>> {
     };
     let mut before: Option<Range<usize>> = None;
     for word in words(text) {
+        if is_et_al(&text[word.clone()]) {
+            return Some(word);
+        }
         if let Some(et) = before.filter(|before| is(before, "et") && is(&word, "al")) {
             return Some(et.start..word.end);
         }
         before = Some(word);
     }
     None
+}
+
+/// Whether a word is `et~al.`, `{et al.}`, `\emph{et al.}` or the like.
+fn is_et_al(word: &[u8]) -> bool {
+    // The longest is `{\itshape et al.}`.
+    if !(4..20).contains(&word.len()) {
+        return false;
+    }
+    let is_mark =
+        |byte: &u8| matches!(byte, b'{' | b'}' | b'~' | b',') || byte.is_ascii_whitespace();
+    let parts = word.split(is_mark).filter(|part| !part.is_empty());
+    let mut parts = parts.filter(|part| !part.starts_with(b"\\"));
+    let is = |part: Option<&[u8]>, other: &str| {
+        let part = part.unwrap_or_default();
+        let part = part.strip_suffix(b".").unwrap_or(part);
+        part.eq_ignore_ascii_case(other.as_bytes())
+    };
+    let first = parts.next();
+    matches!(first, Some(b"etal" | b"etal."))
+        || is(first, "et") && is(parts.next(), "al") && parts.next().is_none()
 }
 
 /// Where a list of names has another mark than `and` between two of them, and what is said of it. A mark
@@ -111,6 +136,42 @@ fn separator(text: &[u8]) -> Option<(Range<usize>, &'static str)> {
         }
     }
     None
+}
+
+/// The same where no blank stands beside the mark: `A. Author;B. Writer`. What is no entity of HTML, and has names of
+/// three letters or more before and behind it, is none of a name.
+fn separator_inside(text: &[u8]) -> Option<(Range<usize>, &'static str)> {
+    let mut depth = 0usize;
+    for (place, byte) in text.iter().enumerate() {
+        match byte {
+            b'{' => depth += 1,
+            b'}' => depth = depth.saturating_sub(1),
+            b';' | b'&' if depth == 0 && is_between(text, place) => {
+                let message = match byte {
+                    b';' => "`;` between two names is taken for a part of one",
+                    _ => "`&` between two names is taken for a part of one",
+                };
+                return Some((place..place + 1, message));
+            }
+            _ => {}
+        }
+    }
+    None
+}
+
+/// Whether a mark stands directly between a whole name and a new one, with several words in all.
+fn is_between(text: &[u8], place: usize) -> bool {
+    let before = text[..place].strip_suffix(b"\\").unwrap_or(&text[..place]);
+    let is_letter = |byte: &&u8| byte.is_ascii_alphabetic() || !byte.is_ascii();
+    let letters = before.iter().rev().take_while(is_letter).count();
+    let is_initial = before.ends_with(b".");
+    let is_entity = before[..before.len() - letters].ends_with(b"&");
+    let is_next = text[place + 1..]
+        .first()
+        .is_some_and(|byte| byte.is_ascii_uppercase());
+    let few = &text[place + 1..text.len().min(place + 40)];
+    let is_several = few.iter().any(|byte| matches!(byte, b' ' | b',' | b'.'));
+    (letters > 2 || is_initial) && !is_entity && is_next && is_several
 }
 
 /// The words of a value, between the white space that stands outside braces.
@@ -152,7 +213,20 @@ mod tests {
         let at = |text: &str| et_al(text.as_bytes()).map(|word| word.start);
         assert_eq!(at("A. Author and et al."), Some(14));
         assert_eq!(at("A. Author et al"), Some(10));
+        assert_eq!(at("A. Author and {et al.}"), Some(14));
+        assert_eq!(at("A. Author and et~al."), Some(14));
+        assert_eq!(at("A. Author and \\emph{et al}"), Some(14));
+        assert_eq!(at("A. Author and {\\em et al.}"), Some(14));
+        assert_eq!(at("A. Author, etal."), Some(11));
         assert_eq!(at("Et Alii and Al Et"), None);
+        assert_eq!(at("{Et Al and Sons} and Etal, A."), None);
+        let at = |text: &str| separator_inside(text.as_bytes()).map(|(word, _)| word.start);
+        assert_eq!(at("A. Author;B. Writer"), Some(9));
+        assert_eq!(at("Author, A.;Writer, B."), Some(10));
+        assert_eq!(at("A. Author\\&B. Writer"), Some(10));
+        assert_eq!(at("AT\\&T and R&D"), None);
+        assert_eq!(at("Ren&eacute;Descartes, X"), None);
+        assert_eq!(at("{Author;B. Writer}"), None);
     }
 
     #[test]

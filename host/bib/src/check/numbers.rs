@@ -53,16 +53,26 @@ fn shown(text: &[u8]) -> String {
     String::from_utf8_lossy(text).into_owned()
 }
 
-/// Five digits or more, or a letter that looks like a digit among them.
+/// Zero, five digits or more, a letter that looks like a digit among them, or a year that no calendar has yet: the
+/// Buddhist one has 2,600 at most, and the Hebrew one more than 5,000.
 fn wrong_year(text: &[u8], span: Range<usize>) -> Option<Wrong> {
     let year = &text[span.clone()];
+    let hint = "a year has four digits";
+    match number(year) {
+        Some(0) => return Wrong::new(span, "there is no year 0".into(), hint),
+        Some(far @ 2600..5000) => {
+            let message = format!("the year {far} is not to be for long");
+            return Wrong::new(span, message, "write the year that is meant");
+        }
+        _ => {}
+    }
     if !(4..MOST).contains(&year.len()) {
         return None;
     }
     let digits = year.iter().filter(|byte| byte.is_ascii_digit()).count();
     if digits == year.len() && digits > 4 {
         let message = format!("the year {} has {digits} digits", shown(year));
-        return Wrong::new(span, message, "a year has four digits");
+        return Wrong::new(span, message, hint);
     }
     let is_like = |byte: &u8| matches!(byte, b'O' | b'o' | b'l' | b'I') || byte.is_ascii_digit();
     if year.len() == 4 && matches!(digits, 2 | 3) && year.iter().all(is_like) {
@@ -119,7 +129,29 @@ fn number(text: &[u8]) -> Option<u64> {
     text.parse().ok().filter(|_| is_number)
 }
 
-/// The first range of pages that ends before it begins. One whose end has fewer digits is shortened.
+/// Whether a range of pages ends before it begins. One whose end has fewer digits is shortened: its first digits
+/// are those of its beginning.
+fn is_backward(first: &[u8], last: &[u8]) -> bool {
+    let (Some(from), Some(to)) = (number(first), number(last)) else {
+        return false;
+    };
+    let kept = &first[..first.len().saturating_sub(last.len())];
+    to < from && number(&[kept, last].concat()) < Some(from)
+}
+
+/// Both ends without the letters that stand before each of them, as in `S10--S5`. An `e` numbers articles, and not
+/// pages.
+fn without_letters<'a>(first: &'a [u8], last: &'a [u8]) -> (&'a [u8], &'a [u8]) {
+    let count = first
+        .iter()
+        .take_while(|byte| byte.is_ascii_alphabetic())
+        .count();
+    let is_both = first.get(..count) == last.get(..count) && count < 3 && !first.starts_with(b"e");
+    let count = if is_both { count } else { 0 };
+    (&first[count..], &last[count..])
+}
+
+/// The first range of pages that ends before it begins.
 pub(crate) fn wrong_pages(text: &[u8]) -> Option<Wrong> {
     let mut place = 0;
     for range in text.split(|byte| matches!(byte, b',' | b';')) {
@@ -130,12 +162,11 @@ pub(crate) fn wrong_pages(text: &[u8]) -> Option<Wrong> {
         let Some((first, last)) = ends(range) else {
             continue;
         };
-        if let (Some(from), Some(to)) = (number(first), number(last)) {
-            if to < from && last.len() >= first.len() {
-                let message = format!("the pages {} end before they begin", shown(range));
-                let span = start + own.start..start + own.end;
-                return Wrong::new(span, message, "write the smaller number first");
-            }
+        let (first, last) = without_letters(first, last);
+        if is_backward(first, last) {
+            let message = format!("the pages {} end before they begin", shown(range));
+            let span = start + own.start..start + own.end;
+            return Wrong::new(span, message, "write the smaller number first");
         }
     }
     None
@@ -146,10 +177,12 @@ fn ends(range: &[u8]) -> Option<(&[u8], &[u8])> {
     if range.len() > 2 * MOST {
         return None;
     }
-    let digits = range.iter().take_while(|byte| byte.is_ascii_digit());
-    let (first, rest) = range.split_at(digits.count());
+    let word = range.iter().take_while(|byte| byte.is_ascii_alphanumeric());
+    let (first, rest) = range.split_at(word.count());
     let rest = rest.trim_ascii_start();
-    let behind = rest.trim_ascii_start().strip_prefix("–".as_bytes());
+    let behind = ["–", "—"]
+        .iter()
+        .find_map(|dash| rest.strip_prefix(dash.as_bytes()));
     let dashes = rest.iter().take_while(|byte| **byte == b'-').count();
     let last = match behind {
         Some(behind) => behind,
@@ -181,6 +214,8 @@ mod tests {
                 "l998",
                 "the year l998 has a letter among its digits",
             ),
+            ("year", "0", "there is no year 0"),
+            ("year", "3021", "the year 3021 is not to be for long"),
             ("month", "13", "there is no month 13"),
             ("month", "0", "there is no month 0"),
             ("date", "2014-13", "there is no month 13"),
@@ -241,6 +276,10 @@ mod tests {
         assert_eq!(of("1--5, {45 -- 12}"), Some("45 -- 12"));
         assert_eq!(of("450–120"), Some("450–120"));
         assert_eq!(of("99---10"), Some("99---10"));
+        assert_eq!(of("123--19"), Some("123--19"));
+        assert_eq!(of("1999--2"), Some("1999--2"));
+        assert_eq!(of("20—10"), Some("20—10"));
+        assert_eq!(of("S269--S268"), Some("S269--S268"));
         for text in [
             "",
             "12",
@@ -248,9 +287,12 @@ mod tests {
             "45--45",
             "123--9",
             "1234-56",
+            "24--5",
+            "800-6",
             "e12--e10",
+            "S12--10",
+            "A45--B12",
             "xv--xii",
-            "S45--S12",
             "45+",
             "45--",
             "--12",

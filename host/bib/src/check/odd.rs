@@ -21,6 +21,8 @@ pub(crate) struct Entry {
     pub key: Option<String>,
     /// The fields that it has, where that was asked.
     present: Option<Present>,
+    /// Whether others stand for its author, where that was asked.
+    has_others: Option<bool>,
 }
 
 impl Entry {
@@ -29,6 +31,7 @@ impl Entry {
             rows,
             key,
             present: None,
+            has_others: None,
         }
     }
 }
@@ -90,6 +93,25 @@ impl<E, S: FnMut(&Finding, &super::Lines) -> Result<(), E>> Checker<'_, S> {
         present.has(name)
     }
 
+    /// Whether an entry has a field that stands for its author, and is not empty.
+    fn has_others(&self, entry: &mut Entry) -> bool {
+        let is_other = |index: &usize| {
+            let row = self.rows.get(*index);
+            let name = row.filter(|row| row.kind == Kind::FieldName);
+            name.is_some_and(|name| {
+                let is =
+                    |other: &str| self.file[name.span()].eq_ignore_ascii_case(other.as_bytes());
+                is("editor") || is("organization") || is("institution")
+            })
+        };
+        // Behind its name stands the value, and then its first part.
+        let part = |index: usize| self.rows.get(index + 2);
+        let is_filled = |row: Row| !self.file[row.span()].trim_ascii().is_empty();
+        let mut all = entry.rows.clone().filter(is_other);
+        let has = &mut entry.has_others;
+        *has.get_or_insert_with(|| all.any(|index| part(index).is_some_and(is_filled)))
+    }
+
     /// Of a name all that is odd, of a text what another encoding left.
     fn odd_characters(&mut self, row: Row, is_name: bool, entry: &Entry) -> Result<(), Stop<E>> {
         let Ok(text) = std::str::from_utf8(&self.file[row.span()]) else {
@@ -115,6 +137,12 @@ impl<E, S: FnMut(&Finding, &super::Lines) -> Result<(), E>> Checker<'_, S> {
     ) -> Result<(), Stop<E>> {
         let text = &self.file[row.span()];
         let name = field.map_or(&b""[..], |field| &self.file[field.span()]);
+        if text
+            .windows(3)
+            .any(|three| three == b"\n<<" || three == b"\n>>")
+        {
+            self.conflicts(text, row.start)?;
+        }
         if !text.is_ascii() {
             let is_name = is_name_list(name) || is_reference(name);
             self.odd_characters(row, is_name, entry)?;
@@ -140,8 +168,7 @@ impl<E, S: FnMut(&Finding, &super::Lines) -> Result<(), E>> Checker<'_, S> {
         if !(is("author") || is("title")) || !text.trim_ascii().is_empty() {
             return None;
         }
-        let others = ["editor", "organization", "institution"];
-        if is("author") && others.iter().any(|other| self.has_field(other, entry)) {
+        if is("author") && self.has_others(entry) {
             return None;
         }
         let message = format!("the field `{}` is empty", quoted(field));

@@ -51,14 +51,20 @@ impl<E, S: FnMut(&Finding, &Lines) -> Result<(), E>> Checker<'_, S> {
         Ok(())
     }
 
-    /// Lines that a merge left before the first of two versions.
-    fn conflicts(&mut self, text: &[u8], mut place: usize) -> Result<(), Stop<E>> {
+    /// Lines that a merge left before the first of two versions; or behind the second, where someone has
+    /// taken out the others.
+    pub(crate) fn conflicts(&mut self, text: &[u8], mut place: usize) -> Result<(), Stop<E>> {
         for line in text.split_inclusive(|byte| *byte == b'\n') {
             let is_whole = place == 0 || self.file[place - 1] == b'\n';
-            if is_whole && line.starts_with(b"<") && is_conflict(line.trim_ascii_end()) {
-                let message = "two versions that a merge left".to_string();
-                let finding = Finding::lint(Lint::MergeConflict, place, place + 7, message);
-                self.say(finding.with_hint(Some(CONFLICT.into())))?;
+            if is_whole && is_conflict(line.trim_ascii_end()) && line[0] != b'=' {
+                let is_begin = line.starts_with(b"<");
+                if is_begin || !self.is_in_conflict {
+                    let message = "two versions that a merge left".to_string();
+                    let finding = Finding::lint(Lint::MergeConflict, place, place + 7, message);
+                    self.say(finding.with_hint(Some(CONFLICT.into())))?;
+                }
+                // What stands between two versions has the mark of the first before it.
+                self.is_in_conflict = !line.starts_with(b">");
             }
             place += line.len();
         }
@@ -158,7 +164,7 @@ impl Behind {
     fn lost_fields(&mut self, text: &[u8], place: usize) -> Option<Finding> {
         let mut names = fields_outside(text).peekable();
         let first = names.peek().map_or(text.len(), |first| first.start);
-        let is_between = |byte: &u8| byte.is_ascii_whitespace() || matches!(byte, b',' | b'}');
+        let is_between = |byte: &u8| byte.is_ascii_whitespace() || b",;.}".contains(byte);
         self.follows &= text[..first].iter().all(is_between);
         let found = names
             .peek()

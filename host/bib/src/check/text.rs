@@ -75,6 +75,20 @@ fn is_value(text: &[u8]) -> bool {
     !word.is_empty() && may_follow(next) && (is_number || next.is_some())
 }
 
+/// The same outside every entry, where a value may stand on the next line, or be a name before a brace that closes
+/// nothing.
+fn is_value_outside(text: &[u8]) -> bool {
+    let is_begun = next_on_line(text).is_some();
+    let rest = text.trim_ascii_start();
+    if !is_begun {
+        return matches!(rest.first(), Some(b'{' | b'"')) && is_value(rest);
+    }
+    let word = rest.iter().take_while(|byte| byte.is_ascii_alphanumeric());
+    let (word, rest) = rest.split_at(word.count());
+    let is_last = next_on_line(rest).is_none() && rest.trim_ascii_start().first() == Some(&b'}');
+    is_value(text) || !word.is_empty() && is_last
+}
+
 /// How many blanks of its line a text begins with.
 fn blanks_before(text: &[u8]) -> usize {
     let is_blank = |byte: &&u8| byte.is_ascii_whitespace() && !matches!(byte, b'\n' | b'\r');
@@ -119,21 +133,23 @@ fn delimited(text: &[u8]) -> Option<&[u8]> {
 /// field which a value swallowed.
 pub(crate) fn field_in_value(text: &[u8]) -> Option<Range<usize>> {
     let is_begin = |before: &[u8]| matches!(before.last(), Some(b'\n' | b'\r'));
-    fields(text, is_begin).next()
+    fields(text, is_begin, is_value).next()
 }
 
 /// The names of each `word = value` of a text outside every entry, at the beginning of a line or behind
 /// what may end a field.
 pub(crate) fn fields_outside(text: &[u8]) -> impl Iterator<Item = Range<usize>> + '_ {
-    fields(text, |before| {
+    let is_begin = |before: &[u8]| {
         let before = without_blanks(before.strip_suffix(b",").unwrap_or(before));
         matches!(before.last(), None | Some(b'\n' | b'\r' | b'}'))
-    })
+    };
+    fields(text, is_begin, is_value_outside)
 }
 
 fn fields<'a>(
     text: &'a [u8],
     is_begin: impl Fn(&[u8]) -> bool + 'a,
+    is_value: fn(&[u8]) -> bool,
 ) -> impl Iterator<Item = Range<usize>> + 'a {
     let mut from = 0;
     std::iter::from_fn(move || loop {
@@ -156,7 +172,7 @@ pub(crate) struct Lost {
 }
 
 /// Each `word{key,` of a text that begins a line. With a blank before the brace, the comma must end the
-/// line, since prose may have such a brace.
+/// line, since prose may have such a brace; and without a word, a field must follow.
 pub(crate) fn entries_outside(text: &[u8]) -> impl Iterator<Item = Lost> + '_ {
     let mut from = 0;
     std::iter::from_fn(move || loop {
@@ -174,20 +190,32 @@ pub(crate) fn entries_outside(text: &[u8]) -> impl Iterator<Item = Lost> + '_ {
 fn entry_outside(text: &[u8], brace: usize) -> Option<Lost> {
     let before = without_blanks(&text[..brace]);
     let start = before.len() - word_before(before);
-    let is_word = start < before.len() && text[start].is_ascii_alphabetic();
+    let has_word = start < before.len();
+    let is_word = !has_word || text[start].is_ascii_alphabetic();
     let line = without_blanks(&text[..start]);
     if !is_word || !matches!(line.last(), None | Some(b'\n' | b'\r')) {
         return None;
     }
+    let start = if has_word { start } else { brace };
     let mut cursor = Cursor::new(text, brace + 1..text.len());
     let key = cursor.key();
     let is_key = !key.is_empty() && cursor.eat(b',');
+    let span = start..cursor.place;
     let is_end = matches!(cursor.peek(), None | Some(b'\n' | b'\r'));
-    let is_entry = is_key && (before.len() == brace || is_end);
-    is_entry.then_some(Lost {
-        span: start..cursor.place,
-        key,
-    })
+    let is_entry = match has_word {
+        true => is_key && (before.len() == brace || is_end),
+        false => is_key && begins_field(&text[cursor.place..]),
+    };
+    is_entry.then_some(Lost { span, key })
+}
+
+/// Whether a text begins with `word = {` or the like.
+fn begins_field(text: &[u8]) -> bool {
+    let few = &text[..text.len().min(MOST_OF_VALUE)];
+    let equals = few.iter().position(|byte| *byte == b'=').unwrap_or(0);
+    let name = few[..equals].trim_ascii();
+    let is_name = !name.is_empty() && word_before(name) == name.len();
+    is_name && is_value(&text[equals + 1..])
 }
 
 /// What to do about a line that a merge left.
@@ -197,20 +225,30 @@ pub(crate) const CONFLICT: &str =
 /// Whether a line is one of those that a merge leaves around two versions.
 pub(crate) fn is_conflict(line: &[u8]) -> bool {
     let is_named = |mark: &[u8]| line.starts_with(mark) && matches!(line.get(7), None | Some(b' '));
-    is_named(b"<<<<<<<") || is_named(b">>>>>>>") || line.trim_ascii_end() == b"======="
+    let is_outer = is_named(b"<<<<<<<") || is_named(b">>>>>>>");
+    is_outer || is_named(b"|||||||") || line.trim_ascii_end() == b"======="
 }
 
 /// What to do about them.
 pub(crate) const TYPOGRAPHIC: &str =
     "typographic quotation marks delimit nothing: write \"..\" or {..}";
 
+const MARKS: [char; 11] = ['“', '”', '„', '‟', '‘', '’', '‚', '«', '»', '‹', '›'];
+
 /// Whether a name begins with a typographic quotation mark.
 pub(crate) fn is_typographic(name: &[u8]) -> bool {
-    const MARKS: [char; 11] = ['“', '”', '„', '‟', '‘', '’', '‚', '«', '»', '‹', '›'];
     // A character has at most four bytes.
     let mut chunks = name[..name.len().min(4)].utf8_chunks();
     let first = chunks.next().and_then(|chunk| chunk.valid().chars().next());
     first.is_some_and(|c| MARKS.contains(&c))
+}
+
+/// Whether a key has typographic quotation marks at its ends. One that is an apostrophe may stand inside.
+pub(crate) fn has_typographic(key: &[u8]) -> bool {
+    let last = std::str::from_utf8(key)
+        .ok()
+        .and_then(|key| key.chars().next_back());
+    !key.is_ascii() && (is_typographic(key) || last.is_some_and(|c| MARKS.contains(&c)))
 }
 
 #[cfg(test)]
@@ -280,6 +318,9 @@ mod tests {
         assert_eq!(all("the value of x = 3"), [""; 0]);
         assert_eq!(all("to say so, type = \"paper\""), [""; 0]);
         assert_eq!(all("==== part ===="), [""; 0]);
+        assert_eq!(all("\n month = jan\n}\n"), ["month"]);
+        assert_eq!(all("\n author =\n {A}\n}\n"), ["author"]);
+        assert_eq!(all("\n x = y\n and more"), [""; 0]);
         assert_eq!(
             all(",\n author = {A},\n title = \"B\"\n}\n"),
             ["author", "title"]
@@ -295,6 +336,8 @@ mod tests {
         assert_eq!(all("\n article{k84,\n"), ["article{k84,"]);
         assert_eq!(all("book {k84,\n"), ["book {k84,"]);
         assert_eq!(all("a{k, t = {x}}\nb{l,}"), ["a{k,", "b{l,"]);
+        assert_eq!(all("\n{k84, title = {T}}\n"), ["{k84,"]);
+        assert_eq!(all("\n{Knuth, D. = x}\n{a, b}"), [""; 0]);
         assert_eq!(all("by {Knuth, D.}"), [""; 0]);
         assert_eq!(all("written by {Knuth,\n"), [""; 0]);
         assert_eq!(all("\\textbf{bold,"), [""; 0]);
