@@ -294,6 +294,17 @@ fn said(lint: Lint, file: &str, (place, message, hint): (&str, &str, &str), with
 
 #[test]
 fn lints_of_characters() {
+    for (title, message) in [
+        ("DvoĹ™Ăˇk", "`Ĺ™` for `ř`"),
+        ("РњРѕСЃРєРІР°", "`Рњ` for `М`"),
+        ("MÃ¼ller", "`Ã¼` for `ü`"),
+    ] {
+        let file = format!("@book{{k, title = {{{title}}}}}");
+        let rest = ": UTF-8 was read as another encoding, and written again";
+        let found = findings(file.as_bytes());
+        let words: Vec<&str> = found.iter().map(|(_, one)| one.message.as_str()).collect();
+        assert_eq!(words, [[message, rest].concat()], "{title}");
+    }
     said(
         Lint::ReplacementCharacter,
         "@book{k, title = {Na\u{fffd}ve}}",

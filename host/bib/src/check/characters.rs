@@ -2,6 +2,7 @@
 
 use super::entities::named;
 use super::finding::{Finding, Lint};
+use super::guess::{CP1250, CP1251};
 
 /// The first U+FFFD, which stands where a program could not read a character.
 pub(crate) fn replaced(text: &str, place: usize) -> Option<Finding> {
@@ -12,30 +13,35 @@ pub(crate) fn replaced(text: &str, place: usize) -> Option<Finding> {
     Some(finding.with_hint(Some(hint.into())))
 }
 
-/// The first character of UTF-8 that was read as Latin-1 or Windows-1252, and written again.
+/// The first character of UTF-8 that was read as Latin-1 or as an encoding of Windows, and written again.
 pub(crate) fn mojibake(text: &str, place: usize) -> Option<Finding> {
     let mut before = ' ';
     for (at, c) in text.char_indices() {
-        if matches!(c, '\u{c2}'..='\u{f4}') {
-            if let Some((length, meant)) = twice_encoded(&text[at..], before) {
-                let (start, end) = (place + at, place + at + length);
-                let wrong = &text[at..at + length];
-                let shown = if meant > '\u{a0}' {
-                    format!("`{meant}`")
-                } else {
-                    format!("U+{:04X}", u32::from(meant))
-                };
-                let message = format!(
-                    "`{wrong}` for {shown}: UTF-8 was read as another encoding, and written again"
-                );
-                let hint = format!("write {shown}");
-                let finding = Finding::lint(Lint::Mojibake, start, end, message);
-                return Some(finding.with_hint(Some(hint)));
-            }
+        let found = match c {
+            '\u{c2}'..='\u{f4}' => twice_encoded(&text[at..], before),
+            'Ă' | 'Ĺ' => of_middle(&text[at..]),
+            'Р' | 'С' => of_cyrillic(&text[at..]),
+            _ => None,
+        };
+        if let Some((length, meant)) = found {
+            return Some(read_otherwise(&text[at..at + length], meant, place + at));
         }
         before = c;
     }
     None
+}
+
+/// What is said of characters that stand for another one.
+fn read_otherwise(wrong: &str, meant: char, start: usize) -> Finding {
+    let shown = if meant > '\u{a0}' {
+        format!("`{meant}`")
+    } else {
+        format!("U+{:04X}", u32::from(meant))
+    };
+    let message =
+        format!("`{wrong}` for {shown}: UTF-8 was read as another encoding, and written again");
+    let finding = Finding::lint(Lint::Mojibake, start, start + wrong.len(), message);
+    finding.with_hint(Some(format!("write {shown}")))
 }
 
 /// How many bytes of a text stand for the bytes of one character, and which that is.
@@ -68,6 +74,36 @@ fn twice_encoded(text: &str, before: char) -> Option<(usize, char)> {
         _ => false,
     };
     is_likely.then_some((length, meant))
+}
+
+/// The same where Windows-1250 was taken for it, as in `Ĺ™` for `ř`: a sign that follows no letter must follow.
+fn of_middle(text: &str) -> Option<(usize, char)> {
+    let sign = text.chars().nth(1)?;
+    "ˇ˘¤¦§¨©¬®±˛´µ¶·¸˝™€†‡‰"
+        .contains(sign)
+        .then(|| twice_in(CP1250, text))?
+}
+
+/// The same where Windows-1251 was taken for it, as in `РњРѕ` for `Мо`: two letters in a row are wanted, with what
+/// does not follow a large one.
+fn of_cyrillic(text: &str) -> Option<(usize, char)> {
+    let (length, meant) = twice_in(CP1251, text)?;
+    let (_, next) = twice_in(CP1251, &text[length..])?;
+    let is_letter = |c: char| matches!(c, 'Ѐ'..='џ');
+    (is_letter(meant) && is_letter(next)).then_some((length, meant))
+}
+
+/// How many bytes of a text stand for the two bytes of one character in this table, and which that is.
+fn twice_in(table: &str, text: &str) -> Option<(usize, char)> {
+    let mut length = 0;
+    let mut bytes = [0; 2];
+    for (byte, c) in bytes.iter_mut().zip(text.chars()) {
+        let place = table.chars().position(|known| known == c)?;
+        *byte = 0x80 + place as u8;
+        length += c.len_utf8();
+    }
+    let meant = std::str::from_utf8(&bytes).ok()?.chars().next()?;
+    (bytes[0] >= 0xc2 && bytes[1] < 0xc0).then_some((length, meant))
 }
 
 /// The byte that Latin-1 or Windows-1252 has for a character, if it continues one of UTF-8.
@@ -153,6 +189,8 @@ mod tests {
             ("25Â°C", "Â°", "°"),
             ("Î±-helix", "Î±", "α"),
             ("â‰¤ 3", "â‰¤", "≤"),
+            ("DvoĹ™Ăˇk", "Ĺ™", "ř"),
+            ("РњРѕСЃРєРІР°", "Рњ", "М"),
         ] {
             assert_eq!(found(mojibake, text), Some(wrong), "{text}");
             assert_eq!(
@@ -172,6 +210,8 @@ mod tests {
             "NESTLÉ®",
             "Nestlé®–Group",
             "naïve",
+            "PĂŞUNE",
+            "СРЂ и РОССИЯ",
         ] {
             assert_eq!(found(mojibake, text), None, "{text}");
         }
@@ -191,6 +231,8 @@ mod tests {
             ("& &thetasym;", "&thetasym;", "write `ϑ`"),
             ("a&nbsp;b", "&nbsp;", "write `~`"),
             ("&#10;", "&#10;", "write U+000A"),
+            ("it&apos;s", "&apos;", "write `'`"),
+            ("A {\\&}amp; B", "{\\&}amp;", "write `\\&`; in a URL, `&`"),
         ] {
             assert_eq!(found(text), Some((wrong, hint.to_string())), "{text}");
         }

@@ -9,6 +9,7 @@ use std::cmp::Reverse;
 
 use double::DOUBLES;
 use single::SINGLES;
+pub(crate) use tables::{CP1250, CP1251};
 
 /// An encoding that may be the one.
 #[derive(Clone, Copy)]
