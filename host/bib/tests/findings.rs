@@ -201,6 +201,16 @@ fn lints_of_values() {
         "2:11",
         "@book{k, note = {where\nx = y + z}}",
     );
+    said(
+        Lint::LateClose,
+        "@book{k, title = {T\n  @book{l, title = {L}}\n}}",
+        (
+            "1:18",
+            "the value of `title` holds what looks like the entry `l`",
+            "the brace that opens the value may be closed too late",
+        ),
+        "@book{k, note = {as in\n  @book{..} or @book{l, title = {L}}}}",
+    );
 }
 
 #[test]

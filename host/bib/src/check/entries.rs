@@ -8,7 +8,9 @@ use super::items::Item;
 use super::lists::{is_name_list, wrong_names};
 use super::odd::Entry;
 use super::refs::{by_letters, is_alone};
-use super::text::{field_in_value, has_typographic, is_typographic, key_name, quoted, TYPOGRAPHIC};
+use super::text::{
+    entry_in_value, field_in_value, has_typographic, is_typographic, key_name, quoted, TYPOGRAPHIC,
+};
 use super::{Checker, Stop};
 use crate::memory::push;
 use crate::{Kind, Refusal, Row, Rows};
@@ -237,8 +239,11 @@ impl<E, S: FnMut(&Finding, &super::Lines) -> Result<(), E>> Checker<'_, S> {
 
     fn literal(&self, index: usize, row: Row, field: Option<Row>) -> Option<Finding> {
         let text = &self.file[row.span()];
+        if let Some(key) = entry_in_value(text) {
+            return Some(self.late(row, field, ("entry", &text[key])));
+        }
         if let Some(swallowed) = field_in_value(text) {
-            return Some(self.late(row, field, &text[swallowed]));
+            return Some(self.late(row, field, ("field", &text[swallowed])));
         }
         let is_list = field.is_some_and(|field| is_name_list(&self.file[field.span()]));
         // A value that is joined of parts may have its names in the others.
@@ -249,13 +254,13 @@ impl<E, S: FnMut(&Finding, &super::Lines) -> Result<(), E>> Checker<'_, S> {
     }
 
     /// A value that was closed too late. The delimiter stands before the literal.
-    fn late(&self, row: Row, field: Option<Row>, swallowed: &[u8]) -> Finding {
+    fn late(&self, row: Row, field: Option<Row>, (what, name): (&str, &[u8])) -> Finding {
         let mark = row.start.saturating_sub(1);
         let whose = field.map(|field| format!(" of `{}`", self.shown(field)));
         let message = format!(
-            "the value{} holds what looks like the field `{}`",
+            "the value{} holds what looks like the {what} `{}`",
             whose.unwrap_or_default(),
-            quoted(swallowed)
+            quoted(name)
         );
         let what = if self.file.get(mark) == Some(&b'"') {
             "quotation mark"

@@ -168,7 +168,7 @@ pub const LINTS: [About; 29] = [
     About {
         lint: Lint::LateClose,
         name: "late-close",
-        meaning: "A value holds a line that looks like a field: a brace or quotation mark was closed too late, and fields are lost in the value.",
+        meaning: "A value holds a line that looks like a field or an entry: a brace or quotation mark was closed too late, and what follows is lost in the value.",
         example: "@book{k,\n  title = {T,\n  year = {1997}}\n}",
     },
     About {

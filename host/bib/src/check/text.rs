@@ -136,6 +136,26 @@ pub(crate) fn field_in_value(text: &[u8]) -> Option<Range<usize>> {
     fields(text, is_begin, is_value).next()
 }
 
+/// The key of the first `@word{key,` of a text that stands behind blanks at the beginning of a line: an entry which
+/// a value swallowed. Without blanks it would end the piece, which is said otherwise.
+pub(crate) fn entry_in_value(text: &[u8]) -> Option<Range<usize>> {
+    let mut from = 0;
+    loop {
+        let at = from + text[from..].iter().position(|byte| *byte == b'@')?;
+        from = at + 1;
+        let before = without_blanks(&text[..at]);
+        if before.len() == at || !matches!(before.last(), Some(b'\n' | b'\r')) {
+            continue;
+        }
+        let mut cursor = Cursor::new(text, from..text.len());
+        let is_begun = cursor.ident().is_some() && cursor.eat(b'{');
+        let key = cursor.key();
+        if is_begun && !key.is_empty() && cursor.eat(b',') {
+            return Some(key);
+        }
+    }
+}
+
 /// The names of each `word = value` of a text outside every entry, at the beginning of a line or behind
 /// what may end a field.
 pub(crate) fn fields_outside(text: &[u8]) -> impl Iterator<Item = Range<usize>> + '_ {
@@ -305,6 +325,15 @@ mod tests {
         assert_eq!(found(field_in_value, "{A\nb = {c}}"), Some("b"));
         assert_eq!(found(field_in_value, "{A\nb = \"c\" # d"), Some("b"));
         assert_eq!(found(field_in_value, "{A\nb = {c\nd"), Some("b"));
+    }
+
+    #[test]
+    fn entries_in_values() {
+        assert_eq!(found(entry_in_value, "A\n  @book{l, t={L}}"), Some("l"));
+        assert_eq!(found(entry_in_value, "A @a{b,\n\t@book{l, t}"), Some("l"));
+        assert_eq!(found(entry_in_value, "A\n@book{l, t={L}}"), None);
+        assert_eq!(found(entry_in_value, "see @book{l, t={L}}"), None);
+        assert_eq!(found(entry_in_value, "A\n  @home{l} and @x\n @y"), None);
     }
 
     #[test]
