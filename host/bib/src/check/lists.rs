@@ -100,8 +100,9 @@ fn et_al(text: &[u8]) -> Option<Range<usize>> {
 
 /// Whether a word is `et~al.`, `{et al.}`, `\emph{et al.}` or the like.
 fn is_et_al(word: &[u8]) -> bool {
-    // The longest is `{\itshape et al.}`.
-    if !(4..20).contains(&word.len()) {
+    // The longest is `{\itshape et al.}`; most words are plain.
+    let is_plain = !word.contains(&b'{') && !word.contains(&b'~') && !word.starts_with(b"etal");
+    if is_plain || !(4..20).contains(&word.len()) {
         return false;
     }
     let is_mark =
@@ -141,6 +142,10 @@ fn separator(text: &[u8]) -> Option<(Range<usize>, &'static str)> {
 /// The same where no blank stands beside the mark: `A. Author;B. Writer`. What is no entity of HTML, and has names of
 /// three letters or more before and behind it, is none of a name.
 fn separator_inside(text: &[u8]) -> Option<(Range<usize>, &'static str)> {
+    // Most lists have neither.
+    if !text.contains(&b';') && !text.contains(&b'&') {
+        return None;
+    }
     let mut depth = 0usize;
     for (place, byte) in text.iter().enumerate() {
         match byte {

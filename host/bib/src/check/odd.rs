@@ -137,10 +137,7 @@ impl<E, S: FnMut(&Finding, &super::Lines) -> Result<(), E>> Checker<'_, S> {
     ) -> Result<(), Stop<E>> {
         let text = &self.file[row.span()];
         let name = field.map_or(&b""[..], |field| &self.file[field.span()]);
-        if text
-            .windows(3)
-            .any(|three| three == b"\n<<" || three == b"\n>>")
-        {
+        if has_conflict(text) {
             self.conflicts(text, row.start)?;
         }
         if !text.is_ascii() {
@@ -197,6 +194,13 @@ impl<E, S: FnMut(&Finding, &super::Lines) -> Result<(), E>> Checker<'_, S> {
         }
         Ok(self.all_keys.get().expect("they were made"))
     }
+}
+
+/// Whether a line behind the first begins as a merge's lines do.
+fn has_conflict(text: &[u8]) -> bool {
+    let is_mark = |three: &[u8]| three == b"\n<<" || three == b"\n>>";
+    // Most texts have neither.
+    (text.contains(&b'<') || text.contains(&b'>')) && text.windows(3).any(is_mark)
 }
 
 fn misspelt(row: Row, name: &[u8], meant: &str) -> Finding {
