@@ -866,7 +866,7 @@ const HINTS: [(&str, &str, &str); 67] = [
     (
         "a list of names is one value: write {A and B}",
         "@book{k, author = {A} and {B}}",
-        "@book{k, author = {A} und {B}}",
+        "@book{k, title = {A} and {B}}",
     ),
     (
         "a list of names is one value: write \"A and B\"",

@@ -41,9 +41,13 @@ impl Story<'_> {
         let rest = &self.file[self.place..];
         let word = rest.iter().take_while(|byte| byte.is_ascii_alphabetic());
         let word = &rest[..word.count()];
+        let field = self.trace.field.as_ref();
+        let is_list = field.is_some_and(|field| is_name_list(self.trace.text(field)));
+        // Quotation marks in a title are mostly so too; braces and other marks may be anything there.
         let length = match word {
-            [] => rest.iter().take_while(|b| b"&;,".contains(b)).count(),
-            _ if word.eq_ignore_ascii_case(b"and") => 3,
+            [] if is_list => rest.iter().take_while(|b| b"&;,".contains(b)).count(),
+            b"and" if is_list || form == Form::Quoted => 3,
+            _ if is_list && word.eq_ignore_ascii_case(b"and") => 3,
             _ => return None,
         };
         let next = rest[length..].trim_ascii_start().first();
@@ -226,9 +230,8 @@ impl Story<'_> {
             b',' => some("there is a comma too many"),
             b'=' => some("the field has no name"),
             b'"' | b'{' => {
-                let field = self.trace.text(self.trace.field.as_ref()?);
-                let form = self.trace.part.as_ref()?.form;
-                is_name_list(field).then(|| self.names_apart(form))?
+                let part = self.trace.part.as_ref()?;
+                self.names_apart(part.form)
             }
             _ => None,
         }
