@@ -455,7 +455,7 @@ fn lints_of_what_cannot_be() {
         "@book{k, year = 3021}",
         (
             "1:17",
-            "the year 3021 is not to be for long",
+            "the year 3021 is far in the future",
             "write the year that is meant",
         ),
         "@book{k, year = 2567}@book{l, year = 5784}@book{m, year = 800}",

@@ -270,7 +270,7 @@ pub const LINTS: [About; 29] = [
     About {
         lint: Lint::OddDate,
         name: "odd-date",
-        meaning: "A `year` is 0, has five digits or more, or a letter that looks like a digit, or is not to be for long; a `month` or a `date` has a month or a day that there is not.",
+        meaning: "A `year` is 0, has five digits or more, or a letter that looks like a digit, or is far in the future; a `month` or a `date` has a month or a day that there is not.",
         example: "@book{k, title = {T}, year = {20144}}",
     },
     About {

@@ -61,7 +61,7 @@ fn wrong_year(text: &[u8], span: Range<usize>) -> Option<Wrong> {
     match number(year) {
         Some(0) => return Wrong::new(span, "there is no year 0".into(), hint),
         Some(far @ 2600..5000) => {
-            let message = format!("the year {far} is not to be for long");
+            let message = format!("the year {far} is far in the future");
             return Wrong::new(span, message, "write the year that is meant");
         }
         _ => {}
@@ -215,7 +215,7 @@ mod tests {
                 "the year l998 has a letter among its digits",
             ),
             ("year", "0", "there is no year 0"),
-            ("year", "3021", "the year 3021 is not to be for long"),
+            ("year", "3021", "the year 3021 is far in the future"),
             ("month", "13", "there is no month 13"),
             ("month", "0", "there is no month 0"),
             ("date", "2014-13", "there is no month 13"),

@@ -5,7 +5,8 @@ use std::fmt;
 use std::fs::{self, File};
 use std::io::{self, Read};
 use std::os::fd::AsFd;
-use std::path::PathBuf;
+use std::os::unix::fs::MetadataExt;
+use std::path::{Path, PathBuf};
 
 use crate::shown;
 use crate::system::is_stdin_closed;
@@ -36,8 +37,19 @@ impl Source {
         let (Self::Named(one), Self::Named(other)) = (self, other) else {
             return false;
         };
-        let found = fs::canonicalize(one).ok().zip(fs::canonicalize(other).ok());
-        one == other || found.is_some_and(|(one, other)| one == other)
+        one == other || self.is_at(other)
+    }
+
+    /// Whether a path leads to this file, by whatever links. A terminal or a device is read and written apart.
+    pub fn is_at(&self, path: &Path) -> bool {
+        let own = match self {
+            Self::Stdin => stdin().and_then(|file| file.metadata()),
+            Self::Named(own) => fs::metadata(own),
+        };
+        let both = own.ok().zip(fs::metadata(path).ok());
+        both.is_some_and(|(own, other)| {
+            own.is_file() && (own.dev(), own.ino()) == (other.dev(), other.ino())
+        })
     }
 
     /// Its name, byte by byte.

@@ -2,7 +2,7 @@
 //! is said on standard error, and its entry is not written, unless it is to be kept; and so is what a reader
 //! of the written file gets otherwise. The last line there says how many entries were written.
 
-use std::fs::{self, File};
+use std::fs::File;
 use std::io::{self, BufWriter, Write};
 use std::path::Path;
 
@@ -43,11 +43,7 @@ pub fn write(how: &Writing, source: &Source, out: &mut impl Write) -> Result<Sta
 /// The file that is to be written. It is none of those that are read: what is left out of it would be lost.
 fn output<'a>(path: &Path, read: impl Iterator<Item = &'a Source>) -> Result<File, Trouble> {
     for source in read {
-        let Source::Named(read) = source else {
-            continue;
-        };
-        let same = fs::canonicalize(path).ok().zip(fs::canonicalize(read).ok());
-        if same.is_some_and(|(one, other)| one == other) {
+        if source.is_at(path) {
             let sentence = format!("{source} is the file that is read: write another one");
             return Err(Trouble::Input(sentence));
         }

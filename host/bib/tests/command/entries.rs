@@ -285,6 +285,13 @@ bib: no entry of <stdin> has the key `mm`, did you mean `k`?
     assert_eq!(std::fs::read_to_string(&written.0).unwrap(), "@a{k,\n}\n");
     let own = format!("bib: {name} is the file that is read: write another one\n");
     bib(&["write", name, "-o", name], b"").says(2, &own);
+    let link = Scratch::new("linked.bib", b"");
+    for link_words in ["ln -f", "ln -fs"] {
+        shell(&format!("{link_words} {name} {}", link.name())).is(0, "");
+        bib(&["write", name, "-o", link.name()], b"").says(2, &own);
+    }
+    let own = "bib: <stdin> is the file that is read: write another one\n";
+    shell(&format!("$BIB write -o {name} < {name}")).says(2, own);
     assert_eq!(std::fs::read_to_string(&written.0).unwrap(), "@a{k,\n}\n");
     let folder = "bib: cannot write /: is a directory\n";
     bib(&["write", "-o", "/"], file).says(2, folder);
