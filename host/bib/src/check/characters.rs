@@ -76,7 +76,8 @@ fn twice_encoded(text: &str, before: char) -> Option<(usize, char)> {
     is_likely.then_some((length, meant))
 }
 
-/// The same where Windows-1250 was taken for it, as in `Ĺ™` for `ř`: a sign that follows no letter must follow.
+/// The same where Windows-1250 was taken for it, as in `Ĺ™` for `ř`: behind the letter must stand a sign that stands
+/// behind no letter in text.
 fn of_middle(text: &str) -> Option<(usize, char)> {
     let sign = text.chars().nth(1)?;
     "ˇ˘¤¦§¨©¬®±˛´µ¶·¸˝™€†‡‰"
@@ -84,8 +85,8 @@ fn of_middle(text: &str) -> Option<(usize, char)> {
         .then(|| twice_in(CP1250, text))?
 }
 
-/// The same where Windows-1251 was taken for it, as in `РњРѕ` for `Мо`: two letters in a row are wanted, with what
-/// does not follow a large one.
+/// The same where Windows-1251 was taken for it, as in `РњРѕ` for `Мо`: two such letters in a row are wanted, since
+/// `Р` and `С` begin words too.
 fn of_cyrillic(text: &str) -> Option<(usize, char)> {
     let (length, meant) = twice_in(CP1251, text)?;
     let (_, next) = twice_in(CP1251, &text[length..])?;

@@ -139,8 +139,7 @@ fn separator(text: &[u8]) -> Option<(Range<usize>, &'static str)> {
     None
 }
 
-/// The same where no blank stands beside the mark: `A. Author;B. Writer`. What is no entity of HTML, and has names of
-/// three letters or more before and behind it, is none of a name.
+/// The same where no blank stands beside the mark: `A. Author;B. Writer`.
 fn separator_inside(text: &[u8]) -> Option<(Range<usize>, &'static str)> {
     // Most lists have neither.
     if !text.contains(&b';') && !text.contains(&b'&') {
@@ -164,7 +163,8 @@ fn separator_inside(text: &[u8]) -> Option<(Range<usize>, &'static str)> {
     None
 }
 
-/// Whether a mark stands directly between a whole name and a new one, with several words in all.
+/// Whether a mark stands directly between two names: behind an initial or a word of three letters or more, which is
+/// no entity of HTML, and before a capital letter and more than one word. `R&D` is one name.
 fn is_between(text: &[u8], place: usize) -> bool {
     let before = text[..place].strip_suffix(b"\\").unwrap_or(&text[..place]);
     let is_letter = |byte: &&u8| byte.is_ascii_alphabetic() || !byte.is_ascii();
