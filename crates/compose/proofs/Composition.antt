@@ -2,18 +2,18 @@
 -- Assumes nothing.
 use Prim.Native.Nat.{ℕ}
 use native.Mathlib.Omega.{arith}
-use mathlib.Core.Path.{_≡_, refl, sym, ap, _∙_}
+use mathlib.Core.Path.{_≡_, refl, sym, subst}
 use mathlib.Core.Bool.{Bool, true, false, cond, _&&_}
 use mathlib.Core.List.{List, [], _∷_, List·Memᴰ, List·Memᴰ·head, List·Memᴰ·tail, List·Memᴰ·not-nil}
 use lib.Dec.{eqb}
-use borrow.Author.Tests.{eqb-true}
-use Rattle.text.proofs.general.Tests.{both-true}
+use borrow.Author.Tests.{eqb-true, eq-eqb}
+use Rattle.text.proofs.general.Lists.{every-mem}
 use Rattle.text.specs.Every.{every}
 use Rattle.compose.specs.declared.Composed.the-variants.{Char}
 use Rattle.compose.specs.Lookup.{Composite, _with_is_, lookup, risesFrom, rises}
 use Rattle.compose.specs.Composites.{composites}
 use Rattle.compose.specs.Composition.{marks, isAmong, Composition}
-use Rattle.compose.proofs.lists.Rows.{found, place}
+use Rattle.compose.proofs.lists.Rows.{not-has-low, rises-rest, above}
 use Rattle.compose.proofs.lists.Halving.{by-halving}
 
 -- ---- the computed tests
@@ -49,13 +49,12 @@ listed (r ∷ rs) l m c e = by (eqb (r .letter) l) (eqb (r .mark) m) refl refl e
 
 -- what is in a list that rises is found
 finds : (rs : List Composite) → rises rs ≡ true → (l m c : ℕ) → List·Memᴰ (l with m is c) rs → lookup rs l m ≡ Char c
-finds rs e l m c h = let p = place rs (l with m is c) h in found rs e (p .at) (p .inside) (l with m is c) (p .row)
-
-every-row : (p : Composite → Bool) (rs : List Composite) (r : Composite) → every p rs ≡ true → List·Memᴰ r rs → p r ≡ true
-unfolding every
-every-row p [] r e h = absurd (List·Memᴰ·not-nil h)
-every-row p (s ∷ rs) r e (List·Memᴰ·head q) = ap p q ∙ both-true (p s) (every p rs) e .0
-every-row p (s ∷ rs) r e (List·Memᴰ·tail d) = every-row p rs r (both-true (p s) (every p rs) e .1) d
+unfolding lookup rises
+finds [] e l m c h = absurd (List·Memᴰ·not-nil h)
+finds (r ∷ rs) e l m c (List·Memᴰ·head q) =
+    subst (λ (r : Composite). lookup (r ∷ rs) l m ≡ Char c) q (rw (eq-eqb l l refl, eq-eqb m m refl))
+finds (r ∷ rs) e l m c (List·Memᴰ·tail d) =
+    rw (not-has-low r l m (above r rs e (l with m is c) d)) (finds rs (rises-rest r rs e) l m c d)
 
 pub composition : Composition
 composition = record {
@@ -63,6 +62,6 @@ composition = record {
   sixteen = sixteen;
   listed = listed composites;
   finds = finds composites rising;
-  each = λ p e l m c f. every-row p composites (l with m is c) e (listed composites l m c f);
-  by-halving = by-halving composites rising;
+  each = λ p e l m c f. every-mem p composites e (listed composites l m c f);
+  by-halving = λ l m. by-halving l m composites rising;
 }

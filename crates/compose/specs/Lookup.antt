@@ -1,12 +1,13 @@
 -- What a list of compositions says of a letter and a mark.
 --     Composite, numbers      a row of the list; a list of rows as plain numbers, three to a row
 --     lookup                  the row with a letter and a mark. For src/lib.rt.
---     before, rises           the order of the rows
+--     comesBefore, rises      the order of the rows
 -- Assumes nothing.
 use Prim.Native.Nat.{ℕ}
-use mathlib.Core.Bool.{Bool, true, cond, _&&_, _||_}
+use mathlib.Core.Bool.{Bool, true, cond, _&&_}
 use mathlib.Core.List.{List, [], _∷_}
-use lib.Dec.{ltb, eqb}
+use lib.Dec.{eqb}
+use Rattle.search.specs.Halving.{before}
 use Rattle.compose.specs.declared.Composed.{Composed}
 use Rattle.compose.specs.declared.Composed.the-variants.{Char, Nothing}
 
@@ -34,14 +35,14 @@ unfoldable pub lookup : List Composite → ℕ → ℕ → Composed
 lookup [] l m = Nothing
 lookup (r ∷ rs) l m = cond (has r l m) (Char (r .char)) (lookup rs l m)
 
--- a letter and a mark come before others: the letter is smaller, or it is the same and the mark is smaller
-abbrev pub before : ℕ → ℕ → ℕ → ℕ → Bool
-before l m l′ m′ = ltb l l′ || (eqb l l′ && ltb m m′)
+-- whether a row comes before a letter and a mark: its letter is smaller, or it is the same and its mark is smaller
+abbrev pub comesBefore : Composite → ℕ → ℕ → Bool
+comesBefore r l m = before (r .letter) (r .mark) l m
 
 -- every row comes before the next one; and the first comes behind row p
 unfoldable pub risesFrom : Composite → List Composite → Bool
 risesFrom p [] = true
-risesFrom p (r ∷ rs) = before (p .letter) (p .mark) (r .letter) (r .mark) && risesFrom r rs
+risesFrom p (r ∷ rs) = comesBefore p (r .letter) (r .mark) && risesFrom r rs
 
 unfoldable pub rises : List Composite → Bool
 rises [] = true

@@ -7,7 +7,7 @@
 mod composites;
 
 ghost use mathlib.Core.Path.{_≡_};
-ghost use Rattle.compose.specs.Lookup.{numbers, lookup, before};
+ghost use Rattle.compose.specs.Lookup.{numbers, lookup};
 ghost use Rattle.compose.specs.Composites.{composites};
 ghost use Rattle.compose.specs.Halving.{halved};
 
@@ -23,33 +23,21 @@ pub fn table() -> [u32; 1818]
     composites::COMPOSITES
 }
 
-// Whether the letter and the mark come before letter l and mark m, as they do in the table.
-fn is_before(letter: u32, mark: u32, l: u32, m: u32) -> bool
-    ensures { λ r. ⌜ r ≡ before letter mark l m ⌝ }
-{
-    (letter < l) | ((letter == l) & (mark < m))
-}
-
 // What a letter and a mark compose to by a table t, searched by halving. With the table of `table` it is what `compose` answers; with other
 // numbers, what the same search finds in them.
 pub fn find(t: &[u32], letter: u32, mark: u32) -> Composed
     ensures { λ r. ⌜ r ≡ halved (now (t .entry)) letter mark ⌝ }
 {
-    let mut lo: usize = 0;
-    let mut hi: usize = t.len() / 3;
-    while lo < hi {
-        let mid = lo + (hi - lo) / 2;
-        let l = t[mid * 3];
-        let m = t[mid * 3 + 1];
-        if is_before(l, m, letter, mark) {
-            lo = mid + 1;
-        } else if is_before(letter, mark, l, m) {
-            hi = mid;
-        } else {
-            return Composed::Char(t[mid * 3 + 2]);
-        }
+    let k = search::place(t, 3, letter, mark);
+    if t.len() / 3 <= k {
+        return Composed::Nothing;
     }
-    Composed::Nothing
+    let i = k * 3;
+    if (t[i] == letter) & (t[i + 1] == mark) {
+        Composed::Char(t[i + 2])
+    } else {
+        Composed::Nothing
+    }
 }
 
 // What a letter and a mark compose to.

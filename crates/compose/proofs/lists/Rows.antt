@@ -1,30 +1,28 @@
--- A list of rows by the places of its rows, as a search meets them: the order of every two rows of a list that rises, and what `lookup` gives.
+-- The rows of a list: by their places, as a search meets them, and in a list that rises.
 --     rowOf                  the row at a place, read off the list's numbers
 --     count, row-next        how many numbers there are; the row at the next place
---     order                  of two rows of a list that rises, the first comes before the second
---     found, missing         what `lookup` gives where a row has the letter and mark, and where none has
---     PlaceOf, place         where a row of the list stands
+--     not-has, not-has-low   a row that a test tells from a letter and a mark does not have them; so one that comes before them
+--     before-on              a row that comes before another comes before all that the other comes before
+--     rises-rest, above      the rest of a list that rises; every row of what rises from a row comes behind that row
 -- Assumes nothing.
-use Prim.Native.Nat.{ℕ, zero, suc, _+_, _*_, _<_}
+use Prim.Native.Nat.{ℕ, suc, _+_, _*_}
 use native.Mathlib.Omega.{arith}
-use mathlib.Core.Path.{_≡_, refl, sym, ap, subst, subst⁻¹, _∙_}
-use mathlib.Core.Bool.{true, false}
+use mathlib.Core.Path.{_≡_, refl, ap, subst⁻¹}
+use mathlib.Core.Bool.{Bool, true, false, _&&_}
 use mathlib.Core.List.{List, [], _∷_, List·Memᴰ, List·Memᴰ·head, List·Memᴰ·tail, List·Memᴰ·not-nil}
+use lib.Dec.{eqb}
 use lib.ListN.{length, getD}
-use borrow.Author.Tests.{eq-eqb}
-use Rattle.text.proofs.general.Tests.{both-true}
-use Rattle.compose.specs.declared.Composed.the-variants.{Char, Nothing}
-use Rattle.compose.specs.Lookup.{Composite, numbers, has, lookup, before, risesFrom, rises}
+use borrow.Author.Tests.{eqb-true}
+use Rattle.text.proofs.general.Tests.{both-true, true-not-false}
+use Rattle.search.specs.Halving.{before}
+use Rattle.search.proofs.Search.{search}
+use Rattle.compose.specs.Lookup.{Composite, numbers, has, comesBefore, risesFrom, rises}
 use Rattle.compose.specs.Halving.{rowAt}
-use Rattle.compose.proofs.lists.Order.{Less, before-less, less-trans, less-apart, apart}
+
+-- ---- places
 
 abbrev pub rowOf : List Composite → ℕ → Composite
 rowOf rs k = rowAt (numbers rs) k
-
--- the first row comes before the second
-infix 20 _≺_
-abbrev pub _≺_ : Composite → Composite → Type 0
-_≺_ r s = Less (r .letter) (r .mark) (s .letter) (s .mark)
 
 pub count : (rs : List Composite) → length (numbers rs) ≡ length rs * 3
 unfolding numbers
@@ -41,63 +39,30 @@ row-next r rs k =
 
 -- ---- order
 
--- every row of what rises from p comes behind p
-above : (p : Composite) (rs : List Composite) → risesFrom p rs ≡ true → (k : ℕ) → k < length rs → p ≺ rowOf rs k
-unfolding risesFrom numbers
-above p [] e k h = absurd (omega arith)
-above p (r ∷ rs) e zero h = before-less _ _ _ _ (both-true _ (risesFrom r rs) e .0)
-above p (r ∷ rs) e (suc k) h =
-    let x = both-true (before (p .letter) (p .mark) (r .letter) (r .mark)) (risesFrom r rs) e in
-    let y : p ≺ r = before-less _ _ _ _ (x .0) in
-    subst⁻¹ (λ (s : Composite). p ≺ s) (row-next r rs k) (less-trans _ _ _ _ _ _ y (above r rs (x .1) k (omega arith)))
+pub not-has : (test : ℕ → ℕ → Bool) (r : Composite) (l m : ℕ) → test (r .letter) (r .mark) ≡ true → test l m ≡ false → has r l m ≡ false
+not-has test r l m p q = by (eqb (r .letter) l) (eqb (r .mark) m) refl refl
+  where
+    by : (x y : Bool) → eqb (r .letter) l ≡ x → eqb (r .mark) m ≡ y → (x && y) ≡ false
+    by true true a b = true-not-false (test l m) (rw (eqb-true (r .letter) l a, eqb-true (r .mark) m b) at p) q
+    by true false a b = refl
+    by false y a b = refl
 
-rises-rest : (r : Composite) (rs : List Composite) → rises (r ∷ rs) ≡ true → rises rs ≡ true
+pub not-has-low : (r : Composite) (l m : ℕ) → comesBefore r l m ≡ true → has r l m ≡ false
+not-has-low r l m e = not-has (λ a b. before a b l m) r l m e (search .irreflexive l m)
+
+pub before-on : (p r : Composite) (l m : ℕ) → comesBefore p (r .letter) (r .mark) ≡ true → comesBefore r l m ≡ true → comesBefore p l m ≡ true
+before-on p r l m = search .transitive (p .letter) (p .mark) (r .letter) (r .mark) l m
+
+pub rises-rest : (r : Composite) (rs : List Composite) → rises (r ∷ rs) ≡ true → rises rs ≡ true
 unfolding rises risesFrom
 rises-rest r [] e = refl
-rises-rest r (s ∷ rs) e = both-true (before (r .letter) (r .mark) (s .letter) (s .mark)) (risesFrom s rs) e .1
+rises-rest r (s ∷ rs) e = both-true (comesBefore r (s .letter) (s .mark)) (risesFrom s rs) e .1
 
-pub order : (rs : List Composite) → rises rs ≡ true → (i j : ℕ) → i < j → j < length rs → rowOf rs i ≺ rowOf rs j
-unfolding rises numbers
-order [] e i j l h = absurd (omega arith)
-order (r ∷ rs) e i zero l h = absurd (omega arith)
-order (r ∷ rs) e zero (suc j) l h = subst⁻¹ (λ (s : Composite). r ≺ s) (row-next r rs j) (above r rs e j (omega arith))
-order (r ∷ rs) e (suc i) (suc j) l h =
-    subst⁻¹ (λ (s : Composite). s ≺ rowOf (r ∷ rs) (suc j)) (row-next r rs i)
-    (subst⁻¹ (λ (s : Composite). rowOf rs i ≺ s) (row-next r rs j) (order rs (rises-rest r rs e) i j (omega arith) (omega arith)))
-
--- ---- lookup
-
--- the row at a place is what its letter and mark give
-pub found : (rs : List Composite) → rises rs ≡ true → (k : ℕ) → k < length rs → (r : Composite) → rowOf rs k ≡ r → lookup rs (r .letter) (r .mark) ≡ Char (r .char)
-unfolding lookup numbers
-found [] e k h r p = absurd (omega arith)
-found (s ∷ rs) e zero h r p =
-    let a = eq-eqb (s .letter) (r .letter) (ap (λ (x : Composite). x .letter) p) in
-    let b = eq-eqb (s .mark) (r .mark) (ap (λ (x : Composite). x .mark) p) in
-    rw (a, b) (ap (λ (x : Composite). Char (x .char)) p)
-found (s ∷ rs) e (suc k) h r p =
-    let o : s ≺ r = subst (λ (x : Composite). s ≺ x) p (order (s ∷ rs) e zero (suc k) (omega arith) h) in
-    rw (apart _ _ _ _ (less-apart _ _ _ _ o)) (found rs (rises-rest s rs e) k (omega arith) r (sym (row-next s rs k) ∙ p))
-
--- where no row has the letter and mark, nothing is found
-pub missing : (rs : List Composite) (l m : ℕ) → ((k : ℕ) → k < length rs → has (rowOf rs k) l m ≡ false) → lookup rs l m ≡ Nothing
-unfolding lookup numbers
-missing [] l m none = refl
-missing (r ∷ rs) l m none =
-    rw (none 0 (omega arith)) (missing rs l m (λ k h. subst (λ (s : Composite). has s l m ≡ false) (row-next r rs k) (none (suc k) (omega arith))))
-
--- ---- membership
-
--- a place of the list where row r stands
-pub record PlaceOf (rs : List Composite) (r : Composite) : Type 0 where
-  pub at : ℕ
-  pub inside : at < length rs
-  pub row : rowOf rs at ≡ r
-
-pub place : (rs : List Composite) (r : Composite) → List·Memᴰ r rs → PlaceOf rs r
-unfolding numbers
-place [] r h = absurd (List·Memᴰ·not-nil h)
-place (s ∷ rs) r (List·Memᴰ·head e) = record { at = 0; inside = omega arith; row = sym e }
-place (s ∷ rs) r (List·Memᴰ·tail d) =
-    let p = place rs r d in
-    record { at = suc (p .at); inside = omega (arith, p .inside); row = row-next s rs (p .at) ∙ p .row }
+pub above : (p : Composite) (rs : List Composite) → risesFrom p rs ≡ true → (s : Composite) → List·Memᴰ s rs → comesBefore p (s .letter) (s .mark) ≡ true
+unfolding risesFrom
+above p [] e s h = absurd (List·Memᴰ·not-nil h)
+above p (r ∷ rs) e s (List·Memᴰ·head q) =
+    subst⁻¹ (λ (s : Composite). comesBefore p (s .letter) (s .mark) ≡ true) q (both-true _ (risesFrom r rs) e .0)
+above p (r ∷ rs) e s (List·Memᴰ·tail d) =
+    let x = both-true (comesBefore p (r .letter) (r .mark)) (risesFrom r rs) e in
+    before-on p r (s .letter) (s .mark) (x .0) (above r rs (x .1) s d)
