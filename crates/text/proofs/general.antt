@@ -6,6 +6,8 @@ pub mod Tests
 pub mod Lists
 -- a fact about every number below a bound, from one test that the checker computes at each of them
 pub mod Below
+-- how many octets a character has
+pub mod OctetCounts
 -- a text from a place on, octet by octet
 pub mod Places
 -- a part of a text, from one place to another

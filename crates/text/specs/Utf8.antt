@@ -1,5 +1,5 @@
 -- UTF-8, a transformation format of ISO 10646 [RFC3629]. For src/utf8.rt: `sequenceLength`, `validity`, `decodeAt`, `Encode`,
--- `isBoundary`; for the theorems: `isChar`, `Octets`, `isScalar`, `octets`, `value`.
+-- `isBoundary`; for the theorems: `isChar`, `Octets`, `isScalar`, `octets`, `utf8Of`, `value`.
 -- Assumes nothing.
 use Prim.Native.Nat.{ℕ, zero, suc, _+_, _-_, _*_, _/_, _%_, _^_}
 use mathlib.Core.Path.{_≡_}
@@ -114,6 +114,11 @@ octets c =
     (cond (leb c 0x7FF) ((0xC0 + c / 64) ∷ further c ∷ [])
     (cond (leb c 0xFFFF) ((0xE0 + c / 64 / 64) ∷ further (c / 64) ∷ further c ∷ [])
     ((0xF0 + c / 64 / 64 / 64) ∷ further (c / 64 / 64) ∷ further (c / 64) ∷ further c ∷ [])))
+
+-- the octets of characters, one behind the other
+unfoldable pub utf8Of : List ℕ → List ℕ
+utf8Of [] = []
+utf8Of (c ∷ cs) = octets c ++ utf8Of cs
 
 -- ---- what the functions answer
 

@@ -7,7 +7,7 @@ ghost use Prim.Native.Nat.{_+_, _-_, _≤_, _<_, min, max};
 ghost use lib.ListN.{length};
 ghost use lib.Seq.{sets};
 ghost use Rattle.text.specs.Scan.{part};
-ghost use Rattle.text.specs.Block.{setOf, inSet, apart, braces, quotes, others, solids, lines, Clear, Found, isSimple, PlainRun};
+ghost use Rattle.text.specs.Block.{setOf, inSet, apart, braces, quotes, others, solids, lines, breaks, Clear, Found, isSimple, PlainRun};
 
 // The bytes from the first to the last, both included.
 pub struct Interval {
@@ -349,6 +349,13 @@ pub fn past_lines(s: &[u8], at: usize) -> usize
     ensures { λ r. ⌜ Clear lines (now (s .entry)) at r ⌝ }
 {
     past_short(s, at, intervals(0x00, 0x0d, 0x00, 0x0d, 0x00, 0x0d))
+}
+
+// A place before which there is no line end and nothing beyond ASCII: over ASCII that is 0x0e at least.
+pub fn past_narrow(s: &[u8], at: usize) -> usize
+    ensures { λ r. ⌜ Clear breaks (now (s .entry)) at r ⌝ }
+{
+    past_short(s, at, intervals(0x00, 0x0d, 0x80, 0xff, 0x80, 0xff))
 }
 
 // Whether all of a text is ASCII.

@@ -1,0 +1,4 @@
+pub mod Mapping
+pub mod Uppers
+pub mod Lowers
+pub mod Casing
