@@ -19,6 +19,8 @@ use Rattle.bib.proofs.bib_pack.Reads as pack
 use Rattle.bib.proofs.bib_unpack.Reads as unpack
 use Rattle.bib.proofs.bib_format_verbatim.Kinds as format-verbatim-kinds
 use Rattle.bib.proofs.bib_format_verbatim.Reads as format-verbatim
+use Rattle.bib.proofs.bib_format_sentence.Kinds as format-sentence-kinds
+use Rattle.bib.proofs.bib_format_sentence.Reads as format-sentence
 use Rattle.bib.proofs.bib_to_biblatex_string.Kinds as to-biblatex-string-kinds
 use Rattle.bib.proofs.bib_to_biblatex_string.Reads as to-biblatex-string
 use Rattle.bib.proofs.bib_resolve_literal.Kinds as resolve-literal-kinds
@@ -86,6 +88,15 @@ pub one-bib-format-verbatim : Both 6 format-verbatim-kinds.ps format-verbatim-ki
     let m = b .1 in
     SameCall r r′ (now (n .0)) (now (m .0)) (now (n .1 .0)) (now (m .1 .0)) (now (n .1 .1 .0)) (now (m .1 .1 .0)) (now (a .0)) (now (b .0)))
 one-bib-format-verbatim κs a x y s t p q = same-call p q
+
+pub one-bib-format-sentence : Both 6 format-sentence-kinds.ps format-sentence-kinds.r format-sentence.Post
+    (λ κs r s r′ t.
+    let a = s .1 .1 in
+    let b = t .1 .1 in
+    let n = a .1 in
+    let m = b .1 in
+    SameCall r r′ (now (n .0)) (now (m .0)) (now (n .1 .0)) (now (m .1 .0)) (now (n .1 .1 .0)) (now (m .1 .1 .0)) (now (a .0)) (now (b .0)))
+one-bib-format-sentence κs a x y s t p q = same-call p q
 
 pub one-bib-to-biblatex-string : Both 6 to-biblatex-string-kinds.ps to-biblatex-string-kinds.r to-biblatex-string.Post
     (λ κs r s r′ t.

@@ -23,6 +23,7 @@ use Rattle.raw.specs.declared.answer.Reading.{Reading}
 use Rattle.raw.specs.declared.answer.Reading.the-variants as reading
 use Rattle.chunk.specs.Chunk.{chunksOf}
 use Rattle.chunk.specs.Format.{formatVerbatim, toBiblatexString}
+use Rattle.chunk.specs.Sentence.{formatSentence}
 use Rattle.chunk.specs.Write.{checkedOf, writingOf, writtenInto}
 use Rattle.pack.specs.Pack.{packedOf, packedInto}
 use Rattle.pack.specs.Unpack.{unpackedOf, unpackedInto}
@@ -90,6 +91,10 @@ ExportedWriting w t l b = Exported (writingOf (checkedOf t l) w (length b)) (wri
 -- `bib_format_verbatim`
 abbrev pub ExportedFormatVerbatim : List ℕ → List ℕ → List ℕ → ℕ → ℕ → ℕ → ℕ → List ℕ → Type 0
 ExportedFormatVerbatim t l = ExportedWriting (formatVerbatim (chunksOf t l)) t l
+
+-- `bib_format_sentence`
+abbrev pub ExportedFormatSentence : List ℕ → List ℕ → List ℕ → ℕ → ℕ → ℕ → ℕ → List ℕ → Type 0
+ExportedFormatSentence t l = ExportedWriting (formatSentence (chunksOf t l)) t l
 
 -- a flag of C: any number but 0 sets it
 abbrev pub isSet : ℕ → Bool

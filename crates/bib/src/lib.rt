@@ -6,6 +6,7 @@
 // Scratch holds zeros after the call, whatever it held. include/bib.h says all this to C.
 use chunk::biblatex;
 use chunk::format;
+use chunk::sentence;
 use fields::field;
 use pack::packing;
 use pack::unpacking;
@@ -22,7 +23,7 @@ ghost use lib.ListN.{length};
 ghost use Rattle.raw.specs.Read.{strict};
 ghost use Rattle.salvage.specs.Salvage.{salvaged};
 ghost use Rattle.bib.specs.Export.{ofReading, isSet, Told, ExportedReading, ExportedPack, ExportedUnpack};
-ghost use Rattle.bib.specs.Export.{ExportedFormatVerbatim, ExportedToBiblatexString};
+ghost use Rattle.bib.specs.Export.{ExportedFormatVerbatim, ExportedFormatSentence, ExportedToBiblatexString};
 ghost use Rattle.whole.specs.WholeFile.{allOf};
 ghost use Rattle.bib.specs.Export.{ToldResolving, ExportedLiteral, ExportedField, ToldFiling, ExportedFile};
 
@@ -167,6 +168,23 @@ pub extern "C" fn bib_format_verbatim(
 {
     let formatted = format::format_verbatim(text, rows, bytes);
     tell(formatted, count, start, end)
+}
+
+// Formats chunks in sentence case.
+#[no_mangle]
+pub extern "C" fn bib_format_sentence(
+    text: &[u8],
+    rows: &[u32],
+    bytes: &mut [u8],
+    count: &mut u64,
+    start: &mut u64,
+    end: &mut u64,
+) -> u32
+    ensures { λ r. ⌜ ExportedFormatSentence (now (text .entry)) (now (rows .entry)) (now (bytes .entry)) r
+        (now (count .exit)) (now (start .exit)) (now (end .exit)) (now (bytes .exit)) ⌝ }
+{
+    let said = sentence::format_sentence(text, rows, bytes);
+    tell(said, count, start, end)
 }
 
 // Serializes chunks into a BibLaTeX string, for a verbatim field unless `verbatim` is 0. A number and no `bool`, because C callers may pass

@@ -9,15 +9,16 @@ use lib.ListN.{length, drop, length-append}
 use lib.Seq.{drop-append-seam}
 use lib.Dec.{leb}
 use borrow.Author.Tests.{leb-false}
-use Rattle.text.specs.Utf8.{isChar, Octets, none, next, value, isScalar, octets}
+use Rattle.text.specs.Utf8.{isChar, Octets, none, next, value, isScalar, octets, utf8Of}
 use Rattle.text.specs.Class.{whiteSpace, isWhitespace}
 use Rattle.text.specs.Scan.{code}
 use Rattle.text.proofs.Shapes.{shapes}
 use Rattle.text.proofs.Rfc3629.{rfc3629}
 use Rattle.chunk.specs.Format.{lastCode, endsWhite, Written, written, before, isLineEnd, white, lines, isEscapable, escaped}
-use Rattle.chunk.specs.Characters.{utf8Of, Scalars, charLines, charEndsWhite, charEscaped, Characters}
+use Rattle.chunk.specs.Characters.{Scalars, charLines, charEndsWhite, charEscaped, Characters}
 use Rattle.chunk.specs.Inner.{plain}
 use Rattle.chunk.specs.Characters as chars
+use Rattle.chunk.proofs.texts.Decoded.{decoded}
 use Rattle.chunk.proofs.texts.LastCharacter.{last-char}
 use Rattle.chunk.proofs.texts.LineEnds.{run}
 use Rattle.chunk.proofs.texts.Escapes.{escape-some, escaped-append}
@@ -175,6 +176,7 @@ has-chars (next w {s} e o) =
 pub characters : Characters
 characters = record {
   has = λ t o. has-chars o;
+  decoded = decoded;
   lined = λ w cs s. lined-on cs s w [];
   ended = ended;
   escapes = escapes-all;

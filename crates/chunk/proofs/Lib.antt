@@ -8,10 +8,14 @@ pub mod texts
 pub mod passes
 -- the cases of specs/Worked.antt compute
 pub mod Worked
--- the proof of specs/WellFormed.antt: what both writers write is UTF-8
-pub mod WellFormed
 -- the proof of specs/Characters.antt: definitions by octets go through characters as chunk.rs does
 pub mod Characters
+-- sentence case
+pub mod sentences
+-- the proof of specs/WellFormed.antt: what the writers write is UTF-8
+pub mod WellFormed
+-- the proof of specs/Titles.antt: what stays of chunks in sentence case
+pub mod Titles
 -- the proof of specs/Refusals.antt: which refusals the writers can answer
 pub mod Refusals
 -- any two outcomes that a public contract allows are the same

@@ -21,6 +21,7 @@ use Rattle.row.specs.declared.fault.Outcome.{Outcome}
 use Rattle.row.specs.declared.fault.Outcome.the-variants as outcome
 use Rattle.chunk.specs.Chunk.{areChunks, chunksOf}
 use Rattle.chunk.specs.Format.{formatVerbatim, toBiblatexString}
+use Rattle.chunk.specs.Sentence.{formatSentence}
 use Rattle.chunk.specs.Write.{rowsChecked, checkedOf, writingOf, writtenInto, Write}
 use Rattle.chunk.specs.Refusals.{WriteFault, ill-formed, bad-chunks, full, Refusals}
 
@@ -95,6 +96,8 @@ pub refusals : Refusals
 refusals = record {
   formats = λ t l b b′ f r. write-fault t l (formatVerbatim (chunksOf t l)) (length b) f (r .answer);
   writes = λ verb t l b b′ f r. write-fault t l (toBiblatexString verb (chunksOf t l)) (length b) f (r .answer);
+  sentences = λ t l b b′ f r. write-fault t l (formatSentence (chunksOf t l)) (length b) f (r .answer);
   formats-full = λ t l. write-full (formatVerbatim (chunksOf t l)) (checkedOf t l) (not-full t l);
   writes-full = λ verb t l. write-full (toBiblatexString verb (chunksOf t l)) (checkedOf t l) (not-full t l);
+  sentences-full = λ t l. write-full (formatSentence (chunksOf t l)) (checkedOf t l) (not-full t l);
 }

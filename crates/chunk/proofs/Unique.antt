@@ -15,8 +15,14 @@ use Rattle.chunk.proofs.form.row_at.Kinds as row-at-kinds
 use Rattle.chunk.proofs.form.row_at.Reads as row-at
 use Rattle.chunk.proofs.check.check.Kinds as check-kinds
 use Rattle.chunk.proofs.check.check.Reads as check
+use Rattle.chunk.proofs.format.format_one.Kinds as format-one-kinds
+use Rattle.chunk.proofs.format.format_one.Reads as format-one
+use Rattle.chunk.proofs.format.surely_fits.Kinds as surely-fits-kinds
+use Rattle.chunk.proofs.format.surely_fits.Reads as surely-fits
 use Rattle.chunk.proofs.format.format_verbatim.Kinds as format-verbatim-kinds
 use Rattle.chunk.proofs.format.format_verbatim.Reads as format-verbatim
+use Rattle.chunk.proofs.sentence.format_sentence.Kinds as format-sentence-kinds
+use Rattle.chunk.proofs.sentence.format_sentence.Reads as format-sentence
 use Rattle.chunk.proofs.biblatex.is_escapable.Kinds as is-escapable-kinds
 use Rattle.chunk.proofs.biblatex.is_escapable.Reads as is-escapable
 use Rattle.chunk.proofs.biblatex.to_biblatex_string.Kinds as to-biblatex-string-kinds
@@ -51,10 +57,22 @@ one-row-at κs a x y s t p q = (p .kind ∙ sym (q .kind), p .from ∙ sym (q .f
 pub one-check : One 2 check-kinds.ps check-kinds.r check.Post
 one-check κs a x y s t p q = p ∙ sym q
 
--- both writers give the same answer and leave the same bytes
+-- the same place, flag and bytes
+pub one-format-one : Both 2 format-one-kinds.ps format-one-kinds.r format-one.Post
+    (λ κs x s y t. (x .at ≡ y .at) × (x .white ≡ y .white) × (now (s .1 .1 .1 .1 .1 .0) ≡ now (t .1 .1 .1 .1 .1 .0)))
+one-format-one κs a x y s t p q = (p .0 .end ∙ sym (q .0 .end), p .1 .0 ∙ sym (q .1 .0), p .0 .bytes ∙ sym (q .0 .bytes))
+
+pub one-surely-fits : One 1 surely-fits-kinds.ps surely-fits-kinds.r surely-fits.Post
+one-surely-fits κs a x y s t p q = p ∙ sym q
+
+-- every writer gives the same answer and leaves the same bytes
 pub one-format-verbatim : Both 3 format-verbatim-kinds.ps format-verbatim-kinds.r format-verbatim.Post
     (λ κs x s y t. (x ≡ y) × (now (s .1 .1 .0) ≡ now (t .1 .1 .0)))
 one-format-verbatim κs a x y s t p q = (p .answer ∙ sym (q .answer), p .bytes ∙ sym (q .bytes))
+
+pub one-format-sentence : Both 3 format-sentence-kinds.ps format-sentence-kinds.r format-sentence.Post
+    (λ κs x s y t. (x ≡ y) × (now (s .1 .1 .0) ≡ now (t .1 .1 .0)))
+one-format-sentence κs a x y s t p q = (p .answer ∙ sym (q .answer), p .bytes ∙ sym (q .bytes))
 
 pub one-is-escapable : One 0 is-escapable-kinds.ps is-escapable-kinds.r is-escapable.Post
 one-is-escapable κs a x y s t p q = p ∙ sym q

@@ -1,4 +1,4 @@
--- What both writers write is UTF-8: `well-formed`.
+-- What the writers write is UTF-8: `well-formed`.
 -- Assumes nothing.
 use Prim.Native.Nat.{ℕ, _+_, _-_, _%_, _≤_}
 use native.Mathlib.Omega.{arith}
@@ -27,6 +27,7 @@ use Rattle.chunk.specs.WellFormed as texts
 use Rattle.chunk.proofs.texts.PassedSequences.{ascii, Kept, low, high, kept, high-plain, high-escaped}
 use Rattle.chunk.proofs.texts.LineEnds.{run}
 use Rattle.chunk.proofs.texts.Escapes.{escaped-append}
+use Rattle.chunk.proofs.sentences.Sizes.{sentence-octets}
 use Rattle.chunk.proofs.rows.Answers.{are-chunks, written}
 
 -- ---- what is written of a text
@@ -140,7 +141,9 @@ well-formed = record {
   checked = check-texts;
   formatted = λ cs h. format-octets false h;
   serialized = string-octets;
+  sentenced = λ cs h. sentence-octets true false h;
   append = append-texts;
   formats = λ t l b b′ n h. call-octets t l (λ x. format-octets false x) h;
   writes = λ verb t l b b′ n h. call-octets t l (string-octets verb (chunksOf t l)) h;
+  sentences = λ t l b b′ n h. call-octets t l (λ x. sentence-octets true false x) h;
 }

@@ -6,6 +6,14 @@ pub mod Puts
 pub mod Copies
 -- the last character of a text, sought from its end
 pub mod LastCharacter
+-- the characters of a text
+pub mod Decoded
+-- runs of ASCII without line ends
+pub mod PlainRuns
+-- runs of characters that lowering changes by ASCII's rule alone
+pub mod QuietRuns
+-- one character, encoded into four bytes and copied from there
+pub mod Encodes
 -- a Normal text, run by run between its line ends
 pub mod LineEnds
 -- characters that are escaped

@@ -1,6 +1,6 @@
 -- chunk.rs goes through a text character by character, and the definitions of specs/Format.antt octet by octet. On a text that is UTF-8 both
 -- give the same result. The proof is `characters` of proofs/Characters.antt.
---     utf8Of              the octets of characters, which are scalar values
+--     Scalars             characters that are scalar values; their octets are `utf8Of` of text/specs/Utf8.antt
 --     charLines           [chunk.rs:format_verbatim] of a Normal text
 --     charEndsWhite       [chunk.rs:format_verbatim] of a Verbatim text: whether its last character is white space
 --     charEscaped         [chunk.rs:Chunk::to_biblatex_string]
@@ -10,13 +10,10 @@ use mathlib.Core.Path.{_≡_}
 use mathlib.Core.Bool.{Bool, true, false, cond}
 use mathlib.Core.List.{List, [], _∷_, _++_}
 use lib.ListN.{length}
-use Rattle.text.specs.Utf8.{isScalar, octets, Octets}
+use Rattle.text.specs.Utf8.{isScalar, octets, utf8Of, Octets}
 use Rattle.text.specs.Class.{isWhitespace}
 use Rattle.chunk.specs.Format.{lastAt, lastCode, Written, written, before, isLineEnd, lines, endsWhite, isEscapable, escaped}
-
-unfoldable pub utf8Of : List ℕ → List ℕ
-utf8Of [] = []
-utf8Of (c ∷ cs) = octets c ++ utf8Of cs
+use Rattle.chunk.specs.Sentence.{chars}
 
 -- all of these characters are scalar values
 pub data Scalars : List ℕ → Type 0 where
@@ -42,6 +39,8 @@ charEscaped verb (c ∷ cs) = cond (isEscapable c verb false) (0x5C ∷ c ∷ ch
 pub record Characters : Type 0 where
   -- a text that is UTF-8 is the octets of some characters
   pub has : (t : List ℕ) → Octets t → (cs : List ℕ) × Scalars cs × (utf8Of cs ≡ t)
+  -- and these are the ones that `chars` of specs/Sentence.antt gives, through which [chunk.rs:format_sentence] goes
+  pub decoded : (cs : List ℕ) → Scalars cs → chars (utf8Of cs) ≡ cs
   -- over octets the definitions give what chunk.rs gives over characters: the lines, whether white space comes last, the escapes
   pub lined : (w : Bool) (cs : List ℕ) → Scalars cs → lines w [] (utf8Of cs) ≡ written (utf8Of (charLines w cs .text)) (charLines w cs .white)
   pub ended : (cs : List ℕ) → Scalars cs → endsWhite (utf8Of cs) ≡ charEndsWhite cs

@@ -1,9 +1,11 @@
 pub mod Chunk
 pub mod Format
+pub mod Sentence
 pub mod Worked
 pub mod Put
 pub mod Inner
 pub mod Write
 pub mod WellFormed
 pub mod Characters
+pub mod Titles
 pub mod Refusals

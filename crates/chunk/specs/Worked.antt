@@ -1,5 +1,6 @@
--- Chunks and what both writers make of them: the chunks of real values, and line ends, white space and extra braces across chunks.
+-- Chunks and what the writers make of them: the chunks of real values, and line ends, white space and extra braces across chunks.
 --     table       the cases
+--     titles      cases of sentence case
 --     Worked      the definitions give their texts. The proof is `worked` of proofs/Worked.antt
 -- Assumes nothing.
 use Prim.Native.String.{String}
@@ -11,6 +12,7 @@ use Rattle.chunk.specs.declared.form.Kind.{Kind}
 use Rattle.chunk.specs.declared.form.Kind.the-variants.{Normal, Verbatim, Math}
 use Rattle.chunk.specs.Chunk.{Chunk, chunk}
 use Rattle.chunk.specs.Format.{formatVerbatim, toBiblatexString}
+use Rattle.chunk.specs.Sentence.{formatSentence}
 
 -- a chunk, whose span no writer looks at
 infix 80 _of_
@@ -71,8 +73,47 @@ table =
     (Verbatim of "a_" ∷ Math of "x_1" ∷ Verbatim of "~" ∷ []) writes "a_$x_1$~" and "{{a\\_$x_1$\\~}}" or "{{a_$x_1$~}}" ∷
     []
 
+-- chunks, and their text by `format_sentence`
+pub record Title : Type 0 where
+  pub chunks : List Chunk
+  pub sentence : String
+
+infix 70 _says_
+abbrev pub _says_ : List Chunk → String → Title
+_says_ cs t = record { chunks = cs; sentence = t }
+
+unfoldable pub titles : List Title
+titles =
+    (Normal of "ON THE " ∷ Verbatim of "NASA" ∷ Normal of " WAY TO " ∷ Math of "X^2" ∷ []) says "On the NASA way to $X^2$" ∷
+    -- the first chunk uses `first` up, whatever it is, and so does a line end at the beginning
+    (Normal of "" ∷ Normal of "ABC" ∷ []) says "abc" ∷
+    (Verbatim of "" ∷ Normal of "ABC" ∷ []) says "abc" ∷
+    (Math of "x" ∷ Normal of "ABC" ∷ []) says "$x$abc" ∷
+    (Normal of "\nABC" ∷ []) says " abc" ∷
+    -- a line end behind white space vanishes, wherever that came from; Math leaves `prev_was_whitespace`, and an empty Verbatim clears it
+    (Normal of "A\r\nB" ∷ []) says "A b" ∷
+    (Normal of "A\u{3000}\nB" ∷ []) says "A\u{3000}b" ∷
+    (Verbatim of "A " ∷ Normal of "\nB" ∷ []) says "A b" ∷
+    (Normal of "A " ∷ Math of "X" ∷ Normal of "\nB" ∷ []) says "A $X$b" ∷
+    (Normal of "A " ∷ Verbatim of "" ∷ Normal of "\nB" ∷ []) says "A  b" ∷
+    -- more characters than one, and no conditional mappings
+    (Normal of "ßA" ∷ []) says "SSa" ∷
+    (Normal of "ŉA" ∷ []) says "ʼNa" ∷
+    (Normal of "ΐ" ∷ []) says "Ϊ́" ∷
+    (Normal of "Aİ" ∷ []) says "Ai̇" ∷
+    (Normal of "ΟΣ" ∷ []) says "Οσ" ∷
+    []
+
 -- all three texts are what the definitions give
-abbrev pub Worked : Type 0
-Worked =
+abbrev pub WorkedTexts : Type 0
+WorkedTexts =
     map (λ c. formatVerbatim (c .chunks) ∷ toBiblatexString false (c .chunks) ∷ toBiblatexString true (c .chunks) ∷ []) table
     ≡ map (λ c. utf8 (c .plain) ∷ utf8 (c .bib) ∷ utf8 (c .bibVerbatim) ∷ []) table
+
+-- and so are the titles
+abbrev pub WorkedTitles : Type 0
+WorkedTitles = map (λ c. formatSentence (c .chunks)) titles ≡ map (λ c. utf8 (c .sentence)) titles
+
+pub record Worked : Type 0 where
+  pub texts : WorkedTexts
+  pub sentences : WorkedTitles

@@ -1,4 +1,4 @@
--- The contracts of `format_verbatim` and `to_biblatex_string` [01:Numbers a caller can get]: "Order: 1 for a file, 2, 17, .. then 16 exactly
+-- The contracts of `format_verbatim`, `to_biblatex_string` and `format_sentence` [01:Numbers a caller can get]: "Order: 1 for a file, 2, 17, .. then 16 exactly
 -- if an answer exists and needs more rows or bytes than a lent output has. .. All output stays as it was on refusal; on success the room
 -- past the answer stays as it was". 2 is at the first byte of the text's first ill-formed sequence, 17 and 16 at 0..0.
 --     checkedOf         the check: 2, then 17
@@ -21,6 +21,7 @@ use Rattle.row.specs.declared.fault.Outcome.{Outcome}
 use Rattle.row.specs.declared.fault.Outcome.the-variants as outcome
 use Rattle.chunk.specs.Chunk.{areChunks, chunksOf}
 use Rattle.chunk.specs.Format.{formatVerbatim, toBiblatexString}
+use Rattle.chunk.specs.Sentence.{formatSentence}
 
 -- ---- the check of the lent text t and the lent numbers l
 
@@ -55,3 +56,7 @@ FormatVerbatim t l b r b′ = Write (checkedOf t l) (formatVerbatim (chunksOf t 
 
 abbrev pub ToBiblatexString : Bool → List ℕ → List ℕ → List ℕ → Outcome → List ℕ → Type 0
 ToBiblatexString verb t l b r b′ = Write (checkedOf t l) (toBiblatexString verb (chunksOf t l)) b r b′
+
+-- [02:1] "Refusals: 2, 17, then 16."
+abbrev pub FormatSentence : List ℕ → List ℕ → List ℕ → Outcome → List ℕ → Type 0
+FormatSentence t l b r b′ = Write (checkedOf t l) (formatSentence (chunksOf t l)) b r b′

@@ -54,7 +54,7 @@ fn lines(t: &[u8], from: usize, to: usize, white: bool, out: &mut [u8], at: usiz
 }
 
 // A chunk, whose text stands from one place to another.
-fn format_one(
+pub fn format_one(
     kind: Kind,
     t: &[u8],
     from: usize,
@@ -108,16 +108,16 @@ fn format_all(t: &[u8], rows: &[u32], room: usize, out: &mut [u8]) -> usize
     at
 }
 
-// Whether there surely is room: each chunk is written as two bytes more than its text has, at most.
-fn surely_fits(rows: &[u32], room: usize) -> bool
-    requires { ⌜ ((t : List ℕ) × (areChunks t (now rows) ≡ true)) × (room ≤ mostRoom) ⌝ }
-    ensures { λ r. ⌜ r ≡ leb (mostOf (chunkRows (now (rows .entry)))) room ⌝ }
+// Whether there surely is room: each chunk is written as two bytes more than so many `times` its text has, at most.
+pub fn surely_fits(rows: &[u32], room: usize, times: usize) -> bool
+    requires { ⌜ ((t : List ℕ) × (areChunks t (now rows) ≡ true)) × (room ≤ mostRoom) × (times ≤ 3) ⌝ }
+    ensures { λ r. ⌜ r ≡ leb (mostOf times (chunkRows (now (rows .entry)))) room ⌝ }
 {
     let mut n = 0;
     let mut i = 0;
     while i < rows.len() {
         let row = form::row_at(rows, i);
-        n += row.to - row.from + 2;
+        n += times * (row.to - row.from) + 2;
         if room < n {
             return false;
         }
@@ -137,7 +137,7 @@ pub fn format_verbatim(t: &[u8], rows: &[u32], out: &mut [u8]) -> Outcome
         Checked::Passed => {}
     }
     let room = out.len();
-    if !surely_fits(rows, room) {
+    if !surely_fits(rows, room, 1) {
         let mut none = [0u8; 0];
         let end = format_all(t, rows, room, &mut none);
         if room < end {

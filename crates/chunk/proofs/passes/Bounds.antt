@@ -1,11 +1,13 @@
 -- How many octets chunks are formatted as, at most.
 --     format-most, surely                         two for each chunk, and its text; so they fit where these do
+--     times-small                                 products that have room
 --     Fitting, fit-start, fit-turn                the loop of `surely_fits`: its invariant, where it begins, and its turn
 --     fit-stop, fit-done                          what it answers where the octets are more than the room, and at its end
 -- Assumes nothing.
-use Prim.Native.Nat.{ℕ, _+_, _-_, _≤_, _<_}
+use Prim.Native.Nat.{ℕ, _+_, _-_, _*_, _≤_, _<_}
 use native.Mathlib.Omega.{arith}
-use mathlib.Core.Path.{_≡_, sym, ap}
+use native.Mathlib.Nat.{mul-le-mul}
+use mathlib.Core.Path.{_≡_, sym, ap, ap₂}
 use mathlib.Core.Bool.{Bool, true, false, cond}
 use mathlib.Core.List.{List, [], _∷_, _++_, map}
 use lib.ListN.{length, drop, length-append}
@@ -36,7 +38,7 @@ one-most w Normal t = omega (arith, lines-most w [] t)
 one-most w Verbatim t = omega arith
 one-most w Math t = omega (arith, length-append t (0x24 ∷ []))
 
-pub format-most : (t : List ℕ) (rs : List ChunkRow) (w : Bool) → length (formatFrom w (map (chunkOf t) rs)) ≤ mostOf rs
+pub format-most : (t : List ℕ) (rs : List ChunkRow) (w : Bool) → length (formatFrom w (map (chunkOf t) rs)) ≤ mostOf 1 rs
 unfolding formatFrom mostOf
 format-most t [] w = omega arith
 format-most t (r ∷ rs) w =
@@ -46,42 +48,46 @@ format-most t (r ∷ rs) w =
     let others = format-most t rs (f .white) in
     sum (length-append (f .text) (formatFrom (f .white) (map (chunkOf t) rs))) one (part-size t (r .from) (r .to)) others
   where
-    sum : {n a b c d m : ℕ} → n ≡ a + b → a ≤ c + 2 → c ≤ d → b ≤ m → n ≤ d + 2 + m
+    sum : {n a b c d m : ℕ} → n ≡ a + b → a ≤ c + 2 → c ≤ d → b ≤ m → n ≤ 1 * d + 2 + m
     sum p q r s = omega arith
 
-pub surely : (t l : List ℕ) {room : ℕ} → leb (mostOf (chunkRows l)) room ≡ true → length (formatVerbatim (chunksOf t l)) ≤ room
-surely t l {room} e = omega (arith, format-most t (chunkRows l) false, leb-true (mostOf (chunkRows l)) room e)
+pub surely : (t l : List ℕ) {room : ℕ} → leb (mostOf 1 (chunkRows l)) room ≡ true → length (formatVerbatim (chunksOf t l)) ≤ room
+surely t l {room} e = omega (arith, format-most t (chunkRows l) false, leb-true (mostOf 1 (chunkRows l)) room e)
 
 -- ---- the loop of `surely_fits`
 
--- the rows before number i come to n octets at most. The rows passed the check over some text
-pub record Fitting (l : List ℕ) (n i : ℕ) : Type 0 where
+-- three times the length of a text have room in a number
+pub times-small : (m n : ℕ) → m ≤ 3 → n ≤ 4294967295 → m * n ≤ 3 * 4294967295
+times-small m n h k = mul-le-mul h k
+
+-- the rows before number i come to n octets at most, m times their text. The rows passed the check over some text
+pub record Fitting (m : ℕ) (l : List ℕ) (n i : ℕ) : Type 0 where
   pub over : List ℕ
   pub chunks : areChunks over l ≡ true
   pub checks : Checking over l i
-  pub same : n + mostOf (chunkRows (drop i l)) ≡ mostOf (chunkRows l)
+  pub same : n + mostOf m (chunkRows (drop i l)) ≡ mostOf m (chunkRows l)
 
-pub fit-start : (t l : List ℕ) → areChunks t l ≡ true → Fitting l 0 0
-fit-start t l e = record { over = t; chunks = e; checks = starts t l e; same = omega arith }
+pub fit-start : (m : ℕ) (t l : List ℕ) → areChunks t l ≡ true → Fitting m l 0 0
+fit-start m t l e = record { over = t; chunks = e; checks = starts t l e; same = omega arith }
 
-module _ {l : List ℕ} {n i : ℕ} (g : Fitting l n i) where
-  pub fit-turn : i < length l → {k f e : ℕ} → Stores l i k f e → Fitting l (n + (e - f + 2)) (i + 5)
+module _ {m : ℕ} {l : List ℕ} {n i : ℕ} (g : Fitting m l n i) where
+  pub fit-turn : i < length l → {k f e : ℕ} → Stores l i k f e → Fitting m l (n + (m * (e - f) + 2)) (i + 5)
   unfolding mostOf
   fit-turn h {k} {f} {e} s = record {
     over = g .over;
     chunks = g .chunks;
     checks = check-turn (g .checks) h (row-passes (g .checks) (g .chunks) h);
-    same = sum (mostOf (chunkRows (drop (i + 5) l))) (s .from) (s .to) (ap mostOf (rows-open l i (five (g .checks) h))) (g .same);
+    same = sum (mostOf m (chunkRows (drop (i + 5) l))) (ap₂ (λ (x y : ℕ). m * (y - x)) (s .from) (s .to)) (ap (mostOf m) (rows-open l i (five (g .checks) h))) (g .same);
   }
     where
-      sum : (m : ℕ) {f f₁ e e₁ x all : ℕ} → f ≡ f₁ → e ≡ e₁ → x ≡ e₁ - f₁ + 2 + m → n + x ≡ all → n + (e - f + 2) + m ≡ all
-      sum m p q r z = omega arith
+      sum : (k : ℕ) {a b x all : ℕ} → a ≡ b → x ≡ b + 2 + k → n + x ≡ all → n + (a + 2) + k ≡ all
+      sum k p r z = omega arith
 
-  pub fit-stop : {room : ℕ} → room < n → false ≡ leb (mostOf (chunkRows l)) room
-  fit-stop {room} h = sym (lt-leb (mostOf (chunkRows l)) room (omega (arith, g .same)))
+  pub fit-stop : {room : ℕ} → room < n → false ≡ leb (mostOf m (chunkRows l)) room
+  fit-stop {room} h = sym (lt-leb (mostOf m (chunkRows l)) room (omega (arith, g .same)))
 
-  pub fit-done : length l ≤ i → {room : ℕ} → n ≤ room → true ≡ leb (mostOf (chunkRows l)) room
+  pub fit-done : length l ≤ i → {room : ℕ} → n ≤ room → true ≡ leb (mostOf m (chunkRows l)) room
   unfolding mostOf
   fit-done h {room} k =
-      let none : mostOf (chunkRows (drop i l)) ≡ 0 = ap mostOf (rows-end l i h) in
-      sym (le-leb (mostOf (chunkRows l)) room (omega (arith, g .same, none)))
+      let none : mostOf m (chunkRows (drop i l)) ≡ 0 = ap (mostOf m) (rows-end l i h) in
+      sym (le-leb (mostOf m (chunkRows l)) room (omega (arith, g .same, none)))

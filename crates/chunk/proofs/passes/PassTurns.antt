@@ -1,7 +1,8 @@
--- The turns of both writers' passes, whose invariant is `Passing`.
+-- The turns of the writers' passes, whose invariant is `Passing`.
 --     RowRead, row-of                                                  a row as the code reads it
 --     format-start, format-turn, format-more, format-done              `format_all`
 --     write-start, write-turn, write-more, write-done                  `write_all`
+--     sentence-start, sentence-turn, sentence-more, sentence-done      `sentence_all`
 -- Assumes nothing.
 use Prim.Native.Nat.{ℕ, _+_, _≤_, _<_}
 use mathlib.Core.Path.{_≡_, refl, sym, ap, ap₂, _∙_}
@@ -10,9 +11,10 @@ use mathlib.Core.List.{List, [], _∷_, _++_, append-nil}
 use lib.ListN.{length, getD}
 use Rattle.text.specs.Scan.{part}
 use Rattle.chunk.specs.declared.form.Kind.{Kind}
-use Rattle.chunk.specs.Chunk.{kindFrom, chunksOf, areChunks, Stores}
+use Rattle.chunk.specs.Chunk.{Chunk, kindFrom, chunksOf, areChunks, Stores}
 use Rattle.chunk.specs.Format.{Written, formatOne, formatFrom, formatVerbatim}
 use Rattle.chunk.specs.Format.{opening, extraAfter, bodyOf, biblatexOne, closing, biblatexFrom, toBiblatexString}
+use Rattle.chunk.specs.Sentence.{sentenceOne, sentenceFrom, formatSentence}
 use Rattle.chunk.specs.Put.{Puts, Fills}
 use Rattle.chunk.proofs.rows.RowCheck.{starts}
 use Rattle.chunk.proofs.texts.Puts.{puts-none, puts-on}
@@ -95,3 +97,33 @@ module _ (verb : Bool) {t l o₀ : List ℕ} {n₀ : ℕ} {o : List ℕ} {b : Bo
 
       pub write-done : {room : ℕ} → Fills (toBiblatexString verb (chunksOf t l)) room u r o′
       write-done = fills-bytes whole all
+
+-- ---- `sentence_all`
+
+-- the state is `first` and `prev_was_whitespace`
+abbrev sentences : Bool × Bool → List Chunk → List ℕ
+sentences s cs = sentenceFrom (s .0) (s .1) cs
+
+abbrev pub Sentencing : List ℕ → List ℕ → List ℕ → List ℕ → Bool → Bool → ℕ → ℕ → Type 0
+Sentencing t l o₀ o f b n i = Passing sentences (formatSentence (chunksOf t l)) t l o₀ 0 o (f, b) n i
+
+pub sentence-start : (t l o : List ℕ) → areChunks t l ≡ true → Sentencing t l o o true false 0 0
+sentence-start t l o e = record { text = []; puts = puts-none o 0; same = refl; checks = starts t l e; long = refl }
+
+module _ {t l o₀ o : List ℕ} {f₀ b : Bool} {n i : ℕ} (g : Sentencing t l o₀ o f₀ b n i) where
+  pub sentence-turn : areChunks t l ≡ true → i < length l → {kind : Kind} {k f e : ℕ} → RowRead l i kind k f e → {r : ℕ} {o′ : List ℕ} {d : Bool} →
+      Puts o n (sentenceOne f₀ b kind (part t f e) .text) r o′ → d ≡ sentenceOne f₀ b kind (part t f e) .white → length o′ ≡ length o →
+      Sentencing t l o₀ o′ false d r (i + 5)
+  unfolding sentenceFrom
+  sentence-turn all-chunks h {kind} {k} {f} {e} row y x z =
+      let q = row-is (λ (k : Kind) (a e : ℕ). sentenceOne f₀ b k (part t a e)) row in
+      let whole = ap (λ (w : Written). w .text ++ sentenceFrom false (w .white) (rest t l (i + 5))) (sym q) in
+      passed g all-chunks h
+      (whole ∙ ap (λ (c : Bool). sentenceOne f₀ b kind (part t f e) .text ++ sentenceFrom false c (rest t l (i + 5))) (sym x)) y z
+
+  pub sentence-more : {room : ℕ} → room < n → Fills (formatSentence (chunksOf t l)) room o₀ n o
+  sentence-more h = fills-more (sentenceFrom f₀ b (rest t l i)) (g .same) (g .puts) h
+
+  pub sentence-done : areChunks t l ≡ true → length l ≤ i → {room : ℕ} → Fills (formatSentence (chunksOf t l)) room o₀ n o
+  unfolding sentenceFrom
+  sentence-done all-chunks h = fills-bytes (sym (append-nil (g .text)) ∙ at-end g all-chunks h) (g .puts)

@@ -1,4 +1,4 @@
--- A pass over chunk rows, for both writers: `from b cs` is what a writer makes of the chunks cs where its flag is b.
+-- A pass over chunk rows, for every writer: `from b cs` is what a writer makes of the chunks cs where its state is b.
 --     Passing, passed, at-end      the loop: its invariant, its turn, and its end
 --     row-passes, row-here         a row where all pass the check; its text lies inside the lent text
 --     fills-more, fills-bytes      what the pass answers
@@ -6,7 +6,7 @@
 use Prim.Native.Nat.{ℕ, _+_, _≤_, _<_}
 use native.Mathlib.Omega.{arith}
 use mathlib.Core.Path.{_≡_, sym, ap, _∙_}
-use mathlib.Core.Bool.{Bool, true, not}
+use mathlib.Core.Bool.{true, not}
 use mathlib.Core.List.{List, [], _∷_, _++_, map, append-assoc}
 use lib.ListN.{length, getD, drop, length-append}
 use lib.Seq.{sets}
@@ -37,8 +37,8 @@ row-inside t r e =
 abbrev pub rest : List ℕ → List ℕ → ℕ → List Chunk
 rest t l i = map (chunkOf t) (chunkRows (drop i l))
 
--- the writer's whole text is w. What the rows before number i come to is put from the place n₀ on; the place is now n, and the flag b
-pub record Passing (from : Bool → List Chunk → List ℕ) (w t l o₀ : List ℕ) (n₀ : ℕ) (o : List ℕ) (b : Bool) (n i : ℕ) : Type 0 where
+-- the writer's whole text is w. What the rows before number i come to is put from the place n₀ on; the place is now n, and the state b
+pub record Passing {S : Type 0} (from : S → List Chunk → List ℕ) (w t l o₀ : List ℕ) (n₀ : ℕ) (o : List ℕ) (b : S) (n i : ℕ) : Type 0 where
   pub text : List ℕ
   pub puts : Puts o₀ n₀ text n o
   pub same : text ++ from b (rest t l i) ≡ w
@@ -52,11 +52,11 @@ module _ {t l : List ℕ} {i : ℕ} (g : Checking t l i) (all-chunks : areChunks
   pub row-here : {k f e : ℕ} → Stores l i k f e → (f ≤ e) × (e ≤ length t)
   row-here s = let y = row-inside t (rowAt l i) row-passes in (omega (arith, y .0, s .from, s .to), omega (arith, y .1, s .to))
 
-module _ {from : Bool → List Chunk → List ℕ} {w t l o₀ : List ℕ} {n₀ : ℕ} {o : List ℕ} {b : Bool} {n i : ℕ}
+module _ {S : Type 0} {from : S → List Chunk → List ℕ} {w t l o₀ : List ℕ} {n₀ : ℕ} {o : List ℕ} {b : S} {n i : ℕ}
     (g : Passing from w t l o₀ n₀ o b n i) (all-chunks : areChunks t l ≡ true) where
   module _ (h : i < length l) where
-    -- the row at i is written as v, and leaves the flag d
-    pub passed : {v : List ℕ} {d : Bool} {r : ℕ} {o′ : List ℕ} →
+    -- the row at i is written as v, and leaves the state d
+    pub passed : {v : List ℕ} {d : S} {r : ℕ} {o′ : List ℕ} →
         from b (chunkOf t (rowAt l i) ∷ rest t l (i + 5)) ≡ v ++ from d (rest t l (i + 5)) → Puts o n v r o′ → length o′ ≡ length o →
         Passing from w t l o₀ n₀ o′ d r (i + 5)
     passed {v} {d} e y z = record {

@@ -1,14 +1,15 @@
 -- Octets put into lent bytes.
 --     puts-none, puts-one, puts-past    putting nothing; one octet, where it fits or not; octets past the end of the lent bytes
 --     puts-on, puts-as                  putting one text after another; putting an equal text
+--     puts-most                         putting a text of which only the beginning may fit
 --     sets-fits                         a text that fits stands in front of the lent bytes
 -- Assumes nothing.
-use Prim.Native.Nat.{ℕ, suc, _+_, _≤_}
+use Prim.Native.Nat.{ℕ, suc, _+_, _≤_, _<_}
 use native.Mathlib.Omega.{arith}
 use mathlib.Core.Path.{_≡_, refl, sym, ap, subst, _∙_}
-use mathlib.Core.List.{List, [], _∷_, _++_}
+use mathlib.Core.List.{List, [], _∷_, _++_, append-nil}
 use lib.ListN.{length, drop, set, length-append, length-set}
-use lib.Seq.{sets, sets-eq, set-out}
+use lib.Seq.{sets, sets-eq, set-out, length-sets}
 use Rattle.text.proofs.general.Lists.{sets-append}
 use Rattle.chunk.specs.Put.{Puts}
 
@@ -46,3 +47,11 @@ puts-on {v} {w} {o} {n} {r} {o₁} {r₁} {o₂} h k = record {
 
 pub puts-as : {v w o : List ℕ} {n r : ℕ} {o₁ : List ℕ} → v ≡ w → Puts o n v r o₁ → Puts o n w r o₁
 puts-as {o = o} {n} {r} {o₁} e h = subst (λ (x : List ℕ). Puts o n x r o₁) e h
+
+-- the beginning u fits, and what follows it only if there is room behind u
+pub puts-most : (u v : List ℕ) {o o′ : List ℕ} {n r : ℕ} → (0 < length v → length o ≤ n + length u) → o′ ≡ sets o n u → r ≡ n + (length u + length v) →
+    Puts o n (u ++ v) r o′
+puts-most u [] {n = n} full q e = puts-as (sym (append-nil u)) (record { end = omega arith; bytes = q })
+puts-most u (b ∷ v) {o} {o′} {n} {r} full q e =
+    puts-on {v = u} (record { end = refl; bytes = q })
+    (puts-past (b ∷ v) (omega (arith, full (omega arith), ap length q ∙ length-sets o n u)) (omega arith))

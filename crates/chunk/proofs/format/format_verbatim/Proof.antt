@@ -22,7 +22,7 @@ surely-fits-requires c κs =
     let entry = check .before .before .before .before in
     let a = entry .args in
     let passed = laws.are-chunks (a .t .now) (a .rows .now) (sym (check .check .ensures) ∙ c .enum-told .given .1) in
-    ((a .t .now, passed .1), omega (arith, entry .good .1 .1 .0 .1))
+    ((a .t .now, passed .1), omega (arith, entry .good .1 .1 .0 .1), omega arith)
 
 format-all-requires : tie.Need-format-all-requires
 format-all-requires c κs =
