@@ -155,6 +155,17 @@ uint32_t bib_format_verbatim(const uint8_t *text, size_t text_len,
                              uint8_t *bytes, size_t bytes_len,
                              uint64_t *count, uint64_t *start, uint64_t *end);
 
+/* Formats chunks in sentence case: as bib_format_verbatim does, but what is Normal in lower case, save
+ * the first character of the first chunk, which is in upper case. A first chunk that is empty or not
+ * Normal has no such character, and then none is raised. Upper and lower case are by Unicode's full
+ * mappings, which look neither at the language nor at the characters around: one character may become
+ * three. So 3 bytes for each byte of the chunks' texts, and 2 for each chunk, are always room enough.
+ * Refuses as bib_format_verbatim does. */
+uint32_t bib_format_sentence(const uint8_t *text, size_t text_len,
+                             const uint32_t *rows, size_t rows_len,
+                             uint8_t *bytes, size_t bytes_len,
+                             uint64_t *count, uint64_t *start, uint64_t *end);
+
 /* Writes chunks as a BibLaTeX string, in its braces and with backslashes before what needs them. In
  * a verbatim field, as "file" or "url", less does: verbatim is 0, or any other number for such a
  * field. Refuses as bib_format_verbatim does. */

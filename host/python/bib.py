@@ -34,8 +34,8 @@ import site
 from typing import Iterable, NamedTuple, Optional, Tuple, Union
 
 __all__ = ["Chunk", "ChunkRow", "ChunkRows", "Finding", "Kind", "MONTHS", "MOST_BYTES", "MOST_LITERAL", "Refusal", "Resolved", "Row", "Rows"]
-__all__ += ["VERBATIM", "check", "format_verbatim", "pack", "read", "resolve_field", "resolve_file", "resolve_literal", "salvage"]
-__all__ += ["to_biblatex_string", "unpack"]
+__all__ += ["VERBATIM", "check", "format_sentence", "format_verbatim", "pack", "read", "resolve_field", "resolve_file", "resolve_literal"]
+__all__ += ["salvage", "to_biblatex_string", "unpack"]
 
 # The most bytes that a file may have, and a literal that is resolved; the numbers of a row, the bytes of a packed one, and the
 # numbers of a chunk row and of a value's answer; and the least scratch.
@@ -252,7 +252,7 @@ def _function(name: str, given: list, numbers: int = 3):
 
 
 _read, _salvage, _pack, _unpack = (_function(name, _LENT) for name in ("bib_read", "bib_salvage", "bib_pack", "bib_unpack"))
-_format_verbatim = _function("bib_format_verbatim", _LENT + _LENT)
+_format_verbatim, _format_sentence = (_function(name, _LENT + _LENT) for name in ("bib_format_verbatim", "bib_format_sentence"))
 _to_biblatex_string = _function("bib_to_biblatex_string", _LENT + _LENT + [ctypes.c_uint32])
 _PLACES = [ctypes.c_size_t, ctypes.c_size_t]
 _resolve_literal = _function("bib_resolve_literal", _LENT + _PLACES + [ctypes.c_uint32] + _LENT + _LENT, 5)
@@ -389,6 +389,13 @@ def format_verbatim(text: bytes, chunks: Iterable[Tuple[int, int, int, int, int]
     """Formats chunks verbatim. A chunk is its kind, text start and end, which are bytes of the text, and span start and end,
     which are not looked at."""
     return _written(_format_verbatim, text, chunks, (), 1)
+
+
+def format_sentence(text: bytes, chunks: Iterable[Tuple[int, int, int, int, int]]) -> str:
+    """Formats chunks in sentence case: what is normal in lower case, save the first character of the first chunk, which is in
+    upper case; all else as `format_verbatim` does."""
+    # A character of two bytes may become three of two bytes each.
+    return _written(_format_sentence, text, chunks, (), 3)
 
 
 def to_biblatex_string(text: bytes, chunks: Iterable[Tuple[int, int, int, int, int]], is_verbatim: bool) -> str:

@@ -38,7 +38,8 @@ class Reading(unittest.TestCase):
     def test_only_bytes(self):
         calls = [bib.read, bib.salvage, bib.unpack, lambda file: bib.resolve_file(file, (), ())]
         calls += [lambda file: bib.resolve_literal(file, 0, 0, False), lambda file: bib.resolve_field(file, (), 0, False)]
-        calls += [lambda text: bib.format_verbatim(text, ()), lambda text: bib.to_biblatex_string(text, (), False), bib.check]
+        calls += [lambda text: bib.format_verbatim(text, ()), lambda text: bib.format_sentence(text, ())]
+        calls += [lambda text: bib.to_biblatex_string(text, (), False), bib.check]
         for call in calls:
             for given in (5, "@a{k,}", None, [64]):
                 with self.assertRaisesRegex(TypeError, "give the bytes of a file, .* not " + type(given).__name__):
@@ -55,7 +56,8 @@ class Reading(unittest.TestCase):
                 with self.assertRaisesRegex(TypeError, "give Rows, or rows of 4 whole numbers: "):
                     call(given)
         for given in (5, "@a{", None, [5], [(0, 0, 0, 0, "0")], rows):
-            for call in (lambda rows: bib.format_verbatim(b"", rows), lambda rows: bib.to_biblatex_string(b"", rows, False)):
+            calls = [lambda rows: bib.format_verbatim(b"", rows), lambda rows: bib.format_sentence(b"", rows)]
+            for call in calls + [lambda rows: bib.to_biblatex_string(b"", rows, False)]:
                 with self.assertRaisesRegex(TypeError, "give ChunkRows, or rows of 5 whole numbers: "):
                     call(given)
         with self.assertRaises(Refusal):
@@ -142,7 +144,9 @@ class Writing(unittest.TestCase):
         self.assertEqual(bib.format_verbatim(self.TEXT, self.CHUNKS), "a_ _$é$")
         self.assertEqual(bib.to_biblatex_string(self.TEXT, self.CHUNKS, False), "{a\\_\n{\\_$é$}}")
         self.assertEqual(bib.to_biblatex_string(self.TEXT, self.CHUNKS, True), "{a_\n{_$é$}}")
+        self.assertEqual(bib.format_sentence(self.TEXT, self.CHUNKS), "A_ _$é$")
         self.assertEqual(bib.format_verbatim(b"", []), "")
+        self.assertEqual(bib.format_sentence(b"", []), "")
         self.assertEqual(bib.to_biblatex_string(b"", [], False), "{}")
 
     def test_most_bytes(self):
@@ -150,12 +154,36 @@ class Writing(unittest.TestCase):
         written = bib.to_biblatex_string(b"}", [(1, 0, 1, 0, 0), (0, 0, 1, 0, 0)] * 9, False)
         self.assertEqual(written, "{" + "{\\}}\\}" * 9 + "}")
         self.assertEqual(bib.format_verbatim(b"x", [(2, 0, 1, 0, 0)] * 9), "$x$" * 9)
+        self.assertEqual(bib.format_sentence("ΐ".encode(), [(0, 0, 2, 0, 0)]), "\u0399\u0308\u0301")
+        self.assertEqual(bib.format_sentence("İ".encode(), [(0, 0, 2, 0, 0)] * 9), "İ" + "i\u0307" * 8)
+
+    def test_sentences(self):
+        """Of what may surprise, each case worked out by hand from src/chunk.rs."""
+        normal, verbatim, math = Chunk.NORMAL, Chunk.VERBATIM, Chunk.MATH
+        cases = [
+            ([(normal, "the "), (verbatim, "NASA"), (normal, " Archive")], "The NASA archive"),
+            ([(normal, ""), (normal, "Abc")], "abc"),
+            ([(math, ""), (normal, "Abc")], "$$abc"),
+            ([(normal, "\nAbc")], " abc"),
+            ([(verbatim, "X "), (normal, "\r\nB")], "X b"),
+            ([(normal, "a "), (math, "X"), (normal, "\nB")], "A $X$b"),
+            ([(normal, "a "), (verbatim, ""), (normal, "\nB")], "A  b"),
+            ([(normal, "ßŉΣ")], "SSŉσ"),
+        ]
+        for parts, want in cases:
+            text, chunks = b"", []
+            for kind, part in parts:
+                chunks.append((kind, len(text), len(text) + len(part.encode()), 0, 0))
+                text += part.encode()
+            self.assertEqual(bib.format_sentence(text, chunks), want)
+        resolved = bib.resolve_literal(b"{On} Its {OWN} Terms", 0, 20, False)
+        self.assertEqual(bib.format_sentence(resolved.text, resolved.chunks), "On its OWN terms")
 
     def test_refusals(self):
         bad = [[(3, 0, 1, 0, 0)], [(0, 2, 1, 0, 0)], [(0, 0, 8, 0, 0)], [(0, 5, 6, 0, 0)], [(0, 0, 1, 0)], [(0, 0, -1, 0, 0)]]
         cases = [(self.TEXT, rows, 17, 0) for rows in bad] + [(b"a\xff", rows, 2, 1) for rows in bad + [self.CHUNKS]]
         for text, rows, number, place in cases:
-            for call in (bib.format_verbatim, lambda text, rows: bib.to_biblatex_string(text, rows, True)):
+            for call in (bib.format_verbatim, bib.format_sentence, lambda text, rows: bib.to_biblatex_string(text, rows, True)):
                 with self.assertRaises(Refusal) as caught:
                     call(text, rows)
                 refusal = caught.exception

@@ -5,7 +5,8 @@
 //!     cargo run --release -p bench                        the made shapes only
 //!     cargo run --release -p bench -- --processor FOLDER  the processor's time, where there is other work
 //!     cargo run --release -p bench -- --only literals FOLDER    of reading, utf8, packing, salvage,
-//!                                                         literals, names, wholes and buckets just this
+//!                                                         literals, sentences, names, wholes and buckets
+//!                                                         just this
 //!     cargo run --release -p bench -- --only buckets --most 16    files of up to 16 MB whose names have one
 //!                                                         hash, and not of 1 MB alone
 //!     cargo run --release -p bench -- --write FOLDER --most 16    writes these files, and times nothing
@@ -26,13 +27,14 @@
 //! Rust packer, with ratios of the same sense; and salvage: on files sound and damaged beside strict
 //! reading, where the figure is salvage's time divided by strict reading's, and on files of many
 //! pieces. And literals, and all fields of files, resolved and formatted, beside the Rust's functions;
-//! and a program against the names of the Rust's modules, over the original and over the proved library.
+//! titles formatted in sentence case beside the Rust's; and a program against the names of the Rust's modules, over the original and over the proved library.
 
 mod buckets;
 mod literals;
 mod names;
 mod packing;
 mod salvage;
+mod sentences;
 mod shapes;
 mod timing;
 mod utf8;
@@ -93,6 +95,9 @@ fn main() -> ExitCode {
     let Wanted { folders, .. } = &wanted;
     if wanted.has("literals") {
         literals::run(folders, rounds);
+    }
+    if wanted.has("sentences") {
+        sentences::run(folders, rounds);
     }
     if wanted.has("names") {
         names::run(folders, rounds);

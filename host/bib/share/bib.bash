@@ -23,7 +23,7 @@ _bib() {
         check:-*) mapfile -t COMPREPLY < <(compgen -W '--allow --deny --strict --all --no-resolve --list --json --quiet --color --limit --strings --help' -- "$word") ;;
         resolve:-*) mapfile -t COMPREPLY < <(compgen -W '--verbatim --months --salvage --limit --strings --help' -- "$word") ;;
         write:-*) mapfile -t COMPREPLY < <(compgen -W '--only --output --keep --strict --limit --strings --help' -- "$word") ;;
-        show:-*) mapfile -t COMPREPLY < <(compgen -W '--places --json --strict --limit --strings --help' -- "$word") ;;
+        show:-*) mapfile -t COMPREPLY < <(compgen -W '--places --json --sentence --strict --limit --strings --help' -- "$word") ;;
         show:*)
             if [ "$COMP_CWORD" -eq 2 ]; then
                 mapfile -t COMPREPLY < <(compgen -f -- "$word")

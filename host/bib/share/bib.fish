@@ -33,6 +33,7 @@ complete -c bib -n '__fish_seen_subcommand_from check' -l color -x -a 'auto alwa
 complete -c bib -n '__fish_seen_subcommand_from show; and test (count (commandline -opc)) -ge 3' -f -a '(__bib_keys)' -d 'Key'
 complete -c bib -n '__fish_seen_subcommand_from show' -l places -d 'With lines and columns'
 complete -c bib -n '__fish_seen_subcommand_from show' -l json -d 'A JSON object for each entry'
+complete -c bib -n '__fish_seen_subcommand_from show' -l sentence -d 'Titles in sentence case'
 complete -c bib -n '__fish_seen_subcommand_from write' -l only -x -d 'Writes the entries of these keys'
 complete -c bib -n '__fish_seen_subcommand_from write' -s o -l output -r -d 'Writes into this file'
 complete -c bib -n '__fish_seen_subcommand_from write' -l keep -d 'Writes a field that cannot be resolved as it stands'

@@ -60,6 +60,7 @@ _bib() {
         _arguments \
             '--places[with lines and columns]' \
             '--json[a JSON object for each entry]' \
+            '--sentence[titles in sentence case]' \
             '--strict[exit status 1 for warnings too]' \
             '--limit[so many bytes the values of a file come to]:bytes:' \
             '*--strings[lends the definitions of this file]:file:_files' \

@@ -1,5 +1,5 @@
 //! What the Rust asks outside the three modules: which fields are verbatim, and what the months are
-//! called.
+//! called. And which fields are titles.
 
 use proved::known::{MONTHS, VERBATIM};
 
@@ -9,6 +9,29 @@ use crate::{memory, Kind, Refusal, Rows};
 pub fn is_verbatim_field(name: &[u8]) -> bool {
     let is_name = |known: &&str| name.eq_ignore_ascii_case(known.as_bytes());
     VERBATIM.iter().any(is_name)
+}
+
+/// The fields of a work's own title; of a periodical they are its name.
+const OWN_TITLES: [&str; 3] = ["title", "subtitle", "shorttitle"];
+
+/// The fields of the titles of what a work is in, or is printed as.
+const OTHER_TITLES: [&str; 7] = [
+    "booktitle",
+    "booksubtitle",
+    "maintitle",
+    "mainsubtitle",
+    "issuetitle",
+    "issuesubtitle",
+    "reprinttitle",
+];
+
+/// Whether a field of this name has the title of a work, in an entry of this type; both in small or
+/// large letters of ASCII. Names of journals, series and events are no titles, and neither are the notes
+/// to a title, as `titleaddon`.
+pub fn is_title_field(entry_type: &[u8], name: &[u8]) -> bool {
+    let is_name = |known: &&str| name.eq_ignore_ascii_case(known.as_bytes());
+    let is_periodical = entry_type.eq_ignore_ascii_case(b"periodical");
+    OTHER_TITLES.iter().any(is_name) || (!is_periodical && OWN_TITLES.iter().any(is_name))
 }
 
 /// The English months: each word with its text. Words are compared byte by byte, so that each is
@@ -74,6 +97,26 @@ mod tests {
     fn verbatim_fields() {
         assert!(is_verbatim_field(b"url") && is_verbatim_field(b"URLraw"));
         assert!(!is_verbatim_field(b"urls") && !is_verbatim_field(b"title"));
+    }
+
+    #[test]
+    fn title_fields() {
+        assert!(is_title_field(b"book", b"title") && is_title_field(b"inbook", b"BookTitle"));
+        assert!(is_title_field(b"article", b"issuesubtitle"));
+        for name in [
+            "journaltitle",
+            "journal",
+            "series",
+            "eventtitle",
+            "titleaddon",
+            "origtitle",
+        ] {
+            assert!(!is_title_field(b"article", name.as_bytes()), "{name}");
+        }
+        // The title of a periodical is its name, but one issue of it may have a title.
+        assert!(!is_title_field(b"Periodical", b"title"));
+        assert!(!is_title_field(b"periodical", b"subtitle"));
+        assert!(is_title_field(b"periodical", b"issuetitle"));
     }
 
     /// No word is there twice, and each is its month's name or the first letters of it.

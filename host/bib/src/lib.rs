@@ -25,7 +25,7 @@ mod room;
 mod row;
 
 pub use chunk::Resolved;
-pub use fields::{is_verbatim_field, verbatim_flags, ENGLISH_MONTHS};
+pub use fields::{is_title_field, is_verbatim_field, verbatim_flags, ENGLISH_MONTHS};
 pub use filed::{ResolvedFile, ResolvedValue};
 pub use lent::{Lending, Lent, LentPlace, LENT};
 pub use limit::USUAL_LIMIT;
@@ -82,6 +82,20 @@ pub fn format_verbatim(text: &[u8], rows: &[u32]) -> Result<String, Refusal> {
     // A chunk is at most its text and two dollars.
     let most = chunk::most(text, rows, 1);
     answered(|bytes| proved::format_verbatim(text, rows, bytes), most, 1).map(chunk::text)
+}
+
+/// Formats chunks in sentence case: what is Normal in lower case, save the first character of the
+/// first chunk, which is in upper case; all else as [`format_verbatim`] does. The rows are as there.
+///
+/// ```
+/// let resolved = bib::resolve_literal(b"the {NASA} Archive", 0..18, false).unwrap();
+/// let shown = bib::format_sentence(resolved.text.as_bytes(), &resolved.rows).unwrap();
+/// assert_eq!(shown, "The NASA archive");
+/// ```
+pub fn format_sentence(text: &[u8], rows: &[u32]) -> Result<String, Refusal> {
+    // A character of two bytes may become three of two bytes each.
+    let most = chunk::most(text, rows, 3);
+    answered(|bytes| proved::format_sentence(text, rows, bytes), most, 1).map(chunk::text)
 }
 
 /// Writes chunks as a BibLaTeX string, for a verbatim field (as `file` or `url`) or another. The

@@ -193,6 +193,14 @@ static struct answer format(const char *given, const uint32_t *rows, size_t rows
     return a;
 }
 
+static struct answer sentence(const char *given, const uint32_t *rows, size_t rows_len, uint8_t bytes[32], size_t room)
+{
+    struct answer a = unset();
+    memset(bytes, 0xA5, 32);
+    a.status = bib_format_sentence((const uint8_t *)given, strlen(given), rows, rows_len, bytes, room, &a.count, &a.start, &a.end);
+    return a;
+}
+
 static struct answer serialize(const char *given, const uint32_t *rows, size_t rows_len, uint32_t verbatim, uint8_t bytes[32], size_t room)
 {
     struct answer a = unset();
@@ -227,6 +235,28 @@ static void formats(void)
     hold(says(a, BIB_BAD_ROWS, 0, 0, 0) && holds(bytes, ""), "no whole count of chunk rows, before no room");
 }
 
+/* "a", a sharp s and "B" as chunks of each kind; and the sharp s first, which becomes two letters */
+static void formats_sentences(void)
+{
+    static const char *const sharp = "a\xc3\x9f" "B";
+    static const uint32_t kinds[] = {BIB_NORMAL, 0, 4, SPAN, BIB_VERBATIM, 3, 4, SPAN, BIB_MATH, 0, 1, SPAN};
+    static const uint32_t first[] = {BIB_NORMAL, 1, 4, SPAN};
+    static const uint32_t second[] = {BIB_NORMAL, 0, 0, SPAN, BIB_NORMAL, 1, 4, SPAN};
+    uint8_t bytes[32];
+    struct answer a = sentence(sharp, kinds, 15, bytes, 32);
+    hold(says(a, BIB_OK, 8, 0, 0) && holds(bytes, "A\xc3\x9f" "bB$a$"), "three chunks in sentence case");
+    a = sentence(sharp, first, 5, bytes, 3);
+    hold(says(a, BIB_OK, 3, 0, 0) && holds(bytes, "SSb"), "a sharp s first, in exactly the room");
+    a = sentence(sharp, first, 5, bytes, 2);
+    hold(says(a, BIB_NO_ROOM, 0, 0, 0) && holds(bytes, ""), "a byte too few for a sentence");
+    a = sentence(sharp, second, 10, bytes, 32);
+    hold(says(a, BIB_OK, 3, 0, 0) && holds(bytes, "\xc3\x9f" "b"), "nothing raised behind an empty chunk");
+    a = sentence("a\xff", kinds, 14, bytes, 0);
+    hold(says(a, BIB_NOT_UTF8, 0, 1, 1) && holds(bytes, ""), "a sentence that is not UTF-8, before bad rows");
+    a = sentence(sharp, kinds, 14, bytes, 0);
+    hold(says(a, BIB_BAD_ROWS, 0, 0, 0) && holds(bytes, ""), "bad rows of a sentence, before no room");
+}
+
 static void writes(void)
 {
     uint8_t bytes[32];
@@ -250,6 +280,7 @@ static void refuses_chunks(void)
     uint8_t bytes[32];
     for (size_t i = 0; i < sizeof bad / sizeof bad[0]; i++) {
         hold(says(format(text, bad[i], 5, bytes, 32), BIB_BAD_ROWS, 0, 0, 0) && holds(bytes, ""), "a bad chunk row, formatted");
+        hold(says(sentence(text, bad[i], 5, bytes, 32), BIB_BAD_ROWS, 0, 0, 0) && holds(bytes, ""), "a bad chunk row, in sentence case");
         hold(says(serialize(text, bad[i], 5, 0, bytes, 32), BIB_BAD_ROWS, 0, 0, 0) && holds(bytes, ""), "a bad chunk row, written");
     }
 }
@@ -263,6 +294,12 @@ static void takes_nothing_to_write(void)
     a = unset();
     a.status = bib_format_verbatim(NULL, 0, empty, 5, NULL, 0, &a.count, &a.start, &a.end);
     hold(says(a, BIB_NO_ROOM, 0, 0, 0), "an empty chunk of null text, formatted into null bytes");
+    a = unset();
+    a.status = bib_format_sentence(NULL, 0, NULL, 0, NULL, 0, &a.count, &a.start, &a.end);
+    hold(says(a, BIB_OK, 0, 0, 0), "null text and null chunks, in sentence case into null bytes");
+    a = unset();
+    a.status = bib_format_sentence(NULL, 0, empty, 5, NULL, 0, &a.count, &a.start, &a.end);
+    hold(says(a, BIB_NO_ROOM, 0, 0, 0), "an empty chunk of null text, in sentence case into null bytes");
     a = unset();
     a.status = bib_to_biblatex_string(NULL, 0, NULL, 0, 0, NULL, 0, &a.count, &a.start, &a.end);
     hold(says(a, BIB_NO_ROOM, 0, 0, 0), "null text and null chunks, written into null bytes");
@@ -600,6 +637,7 @@ int main(void)
     refuses_a_long_file();
     packs();
     formats();
+    formats_sentences();
     writes();
     refuses_chunks();
     takes_nothing_to_write();

@@ -79,8 +79,64 @@ fn written_chunks() {
     let written = |verbatim| bib::to_biblatex_string(TEXT, &CHUNKS, verbatim).unwrap();
     assert_eq!(written(false), "{a\\_\n{\\_$é$}}");
     assert_eq!(written(true), "{a_\n{_$é$}}");
+    assert_eq!(bib::format_sentence(TEXT, &CHUNKS).unwrap(), "A_ _$é$");
     assert_eq!(bib::format_verbatim(b"", &[]).unwrap(), "");
+    assert_eq!(bib::format_sentence(b"", &[]).unwrap(), "");
     assert_eq!(bib::to_biblatex_string(b"", &[], false).unwrap(), "{}");
+}
+
+/// Chunks in sentence case, by kind and text.
+fn sentence(chunks: &[(u32, &str)]) -> String {
+    let (mut text, mut rows) = (String::new(), Vec::new());
+    for (kind, part) in chunks {
+        let from = text.len() as u32;
+        text += part;
+        rows.extend([*kind, from, text.len() as u32, 0, 0]);
+    }
+    bib::format_sentence(text.as_bytes(), &rows).unwrap()
+}
+
+/// The first character is raised and the others are lowered, Verbatim and Math are as they are, and each
+/// thing that may surprise has its case, worked out by hand from src/chunk.rs.
+#[test]
+fn sentences() {
+    const N: u32 = 0;
+    const V: u32 = 1;
+    const M: u32 = 2;
+    let cases: [(&[(u32, &str)], &str); 22] = [
+        (&[(N, "the NASA Archive")], "The nasa archive"),
+        (
+            &[(N, "the "), (V, "NASA"), (N, " Archive")],
+            "The NASA archive",
+        ),
+        (&[(M, "X"), (N, "Y\r\nZ")], "$X$y z"),
+        // The first chunk ends it, whatever it is.
+        (&[(V, "nasa"), (N, "Is")], "nasais"),
+        (&[(N, ""), (N, "Abc")], "abc"),
+        (&[(V, ""), (N, "Abc")], "abc"),
+        (&[(M, ""), (N, "Abc")], "$$abc"),
+        // A line end is a blank, also where it is the first character, and is none behind white space.
+        (&[(N, "\nAbc")], " abc"),
+        (&[(N, "\r\n\nAbc")], " abc"),
+        (&[(N, "a\u{3000}\nB\u{85}\rC")], "A\u{3000}b\u{85}c"),
+        (&[(V, "X "), (N, "\nB")], "X b"),
+        (&[(V, "X\n"), (N, "\nB")], "X\nb"),
+        // Math leaves the white space before it, and so does an empty Normal chunk; an empty Verbatim does not.
+        (&[(N, "a "), (M, "x"), (N, "\nB")], "A $x$b"),
+        (&[(N, "a"), (M, "x "), (N, "\nB")], "A$x $ b"),
+        (&[(N, "a "), (N, ""), (N, "\nB")], "A b"),
+        (&[(N, "a "), (V, ""), (N, "\nB")], "A  b"),
+        // Full mappings, without regard to neighbours.
+        (&[(N, "ßß")], "SSß"),
+        (&[(N, "ŉa")], "ʼNa"),
+        (&[(N, "ΐΐ")], "\u{399}\u{308}\u{301}ΐ"),
+        (&[(N, "İİ")], "İi\u{307}"),
+        (&[(N, "ΟΔΟΣ ΟΣ")], "Οδοσ οσ"),
+        (&[(N, "ǆǅ")], "Ǆǆ"),
+    ];
+    for (chunks, want) in cases {
+        assert_eq!(sentence(chunks), want, "{chunks:?}");
+    }
 }
 
 /// The most bytes that chunks can be written as find their room: each doubled, and marks around
@@ -97,6 +153,17 @@ fn room_enough_to_write() {
             let extra = if kind == 1 && count > 0 { 2 } else { 0 };
             assert_eq!(written.len(), 2 + extra + count * each);
         }
+    }
+    // Each byte tripled, which only the first character can be, or one more than doubled.
+    for count in 0..20 {
+        let rows = [0, 0, 2, 0, 0].repeat(count);
+        let raised = bib::format_sentence("ΐ".as_bytes(), &rows).unwrap();
+        assert_eq!(raised.len(), if count > 0 { 4 + 2 * count } else { 0 });
+        let lowered = bib::format_sentence("İ".as_bytes(), &rows).unwrap();
+        assert_eq!(lowered.len(), if count > 0 { 3 * count - 1 } else { 0 });
+        let rows = [2, 0, 2, 0, 0].repeat(count);
+        let formulas = bib::format_sentence("İ".as_bytes(), &rows).unwrap();
+        assert_eq!(formulas.len(), 4 * count);
     }
     // Every chunk opens or closes the extra brace.
     let rows = [1, 0, 1, 0, 0, 0, 0, 1, 0, 0].repeat(9);
@@ -278,14 +345,15 @@ fn refused_files() {
 
 #[test]
 fn refused_chunks() {
-    let both = |text: &[u8], rows: &[u32], want: Refusal| {
+    let refused = |text: &[u8], rows: &[u32], want: Refusal| {
         assert_eq!(bib::format_verbatim(text, rows), Err(want));
+        assert_eq!(bib::format_sentence(text, rows), Err(want));
         assert_eq!(bib::to_biblatex_string(text, rows, false), Err(want));
         assert_eq!(bib::to_biblatex_string(text, rows, true), Err(want));
     };
-    both(b"a\xff", &[9], refusal(Reason::NotUtf8, 1, 1));
+    refused(b"a\xff", &[9], refusal(Reason::NotUtf8, 1, 1));
     let bad = refusal(Reason::BadRows, 0, 0);
-    both(TEXT, &CHUNKS[..14], bad);
+    refused(TEXT, &CHUNKS[..14], bad);
     for (kind, start, end) in [
         (3, 0, 1),
         (0, 2, 1),
@@ -294,10 +362,10 @@ fn refused_chunks() {
         (2, 6, 7),
         (0, 5, 6),
     ] {
-        both(TEXT, &[kind, start, end, 0, 0], bad);
+        refused(TEXT, &[kind, start, end, 0, 0], bad);
     }
-    both(TEXT, &[0, 0, u32::MAX, 0, 0], bad);
-    both(TEXT, &[0, u32::MAX, u32::MAX, 0, 0], bad);
+    refused(TEXT, &[0, 0, u32::MAX, 0, 0], bad);
+    refused(TEXT, &[0, u32::MAX, u32::MAX, 0, 0], bad);
 }
 
 #[test]

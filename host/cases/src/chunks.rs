@@ -14,6 +14,19 @@ const KINDS: usize = 3;
 /// escaped unless the field is verbatim.
 pub const CLASSES: [&str; 8] = ["a", "é", " ", "\u{3000}", "\n", "\r", "{", "_"];
 
+/// One of each class that sentence case tells apart, likewise: a letter that is raised and one that is
+/// lowered, one that is raised to two letters and one that is lowered to two characters, white space of one
+/// byte and of three, and both line ends.
+pub const CASES: [&str; 8] = ["a", "B", "ß", "İ", " ", "\u{3000}", "\n", "\r"];
+
+/// The characters that are white space.
+#[rustfmt::skip]
+pub const WHITE_SPACE: [&str; 25] = [
+    "\t", "\n", "\u{B}", "\u{C}", "\r", " ", "\u{85}", "\u{A0}", "\u{1680}", "\u{2000}", "\u{2001}", "\u{2002}",
+    "\u{2003}", "\u{2004}", "\u{2005}", "\u{2006}", "\u{2007}", "\u{2008}", "\u{2009}", "\u{200A}", "\u{2028}",
+    "\u{2029}", "\u{202F}", "\u{205F}", "\u{3000}",
+];
+
 /// Characters for random texts: line ends, white space and what only looks like it, marks that are
 /// escaped or could be taken for such, and plain ones of every length.
 const CHARACTERS: [&str; 40] = [
@@ -36,6 +49,8 @@ pub const NO_PLACES: [u32; 6] = [
 /// Writes a text and rows of its chunks.
 pub struct Chunks<'a> {
     pub random: &'a mut Random,
+    /// Characters of which half a text is drawn, if there are any.
+    pub letters: &'a [&'a str],
     pub text: &'a mut Vec<u8>,
     pub rows: &'a mut Vec<u32>,
 }
@@ -67,7 +82,13 @@ impl Chunks<'_> {
 
     fn characters(&mut self, most: usize) {
         for _ in 0..self.random.below(most + 1) {
-            let character = self.random.pick(&CHARACTERS);
+            let are_letters = !self.letters.is_empty() && self.random.one_in(2);
+            let from = if are_letters {
+                self.letters
+            } else {
+                &CHARACTERS
+            };
+            let character = self.random.pick(from);
             self.text.extend_from_slice(character.as_bytes());
         }
     }

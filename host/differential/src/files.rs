@@ -10,14 +10,17 @@ use crate::judge::{Judge, SALVAGE};
 use crate::literals;
 use crate::packs::Packs;
 use crate::resolves::Resolves;
+use crate::sentences;
 use crate::values::{Asks, Values};
 use crate::wholes::Wholes;
+use crate::writes::{Asked, Writes};
 
 /// How a copy of a file is spoilt, with another file at hand.
 type Spoil = fn(&mut Random, &mut Vec<u8>, &[u8]);
 
 /// Compares each file, and copies of it that are damaged; packs the rows of each; then salvages
-/// each, and damaged copies; and resolves the literals of each, the fields, and all fields at once.
+/// each, and damaged copies; and resolves the literals of each, the fields, and all fields at once, and
+/// formats what they are resolved to in sentence case.
 pub fn run(judge: &mut Judge, paths: &[PathBuf], copies: usize, seed: u64) {
     let texts = cases::files(paths);
     let bytes: usize = texts.iter().map(Vec::len).sum();
@@ -41,6 +44,11 @@ pub fn run(judge: &mut Judge, paths: &[PathBuf], copies: usize, seed: u64) {
             spoilt(j, &texts, copies, random, spoil)
         });
     }
+    resolved(judge, &texts);
+}
+
+/// The groups of what is resolved.
+fn resolved(judge: &mut Judge, texts: &[Vec<u8>]) {
     judge.group("literals of files", |j| {
         let mut resolves = Resolves::new();
         let all = texts.iter();
@@ -51,7 +59,12 @@ pub fn run(judge: &mut Judge, paths: &[PathBuf], copies: usize, seed: u64) {
         let all = texts.iter();
         all.for_each(|text| fields::of_file(j, &mut values, text))
     });
-    judge.group("a program over the Rust's names", |j| moved(j, &texts));
+    judge.group("sentences of files", |j| {
+        let mut writes = Writes::new(Asked::Sentences);
+        let all = texts.iter();
+        all.for_each(|text| sentences::of_file(j, &mut writes, text))
+    });
+    judge.group("a program over the Rust's names", |j| moved(j, texts));
     judge.group("whole files", |j| {
         let mut wholes = Wholes::new();
         let all = texts.iter();

@@ -1,9 +1,9 @@
 //! Compares the proved reader with the Rust, row by row and refusal by refusal; then packing and
 //! unpacking with a Rust packer, salvage with 01's cutting around the Rust, the writers of chunks
-//! with the Rust's, and resolving of literals, of fields and of whole files, chunk by chunk, with the
+//! with the Rust's, sentence case among them, and resolving of literals, of fields and of whole files, chunk by chunk, with the
 //! Rust's.
 //!
-//!     cargo run --release -p differential                    some 2,920,000 cases, in a minute at most
+//!     cargo run --release -p differential                    some 4,630,000 cases, in a minute at most
 //!     cargo run --release -p differential -- --long          some hundred million
 //!     cargo run --release -p differential -- --seed 7        other random cases
 //!     cargo run --release -p differential -- --only literals   the groups whose names have this word
@@ -29,6 +29,7 @@ mod report;
 mod resolves;
 mod room;
 mod salvage;
+mod sentences;
 mod values;
 mod wholes;
 mod writes;
@@ -40,6 +41,7 @@ use std::process::ExitCode;
 use judge::{Judge, SALVAGE};
 use values::{Asks, Values};
 use wholes::Wholes;
+use writing::Texts;
 
 /// What the command line asks for.
 struct Wanted {
@@ -59,16 +61,19 @@ fn main() -> ExitCode {
         }
     };
     println!(
-        "seed {}; composition by {}",
+        "seed {}; composition by {}; case by the compiler, Unicode {}",
         wanted.seed,
-        oracle::COMPOSITION
+        oracle::COMPOSITION,
+        unicode()
     );
     let mut judge = Judge::new(&wanted.only);
     if wanted.paths.is_empty() {
         reading(&mut judge, &wanted);
         packing(&mut judge, &wanted);
         salvaging(&mut judge, &wanted);
-        writing(&mut judge, &wanted);
+        writing(&mut judge, &wanted, "writing", &writing::PLAIN);
+        writing(&mut judge, &wanted, "sentences", &writing::SENTENCES);
+        sentences(&mut judge, wanted.long);
         resolving(&mut judge, &wanted);
         resolving_fields::<Values>(&mut judge, &wanted, "fields");
         resolving_fields::<Wholes>(&mut judge, &wanted, "whole files");
@@ -130,20 +135,28 @@ fn salvaging(judge: &mut Judge, wanted: &Wanted) {
     judge.group("salvage, room", |j| drawn::SALVAGE.rooms(j, seed, long));
 }
 
-fn writing(judge: &mut Judge, wanted: &Wanted) {
+/// The groups of texts with chunks, by what they are asked about.
+fn writing(judge: &mut Judge, wanted: &Wanted, what: &str, texts: &Texts) {
     let Wanted { long, seed, .. } = *wanted;
-    judge.group("writing, all short chunks", |j| writing::sequences(j, long));
-    judge.group("writing, characters", |j| writing::characters(j, long));
-    judge.group("writing, ranges", writing::ranges);
-    judge.group("writing, counts", writing::counts);
-    judge.group(
-        "writing, sequences around UTF-8",
-        writing::sequences_of_bytes,
-    );
-    judge.group("writing, lengths", writing::lengths);
-    judge.group("writing, blocks", |j| writing::blocks(j, long));
-    judge.group("writing, drawn", |j| writing::drawn(j, seed, long));
-    judge.group("writing, room", |j| writing::rooms(j, seed, long));
+    let mut group = |name: &str, run: &dyn Fn(&mut Judge)| {
+        judge.group(&format!("{what}, {name}"), |j| run(j));
+    };
+    group("all short chunks", &|j| texts.sequences(j, long));
+    group("characters", &|j| texts.characters(j, long));
+    group("ranges", &|j| texts.ranges(j));
+    group("counts", &|j| texts.counts(j));
+    group("sequences around UTF-8", &|j| texts.sequences_of_bytes(j));
+    group("lengths", &|j| texts.lengths(j));
+    group("blocks", &|j| texts.blocks(j, long));
+    group("drawn", &|j| texts.drawn(j, seed, long));
+    group("room", &|j| texts.rooms(j, seed, long));
+}
+
+/// What only sentence case is asked.
+fn sentences(judge: &mut Judge, long: bool) {
+    judge.group("sentences, neighbours", |j| sentences::neighbours(j, long));
+    judge.group("sentences, pairs of chunks", |j| sentences::pairs(j, long));
+    judge.group("sentences, line ends", |j| sentences::line_ends(j, long));
 }
 
 fn resolving(judge: &mut Judge, wanted: &Wanted) {
@@ -162,6 +175,12 @@ fn resolving(judge: &mut Judge, wanted: &Wanted) {
     judge.group("literals, room", |j| literals::rooms(j, seed, long));
     judge.group("literals, places and scratch", literals::places);
     judge.group("literals, longest files", literals::files);
+}
+
+/// The version of Unicode by which the compiler's library raises and lowers letters.
+fn unicode() -> String {
+    let (major, minor, patch) = char::UNICODE_VERSION;
+    format!("{major}.{minor}.{patch}")
 }
 
 /// The groups of files with fields, by what asks about them.

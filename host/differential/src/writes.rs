@@ -23,13 +23,23 @@ const FLAGS: [u32; 5] = [1, 2, 0x100, 0x8000_0000, u32::MAX];
 #[derive(Debug, Clone, Copy)]
 enum Writer {
     FormatVerbatim,
+    FormatSentence,
     ToBiblatexString(u32),
+}
+
+/// Which writers are asked.
+#[derive(Clone, Copy, PartialEq)]
+pub enum Asked {
+    /// `format_verbatim`, and `to_biblatex_string` for both kinds of fields.
+    Plain,
+    Sentences,
 }
 
 impl Writer {
     fn rust(self, chunks: &[Spanned<Chunk>]) -> String {
         match self {
             Self::FormatVerbatim => chunks.format_verbatim(),
+            Self::FormatSentence => chunks.format_sentence(),
             Self::ToBiblatexString(verbatim) => chunks.to_biblatex_string(verbatim != 0),
         }
     }
@@ -37,6 +47,7 @@ impl Writer {
     fn proved(self, text: &[u8], rows: &[u32], bytes: &mut [u8]) -> Answer {
         match self {
             Self::FormatVerbatim => proved::format_verbatim(text, rows, bytes),
+            Self::FormatSentence => proved::format_sentence(text, rows, bytes),
             Self::ToBiblatexString(verbatim) => {
                 proved::to_biblatex_string(text, rows, verbatim, bytes)
             }
@@ -45,6 +56,7 @@ impl Writer {
 }
 
 pub struct Writes {
+    asked: Asked,
     /// Copies of what is lent to be read, with what stands behind.
     text: Vec<u8>,
     rows: Vec<u32>,
@@ -54,8 +66,9 @@ pub struct Writes {
 }
 
 impl Writes {
-    pub fn new() -> Self {
+    pub fn new(asked: Asked) -> Self {
         Self {
+            asked,
             text: Vec::new(),
             rows: Vec::new(),
             room: Room::new(),
@@ -63,8 +76,12 @@ impl Writes {
         }
     }
 
-    /// Both writers, one of them for both kinds of fields, with just enough room, with one byte
-    /// less and with some to spare.
+    /// With just enough room alone.
+    pub fn check_once(&mut self, judge: &mut Judge, text: &[u8], rows: &[u32]) {
+        self.all(judge, text, rows, |need| vec![need]);
+    }
+
+    /// With just enough room, with one byte less and with some to spare.
     pub fn check(&mut self, judge: &mut Judge, text: &[u8], rows: &[u32]) {
         self.all(judge, text, rows, |need| {
             let less = need.checked_sub(1);
@@ -90,9 +107,7 @@ impl Writes {
     ) {
         self.take(text, rows);
         let chunks = oracle::chunks(text, rows);
-        let flag = FLAGS[self.turn % FLAGS.len()];
-        let biblatex = [0, flag].map(Writer::ToBiblatexString);
-        for writer in [Writer::FormatVerbatim].into_iter().chain(biblatex) {
+        for writer in self.writers() {
             match &chunks {
                 Ok(chunks) => {
                     let written = writer.rust(chunks).into_bytes();
@@ -111,6 +126,18 @@ impl Writes {
             judge.count(chunks.is_ok(), false);
             println!("a writer changed what it was lent to read");
         }
+    }
+
+    fn writers(&self) -> Vec<Writer> {
+        if self.asked == Asked::Sentences {
+            return vec![Writer::FormatSentence];
+        }
+        let flag = FLAGS[self.turn % FLAGS.len()];
+        let biblatex = [0, flag].map(Writer::ToBiblatexString);
+        [Writer::FormatVerbatim]
+            .into_iter()
+            .chain(biblatex)
+            .collect()
     }
 
     fn take(&mut self, text: &[u8], rows: &[u32]) {

@@ -64,6 +64,7 @@ fn add_chunks(list: &mut String, chunks: &Chunks) {
     }
     writeln!(list, "    {:?}", chunks.span()).expect("strings grow");
     writeln!(list, "    {}", chunks.format_verbatim()).expect("strings grow");
+    writeln!(list, "    {}", chunks.format_sentence()).expect("strings grow");
     for is_verbatim in [false, true] {
         let written = chunks.to_biblatex_string(is_verbatim);
         writeln!(list, "    {written}").expect("strings grow");

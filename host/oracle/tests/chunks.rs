@@ -28,6 +28,7 @@ fn rows_are_chunks() {
     assert_eq!(texts, [&normal("aé"), &verbatim, &math, &normal("")]);
     assert_eq!(found[0].span, 7..9);
     assert_eq!(found.format_verbatim(), "aé漢$😀$");
+    assert_eq!(found.format_sentence(), "Aé漢$😀$");
     assert_eq!(found.to_biblatex_string(false), "{aé{漢$😀$}}");
     assert_eq!(chunks(b"", &[]), Ok(vec![]));
 }

@@ -10,7 +10,7 @@ pub use filing::{resolve_file, Filed, LentForFile, ANSWER_NUMBERS};
 pub use resolving::{
     resolve_field, resolve_literal, File, Lent, Resolved, LEAST_SCRATCH, MOST_LITERAL,
 };
-pub use writing::{format_verbatim, to_biblatex_string};
+pub use writing::{format_sentence, format_verbatim, to_biblatex_string};
 
 use call::{answer, call};
 

@@ -1,6 +1,7 @@
 //! Chunks: the parts of a value that is resolved, and what is written of them.
 
-use crate::{lent, Span, Spanned};
+use crate::lent::{self, Way};
+use crate::{Span, Spanned};
 
 /// The chunks of a value.
 pub type Chunks = Vec<Spanned<Chunk>>;
@@ -37,7 +38,8 @@ impl Chunk {
         if let Self::Math(text) = self {
             return text.clone();
         }
-        let mut written = lent::write(&[(NORMAL, self.get())], Some(is_verbatim));
+        let way = Way::Biblatex { is_verbatim };
+        let mut written = lent::write(&[(NORMAL, self.get())], way);
         // The braces around all.
         written.pop();
         written.remove(0);
@@ -71,6 +73,10 @@ const MATH: u32 = 2;
 
 /// What is done with chunks.
 pub trait ChunksExt {
+    /// Their texts in sentence case: what is Normal in lower case, save the first character of the first
+    /// chunk, which is in upper case; line ends and Math as below.
+    fn format_sentence(&self) -> String;
+
     /// Their texts in a row, with a space for a line end in Normal ones and dollars around Math.
     fn format_verbatim(&self) -> String;
 
@@ -82,8 +88,12 @@ pub trait ChunksExt {
 }
 
 impl ChunksExt for [Spanned<Chunk>] {
+    fn format_sentence(&self) -> String {
+        lent::write(&parts(self), Way::Sentence)
+    }
+
     fn format_verbatim(&self) -> String {
-        lent::write(&parts(self), None)
+        lent::write(&parts(self), Way::Verbatim)
     }
 
     fn span(&self) -> Span {
@@ -94,7 +104,7 @@ impl ChunksExt for [Spanned<Chunk>] {
     }
 
     fn to_biblatex_string(&self, is_verbatim: bool) -> String {
-        lent::write(&parts(self), Some(is_verbatim))
+        lent::write(&parts(self), Way::Biblatex { is_verbatim })
     }
 }
 

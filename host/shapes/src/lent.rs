@@ -3,7 +3,7 @@
 
 use std::cell::RefCell;
 
-use proved::{File, Lent, Resolved};
+use proved::{Answer, File, Lent, Resolved};
 
 use crate::chunk::{Chunk, Chunks};
 use crate::raw::{ParseError, ParseErrorKind, Token};
@@ -153,9 +153,41 @@ impl Room {
     }
 }
 
-/// Chunks, by kind and text, as a BibLaTeX string for a verbatim field or another; or formatted
-/// verbatim, where none is said.
-pub fn write(chunks: &[(u32, &str)], biblatex: Option<bool>) -> String {
+/// How chunks are written.
+#[derive(Clone, Copy)]
+pub enum Way {
+    Sentence,
+    Verbatim,
+    /// As a BibLaTeX string, for a verbatim field or another.
+    Biblatex {
+        is_verbatim: bool,
+    },
+}
+
+impl Way {
+    /// As how many bytes each byte of a text is written at most: in sentence case a character of two bytes
+    /// may become three of two bytes each, and in a BibLaTeX string each may get a backslash.
+    fn each(self) -> usize {
+        match self {
+            Self::Sentence => 3,
+            Self::Verbatim => 1,
+            Self::Biblatex { .. } => 2,
+        }
+    }
+
+    fn write(self, text: &[u8], rows: &[u32], bytes: &mut [u8]) -> Answer {
+        match self {
+            Self::Sentence => proved::format_sentence(text, rows, bytes),
+            Self::Verbatim => proved::format_verbatim(text, rows, bytes),
+            Self::Biblatex { is_verbatim } => {
+                proved::to_biblatex_string(text, rows, is_verbatim.into(), bytes)
+            }
+        }
+    }
+}
+
+/// Chunks, by kind and text, written in this way.
+pub fn write(chunks: &[(u32, &str)], way: Way) -> String {
     let (mut text, mut rows) = (Vec::new(), Vec::new());
     for (kind, part) in chunks {
         let from = text.len();
@@ -163,19 +195,13 @@ pub fn write(chunks: &[(u32, &str)], biblatex: Option<bool>) -> String {
         let places = [from, text.len()].map(|place| u32::try_from(place).expect("shorter text"));
         rows.extend([*kind, places[0], places[1], 0, 0]);
     }
-    // Each byte may get a backslash, each chunk a mark before and after it, and all have braces.
-    let most = 2 * text.len() + 2 * chunks.len() + 3;
+    // Each chunk may get a mark before and after it, and all may have braces.
+    let most = way.each() * text.len() + 2 * chunks.len() + 3;
     ROOM.with_borrow_mut(|room| {
         if room.written.len() < most {
             room.written.resize(most, 0);
         }
-        let answer = match biblatex {
-            Some(is_verbatim) => {
-                let flag = is_verbatim.into();
-                proved::to_biblatex_string(&text, &rows, flag, &mut room.written)
-            }
-            None => proved::format_verbatim(&text, &rows, &mut room.written),
-        };
+        let answer = way.write(&text, &rows, &mut room.written);
         assert_eq!(answer.number, 0, "the rows are sound, and there is room");
         utf8(&room.written[..answer.count as usize]).into()
     })

@@ -13,9 +13,9 @@
 //! assert_eq!(chunks.format_verbatim(), "Gódel and others");
 //! ```
 //!
-//! What is not here: what parses chunks into types, `format_sentence`, and serde. What is more: the
-//! limits of the proved library are refusals here, with kinds of their own, where the original has no
-//! limit or does not end. The words in which errors are shown are others.
+//! What is not here: what parses chunks into types, and serde. What is more: the limits of the proved
+//! library are refusals here, with kinds of their own, where the original has no limit or does not end.
+//! The words in which errors are shown are others.
 
 pub mod chunk;
 mod lent;

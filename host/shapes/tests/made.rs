@@ -47,6 +47,7 @@ fn nothing() {
         [normal("", 0..0), x, normal("", 20..20), y]
     );
     assert_eq!([].format_verbatim(), "");
+    assert_eq!([].format_sentence(), "");
     assert_eq!([].to_biblatex_string(false), "{}");
     assert_eq!([].span(), 0..0);
 }
@@ -76,6 +77,42 @@ fn refusals() {
     assert_eq!(refused(vec![literal(&deep, 1)], &none), too_deep);
     let many = vec![name("may", 0); 4_097];
     assert_eq!(refused(many, &none), (ParseErrorKind::TooManyNames, 0..3));
+}
+
+/// What makes a chunk, and its text.
+type Part<'a> = (fn(String) -> Chunk, &'a str);
+
+/// Chunks in sentence case, wherever they stand.
+fn sentence(parts: &[Part]) -> String {
+    let parts = parts.iter();
+    let chunks = parts.map(|(kind, text)| Spanned::new(kind(text.to_string()), 2..5));
+    chunks.collect::<Vec<_>>().format_sentence()
+}
+
+/// In sentence case, with what may surprise: worked out by hand from src/chunk.rs.
+#[test]
+fn sentences() {
+    use Chunk::{Math, Normal, Verbatim};
+    let cases: [(&[Part], &str); 8] = [
+        (
+            &[(Normal, "the "), (Verbatim, "NASA"), (Normal, " Archive")],
+            "The NASA archive",
+        ),
+        (&[(Normal, ""), (Normal, "Abc")], "abc"),
+        (&[(Math, ""), (Normal, "Abc")], "$$abc"),
+        (&[(Normal, "\nAbc")], " abc"),
+        (&[(Verbatim, "X "), (Normal, "\r\nB")], "X b"),
+        (&[(Normal, "a "), (Math, "X"), (Normal, "\nB")], "A $X$b"),
+        (&[(Normal, "a "), (Verbatim, ""), (Normal, "\nB")], "A  b"),
+        (&[(Normal, "ßİΣ")], "SSi\u{307}σ"),
+    ];
+    for (parts, want) in cases {
+        assert_eq!(sentence(parts), want);
+    }
+    // More than is lent at first: two bytes become six, and others three.
+    let long = "İ".repeat(5_000);
+    let want = format!("\u{399}\u{308}\u{301}{}", "i\u{307}".repeat(5_000));
+    assert_eq!(sentence(&[(Normal, "ΐ"), (Normal, &long)]), want);
 }
 
 /// More than is lent at first.

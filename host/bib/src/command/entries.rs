@@ -7,7 +7,7 @@ use bib::check::{
 use std::collections::HashMap;
 use std::ops::Range;
 
-use bib::{Kind, Refusal, ResolvedFile, ResolvedValue, Row};
+use bib::{is_title_field, Kind, Refusal, ResolvedFile, ResolvedValue, Row};
 
 use crate::lending::Strings;
 use crate::words::Limit;
@@ -173,6 +173,20 @@ impl<'a> Entry<'a> {
             row: row + 1,
             value: values.get(value).and_then(Result::ok),
         })
+    }
+
+    /// The text of a field's value; where titles are wanted in sentence case, that of a title is.
+    pub fn text_of(
+        &self,
+        field: &Field,
+        value: ResolvedValue,
+        sentence: bool,
+    ) -> Result<String, Refusal> {
+        let text = value.text.as_bytes();
+        if sentence && is_title_field(self.kind(), field.name) {
+            return bib::format_sentence(text, value.rows);
+        }
+        bib::format_verbatim(text, value.rows)
     }
 
     /// The parts of a field's value: literals and names.

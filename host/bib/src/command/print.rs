@@ -48,6 +48,9 @@ written, changed and left out. Options of the two, where --strict is as above:
   --places              of `bib show`: with the line and column of each entry, field and used name
   --json                of `bib show`: a JSON object in a line for each entry, with the bytes of its
                         fields, chunks and names; the page of the manual says what is in it
+  --sentence            of `bib show`: titles in sentence case, so that `Maps of {M}ars and Its Moons` is
+                        shown as `Maps of Mars and its moons`. Names of journals, series and events stay as
+                        they are; the page of the manual says which fields are titles
   --only KEY,..         of `bib write`: writes the entries of these keys
   --output FILE, -o     of `bib write`: writes into this file, and not on standard output
   --keep                of `bib write`: an entry with a field that cannot be resolved is written, with
@@ -73,8 +76,9 @@ verba, verbb, verbc, pdf, url, urlraw. `bib resolve` knows what it is told:
 
 It prints a line `entry xKEY START END` for each entry, and `field xNAME START END` or `def xNAME
 START END` for each value, and then `refused NUMBER START END`; or `names N`, `chunk KIND xTEXT START END` for each chunk, and how these are
-written: `verbatim xTEXT`, and `bib0 xTEXT` and `bib1 xTEXT` as BibTeX, not verbatim and verbatim.
-Names and texts are in hex behind the x. The kinds of chunks: 0 normal, 1 verbatim, 2 formula.
+written: `verbatim xTEXT`; `sentence xTEXT` in sentence case; and `bib0 xTEXT` and `bib1 xTEXT` as
+BibTeX, not verbatim and verbatim. Names and texts are in hex behind the x. The kinds of chunks:
+0 normal, 1 verbatim, 2 formula.
 
 Rows are lines `kind detail start end`, and then `rows N`; places are bytes of the file. The kinds:
 0 preamble with its quotes, 1 entry, 2 entry type, 3 key, 4 field name, 5 value, 6 literal, 7 name,

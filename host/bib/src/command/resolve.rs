@@ -152,6 +152,8 @@ fn chunks(value: ResolvedValue, lent: &Lent, out: &mut impl Write) -> Result<(),
     }
     let formatted = bib::format_verbatim(text, rows)?;
     line("verbatim", &[], Some(formatted.as_bytes()), &[], out)?;
+    let sentence = bib::format_sentence(text, rows)?;
+    line("sentence", &[], Some(sentence.as_bytes()), &[], out)?;
     for (word, is_verbatim) in [("bib0", false), ("bib1", true)] {
         let written = bib::to_biblatex_string(text, rows, is_verbatim)?;
         line(word, &[], Some(written.as_bytes()), &[], out)?;

@@ -15,10 +15,11 @@ use crate::source::Source;
 /// What the kinds of chunks are called, in the order of their numbers.
 const KINDS: [&str; 3] = ["normal", "verbatim", "formula"];
 
-/// What is asked of places.
+/// What entries are shown by: where things stand, and whether titles are shown in sentence case.
 pub struct Screen<'a> {
     pub source: &'a Source,
     pub places: &'a Places<'a>,
+    pub sentence: bool,
     pub definitions: HashMap<&'a [u8], usize>,
 }
 
@@ -51,7 +52,7 @@ impl Screen<'_> {
             .number("value_end", value.end);
         let shown = field
             .value
-            .map(|value| bib::format_verbatim(value.text.as_bytes(), value.rows));
+            .map(|value| entry.text_of(field, value, self.sentence));
         let object = object.maybe("text", shown.transpose()?.as_deref());
         let mut chunks = Vec::new();
         if let Some(value) = field.value {

@@ -93,6 +93,7 @@ impl<W: Write> Shower<'_, W> {
         let screen = Screen {
             source: self.source,
             places: &places,
+            sentence: self.showing.sentence,
             definitions: match self.showing {
                 Showing {
                     places: false,
@@ -182,7 +183,7 @@ impl<W: Write> Shower<'_, W> {
             self.place(places, field.place)?;
             self.name(field.name, widest).map_err(Stop::Caller)?;
             if let Some(value) = field.value {
-                let text = bib::format_verbatim(value.text.as_bytes(), value.rows)?;
+                let text = entry.text_of(&field, value, screen.sentence)?;
                 self.line(&text).map_err(Stop::Caller)?;
                 self.names(entry, &field, screen)?;
                 continue;

@@ -78,6 +78,8 @@ pub struct Showing {
     pub places: bool,
     /// As JSON.
     pub json: bool,
+    /// Titles in sentence case.
+    pub sentence: bool,
     pub limit: Limit,
     pub strings: Vec<Source>,
 }
@@ -175,11 +177,13 @@ fn show(words: impl Iterator<Item = OsString>) -> Result<Words, Trouble> {
             ("--strict", None) => showing.strict = true,
             ("--places", None) => showing.places = true,
             ("--json", None) => showing.json = true,
+            ("--sentence", None) => showing.sentence = true,
             ("--help" | "-h", None) => return Ok(Words::Help),
             _ => {
                 let known = [
                     "--places",
                     "--json",
+                    "--sentence",
                     "--strict",
                     "--limit",
                     "--strings",

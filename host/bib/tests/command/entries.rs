@@ -39,6 +39,94 @@ misc k
     assert_eq!(run.text().matches("misc k").count(), 1);
 }
 
+const TITLES: &str = "\
+@string{tug = {TUGboat}}
+@Article{a,
+  Title = {on the {NASA} Archive: $X$ of Mars},
+  SUBTITLE = \"{\\\"U}bersicht: an Essay\",
+  shorttitle = {Archives},
+  titleaddon = {With a Foreword},
+  journal = {The Computer Journal},
+  journaltitle = tug # { Of } # tug,
+  issuetitle = tug # { Of } # tug,
+  series = {Lecture Notes},
+  eventtitle = {A Conference},
+  note = {In Print},
+}
+@periodical{b, title = {The Computer Journal}, issuetitle = {The Best Of}}
+@inbook{c, booktitle = {THE BOOK}, booksubtitle = {MORE}, maintitle = {ALL}, mainsubtitle = {ON}}
+";
+
+/// Titles of works are shown in sentence case where that is asked for, and nothing else is.
+#[test]
+fn show_sentences() {
+    let all = "\
+Article a
+  Title         On the NASA archive: $X$ of mars
+  SUBTITLE      Übersicht: an essay
+  shorttitle    Archives
+  titleaddon    With a Foreword
+  journal       The Computer Journal
+  journaltitle  TUGboat Of TUGboat
+  issuetitle    Tugboat of tugboat
+  series        Lecture Notes
+  eventtitle    A Conference
+  note          In Print
+
+periodical b
+  title       The Computer Journal
+  issuetitle  The best of
+
+inbook c
+  booktitle     The book
+  booksubtitle  More
+  maintitle     All
+  mainsubtitle  On
+";
+    bib(&["show", "--sentence"], TITLES.as_bytes()).is(0, all);
+    let plain = bib(&["show"], TITLES.as_bytes());
+    assert!(plain.text().contains("  booktitle     THE BOOK\n"));
+    for word in ["--sentence=1", "--sentnce"] {
+        let err = format!(
+            "bib: `{word}` is not known, did you mean `--sentence`? `bib --help` shows what can be asked\n"
+        );
+        bib(&["show", word], b"").says(2, &err);
+    }
+}
+
+/// With places, and as JSON, where the chunks are as in the file.
+#[test]
+fn show_sentences_otherwise() {
+    let file = b"@a{k, title = {The {X} Y}, note = {The Y}}";
+    let places = "1:1  a k\n1:7    title  The X y\n1:28   note   The Y\n";
+    bib(&["show", "--places", "--sentence"], file).is(0, places);
+    let run = bib(&["show", "--json", "--sentence"], file);
+    let title = r#""text":"The X y","chunks":[{"kind":"normal","text":"The ","#;
+    let note = r#""text":"The Y","chunks":[{"kind":"normal","text":"The Y","#;
+    assert!(run.text().contains(title), "{}", run.text());
+    assert!(run.text().contains(note), "{}", run.text());
+    // What cannot be resolved is said as ever.
+    let run = bib(&["show", "--sentence"], b"@a{k, title = {The } # no}");
+    assert_eq!(run.status, Some(1));
+    assert!(run.text().starts_with("a k\n  title  (not resolved)\n"));
+}
+
+/// The example of the page of the manual.
+#[test]
+fn sentence_of_the_manual() {
+    let page = include_str!("../../share/bib.1").replace("\\-", "-");
+    let (_, section) = page.split_once(".SH SENTENCE CASE").expect("it is there");
+    let mut examples = section.split(".nf\n").skip(1);
+    let mut example = || {
+        let text = examples.next().and_then(|text| text.split(".fi\n").next());
+        text.expect("it is an example")
+    };
+    let (field, shown) = (example(), example());
+    let file = format!("@book{{k, {field}}}");
+    let want = format!("book k\n  title  {shown}");
+    bib(&["show", "--sentence"], file.as_bytes()).is(0, &want);
+}
+
 /// An unknown key is a sentence; the others are shown.
 #[test]
 fn show_unknown_keys() {

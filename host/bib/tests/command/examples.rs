@@ -1,18 +1,24 @@
 //! The files of examples/: what is said of each is kept beside it, and what is shown of some.
 
 use std::path::Path;
-use std::{fs, process};
+use std::{fs, io, process};
 
 use crate::run::{knows, Run, BIB};
 
 /// What a work prints of an example, and ends with.
-fn run(root: &Path, work: &str, name: &str) -> Run {
+fn run(root: &Path, work: &[&str], name: &str) -> Run {
     let file = format!("examples/{name}.bib");
     let output = process::Command::new(BIB)
-        .args([work, &file])
+        .args(work)
+        .arg(&file)
         .current_dir(root)
         .output();
     Run::of(output.expect("the command starts"))
+}
+
+/// What is kept of it, in the file with this ending.
+fn kept(root: &Path, name: &str, end: &str) -> io::Result<String> {
+    fs::read_to_string(root.join(format!("examples/{name}.{end}")))
 }
 
 /// Examples that are shown as they would read by the C library, which may lack their encodings.
@@ -34,26 +40,42 @@ fn broken_files() {
         if encoding.is_some_and(|(_, encoding)| !knows(encoding)) {
             continue;
         }
-        let kept = |end: &str| fs::read_to_string(root.join(format!("examples/{name}.{end}")));
-        let said = kept("out").expect("it is kept");
+        let said = kept(&root, name, "out").expect("it is kept");
         let status = i32::from(said.contains(": error: "));
-        run(&root, "check", name).is(status, &said);
-        let (shown, written) = (kept("show"), kept("write"));
+        run(&root, &["check"], name).is(status, &said);
+        let is_shown = shown(&root, name);
+        let is_written = written(&root, name);
         assert!(
-            shown.is_ok() || written.is_ok() || said.lines().count() > 1,
+            is_shown || is_written || said.lines().count() > 1,
             "nothing is said of {name}"
         );
-        if let Ok(shown) = shown {
-            run(&root, "show", name).is(0, &shown);
-        }
-        if let Ok(written) = written {
-            let run = run(&root, "write", name);
-            assert_eq!((run.status, run.text()), (Some(0), written.as_str()));
-            assert!(
-                run.err.ends_with(" written, 0 changed, 0 left out\n"),
-                "{}",
-                run.err
-            );
-        }
     }
+}
+
+/// Shows an example as is kept beside it; whether anything is.
+fn shown(root: &Path, name: &str) -> bool {
+    let works: [(&str, &[&str]); 2] = [("show", &["show"]), ("sentence", &["show", "--sentence"])];
+    let kept = works.into_iter().filter(|(end, work)| {
+        let kept = kept(root, name, end);
+        kept.is_ok_and(|kept| {
+            run(root, work, name).is(0, &kept);
+            true
+        })
+    });
+    kept.count() > 0
+}
+
+/// Writes an example as is kept beside it; whether anything is.
+fn written(root: &Path, name: &str) -> bool {
+    let Ok(kept) = kept(root, name, "write") else {
+        return false;
+    };
+    let run = run(root, &["write"], name);
+    assert_eq!((run.status, run.text()), (Some(0), kept.as_str()));
+    assert!(
+        run.err.ends_with(" written, 0 changed, 0 left out\n"),
+        "{}",
+        run.err
+    );
+    true
 }

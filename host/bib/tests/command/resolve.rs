@@ -8,10 +8,10 @@ fn hex(text: &str) -> String {
     format!("x{}", digits.collect::<String>())
 }
 
-/// The lines of a value: how it is written in the three ways.
-fn written(verbatim: &str, bib0: &str, bib1: &str) -> String {
-    let [verbatim, bib0, bib1] = [verbatim, bib0, bib1].map(hex);
-    format!("verbatim {verbatim}\nbib0 {bib0}\nbib1 {bib1}\n")
+/// The lines of a value: how it is written in the four ways.
+fn written(verbatim: &str, sentence: &str, bib0: &str, bib1: &str) -> String {
+    let [verbatim, sentence, bib0, bib1] = [verbatim, sentence, bib0, bib1].map(hex);
+    format!("verbatim {verbatim}\nsentence {sentence}\nbib0 {bib0}\nbib1 {bib1}\n")
 }
 
 #[test]
@@ -37,12 +37,12 @@ fn every_value() {
     let refused = format!("field {u} 55 56\nrefused 12 55 56\nfield {m} 59 62\n");
     let want = [
         definition,
-        written("x", "{x}", "{x}"),
+        written("x", "X", "{x}", "{x}"),
         format!("entry {} 14 62\n", hex("k")),
         chunks,
-        written(text, written_back, written_back),
+        written(text, "Gödel P $y$x", written_back, written_back),
         dashes,
-        written("a–b_", "{a–b\\_}", "{a–b_}"),
+        written("a–b_", "A–b_", "{a–b\\_}", "{a–b_}"),
         refused,
     ]
     .concat();
@@ -50,10 +50,23 @@ fn every_value() {
     bib(&["resolve"], file.as_bytes()).is(1, &format!("{want}{month}"));
     let none = ["resolve", "--verbatim", "none", "--months=none", "-"];
     bib(&none, file.as_bytes()).is(1, &format!("{want}{month}"));
-    let month =
-        format!("names 1\nchunk 0 {} 59 62\n", hex("May")) + &written("May", "{May}", "{May}");
+    let month = format!("names 1\nchunk 0 {} 59 62\n", hex("May"))
+        + &written("May", "May", "{May}", "{May}");
     let english = ["resolve", "--months", "english"];
     bib(&english, file.as_bytes()).is(1, &format!("{want}{month}"));
+}
+
+/// Every value has its line in sentence case, that of a definition and of a verbatim field too: only braces
+/// keep capitals.
+#[test]
+fn sentences() {
+    let file = "@string{a={THE }}@b{k,t=a#{{NASA} Of $X$\nY},url={HTTP://X}}";
+    let run = bib(&["resolve", "--verbatim", "names"], file.as_bytes());
+    assert_eq!((run.status, run.err.as_str()), (Some(0), ""));
+    let lines = run.text().lines();
+    let lines = lines.filter_map(|line| line.strip_prefix("sentence "));
+    let want = ["The ", "The NASA of $X$ y", "Http://x"].map(hex);
+    assert_eq!(lines.collect::<Vec<_>>(), want);
 }
 
 /// By the Rust's list of names in small or large letters, or all, definitions too.
@@ -120,10 +133,10 @@ fn damaged_files() {
     let want = [
         "damaged 2 0 13\n".to_string(),
         format!("def {} 25 28\nnames 0\nchunk 0 x78 26 27\n", hex("s")),
-        written("x", "{x}", "{x}"),
+        written("x", "X", "{x}", "{x}"),
         format!("entry {} 30 41\n", hex("l")),
         format!("field {} 40 41\nnames 1\nchunk 0 x78 26 27\n", hex("t")),
-        written("x", "{x}", "{x}"),
+        written("x", "X", "{x}", "{x}"),
         "damaged 7 43 49\n".to_string(),
     ];
     bib(&["resolve", "--salvage"], file).is(1, &want.concat());

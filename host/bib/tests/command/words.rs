@@ -116,6 +116,7 @@ fn help() {
         "json",
         "quiet",
         "color",
+        "sentence",
         "strings",
     ] {
         assert!(run.text().contains(&format!("\n  --{word}")), "{word}");
