@@ -1,4 +1,5 @@
--- The edge table [01:Edge table]: "These sixteen are proved as one table under one statement", in 01's order.
+-- The edge table [01:Edge table]: "These sixteen are proved as one table under one statement", in 01's order, with the places of its third,
+-- fourth and fifth line as [02:2] changes them.
 --     Asked, answer          what a line asks, and what the definitions answer
 --     table, EdgeTable       the lines; the proof of `EdgeTable` is `edge-table` of proofs/EdgeTable.antt
 -- Assumes nothing.
@@ -92,9 +93,9 @@ unfoldable pub table : List Line
 table =
     file "" gives rows [] ∷
     file "@a{k,}" gives rows (1 at 0 to 5 ∷ 2 at 1 to 2 ∷ 3 at 3 to 4 ∷ []) ∷
-    file "@a{k}" gives refused 7 4 4 ∷
-    file "@a{k,t=}" gives refused 3 7 7 ∷
-    file "@a{k,y=1.2.3}" gives refused 10 10 10 ∷
+    file "@a{k}" gives refused 7 4 5 ∷
+    file "@a{k,t=}" gives refused 3 7 8 ∷
+    file "@a{k,y=1.2.3}" gives refused 10 10 11 ∷
     file "@a{k,y=12" gives refused 3 9 9 ∷
     file "@a{k,t={x\\}y} }" gives rows (1 at 0 to 14 ∷ 2 at 1 to 2 ∷ 3 at 3 to 4 ∷ 4 at 5 to 6 ∷ 5 at 7 to 14 ∷ 6 at 8 to 12 ∷ []) ∷
     file "@preamble{\"x\"\"" gives rows (0 at 10 to 13 ∷ []) ∷

@@ -18,5 +18,7 @@ pub mod Refusals
 pub mod Braces
 -- the proof of specs/Comments.antt: where an `@comment` ends, and that a second comment in a row is refused
 pub mod Comments
+-- the cases of specs/Worked.antt compute
+pub mod Worked
 -- any two outcomes that a public contract allows are the same
 pub mod Unique

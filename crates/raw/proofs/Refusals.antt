@@ -1,6 +1,6 @@
 -- Which refusals strict reading can answer, and their places: `refusals`. When a call answers 16: `own-or-full` and `sixteen`.
 -- Assumes nothing.
-use Prim.Native.Nat.{ℕ, _*_, _/_, _≤_, _<_}
+use Prim.Native.Nat.{ℕ, _*_, _/_, _<_}
 use native.Mathlib.Omega.{arith}
 use mathlib.Core.Path.{_≡_, refl, sym, ap, _∙_, subst}
 use mathlib.Core.Logic.{inl, inr, ⊎-elim}
@@ -17,28 +17,26 @@ use Rattle.raw.specs.declared.answer.Reading.{Reading}
 use Rattle.raw.specs.declared.answer.Reading.the-variants as reading
 use Rattle.raw.specs.Reader.{Out, ok, again, bad}
 use Rattle.raw.specs.Grammar.{file}
-use Rattle.raw.specs.Read.{strict, readingOut, leftOut, Read}
-use Rattle.raw.specs.Refusals.{ReadFault, long, met, full, OwnOrFull, Sixteen, Refusals}
-use Rattle.raw.proofs.readers.Trace.{Refused, Traced}
-use Rattle.raw.proofs.grammar.Readers.{from-start}
-use Rattle.raw.proofs.grammar.Files.{file-laws}
-use Rattle.raw.proofs.Strict.{strict-by, file-refuses}
+use Rattle.raw.specs.Read.{underlined, strict, readingOut, leftOut, Read}
+use Rattle.raw.specs.Refusals.{ReadFault, long, ill, met, full, OwnOrFull, Sixteen, Refusals}
+use Rattle.raw.proofs.grammar.Culprits.{underlined-bad, refused-of, refused-inside}
+use Rattle.raw.proofs.Strict.{strict-by}
 
 module _ (s : List ℕ) (f : Fault) where
   -- equal refusals can be answered alike
   made : (g : Fault) → _≡_ {A = Out} (bad g) (bad f) → ReadFault s g → ReadFault s f
   made g e x = let q : g ≡ f = cc in subst (ReadFault s) q x
 
-  file-fault : file s 0 ≡ bad f → ReadFault s f
+  file-fault : underlined s (file s 0) ≡ bad f → ReadFault s f
   file-fault e =
-      let r : Refused s 0 f = subst (Traced s 0) e (from-start file-laws .traced s 0) in
-      let x = met (f .reason) (f .start) (omega (arith, r .least)) (r .most) (file-refuses s f e .place) in
-      subst (ReadFault s) (ap (λ (n : ℕ). record { reason = f .reason; start = f .start; end = n }) (sym (r .empty))) x
+      let g = underlined-bad s (file s 0) e in
+      let r = refused-of s (g .0) (g .1) in
+      subst (ReadFault s) (g .2) (met (g .0 .reason) (g .0 .start) (r .least) (r .most) (refused-inside s (g .0) (g .1)))
 
   strict-fault : strict s ≡ bad f → ReadFault s f
   strict-fault =
       strict-by s (λ o. o ≡ bad f → ReadFault s f) (λ e. made (nowhere TooLong) e long)
-      (λ n h e. made (faultAt NotUtf8 n) e (met NotUtf8 n (omega arith) (omega arith) (omega arith)))
+      (λ n h e. made (faultAt NotUtf8 n) e (ill n h))
       (λ o. file-fault)
 
 -- rows that do not fit are refused with 16
@@ -112,8 +110,7 @@ strict-not-full : (s : List ℕ) → strict s ≡ bad (nowhere NoRoom) → ⊥
 strict-not-full s =
     strict-by s (λ o. o ≡ bad (nowhere NoRoom) → ⊥) (λ e. let q : nowhere TooLong ≡ nowhere NoRoom = cc in not-sixteen q (omega arith))
     (λ n h e. let q : faultAt NotUtf8 n ≡ nowhere NoRoom = cc in not-sixteen q (omega arith))
-    (λ o e. let r : Refused s 0 (nowhere NoRoom) = subst (Traced s 0) e (from-start file-laws .traced s 0) in
-    let m : 16 ≤ 10 = r .most in absurd (omega arith))
+    (λ o e. let g = underlined-bad s (file s 0) e in not-sixteen (g .2) (omega (arith, refused-of s (g .0) (g .1) .most)))
 
 pub refusals : Refusals
 refusals =

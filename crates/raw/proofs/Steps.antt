@@ -26,19 +26,17 @@ use Rattle.row.specs.Row.{Row, flat}
 use Rattle.row.specs.Spans.{SpansIn}
 use Rattle.raw.specs.declared.answer.Answer.the-variants as answer
 use Rattle.raw.specs.declared.answer.Reading.the-variants as reading
-use Rattle.raw.specs.Reader.{ok, bad}
+use Rattle.raw.specs.Reader.{Out, ok, again, bad}
 use Rattle.raw.specs.Grammar.{file}
 use Rattle.raw.specs.Says.{answerOf}
-use Rattle.raw.specs.Read.{checked, strict, readingOut, leftOut}
+use Rattle.raw.specs.Read.{underlined, checked, strict, readingOut, leftOut}
 use Rattle.raw.specs.Strict.{Spans}
 use Rattle.raw.specs.Steps.{Steps}
-use Rattle.raw.proofs.readers.Trace.{Refused, Traced}
 use Rattle.raw.proofs.readers.Then.{more-none}
 use Rattle.raw.proofs.readers.Loop.{many-turn}
 use Rattle.raw.proofs.readers.Scans.{scan-turn-kept}
 use Rattle.raw.proofs.readers.Spans.{rising-less}
-use Rattle.raw.proofs.grammar.Readers.{from-start}
-use Rattle.raw.proofs.grammar.Files.{file-laws}
+use Rattle.raw.proofs.grammar.Culprits.{underlined-ok, underlined-bad, refused-of}
 use Rattle.raw.proofs.Strict.{strict-by, strict-reading}
 
 -- ---- a text inside the limit
@@ -48,20 +46,22 @@ module _ (s : List ℕ) (h : length s ≤ mostBytes) where
   unfolding strict
   strict-checked = rw (le-leb (length s) mostBytes h)
 
-  pub strict-valid : validityOf s ≡ validity.Valid → strict s ≡ file s 0
+  pub strict-valid : validityOf s ≡ validity.Valid → strict s ≡ underlined s (file s 0)
   strict-valid e = strict-checked ∙ ap (checked s) e
 
   pub strict-ill : (n : ℕ) → validityOf s ≡ validity.IllFormed n → strict s ≡ bad (faultAt NotUtf8 n)
   strict-ill n e = strict-checked ∙ ap (checked s) e
 
-  strict-is : Octets s → strict s ≡ file s 0
+  strict-is : Octets s → strict s ≡ underlined s (file s 0)
   strict-is o = strict-valid (rfc3629 .accepts s .1 o)
 
   strict-bad : (f : Fault) → strict s ≡ bad f → 2 ≤ numberOf (f .reason)
   strict-bad f e = by (validityOf s) (sym strict-checked ∙ e)
     where
       by : (v : Validity) → checked s v ≡ bad f → 2 ≤ numberOf (f .reason)
-      by validity.Valid e = let r : Refused s 0 f = subst (Traced s 0) e (from-start file-laws .traced s 0) in omega (arith, r .least)
+      by validity.Valid e =
+          let g = underlined-bad s (file s 0) e in
+          subst (λ (h : Fault). 2 ≤ numberOf (h .reason)) (g .2) (omega (arith, refused-of s (g .0) (g .1) .least))
       by (validity.IllFormed n) e = let z : faultAt NotUtf8 n ≡ f = cc in rw (← z) (omega arith)
 
 -- ---- an accepted text
@@ -81,13 +81,18 @@ module _ (s : List ℕ) (q : ℕ) (rs : List Row) where
       read : strict s ≡ ok q rs → Octets s × (file s 0 ≡ ok q rs)
       read =
           strict-by s (λ o. o ≡ ok q rs → Octets s × (file s 0 ≡ ok q rs)) (λ e. let z : _≡_ {A = ℕ} 0 1 = cc in absurd (omega arith))
-          (λ n h e. let z : _≡_ {A = ℕ} 0 1 = cc in absurd (omega arith)) (λ o e. (o, e))
+          (λ n h e. let z : _≡_ {A = ℕ} 0 1 = cc in absurd (omega arith)) (λ o e. (o, underlined-ok s (file s 0) e))
 
 -- where strict reading does not refuse, it is the grammar's reading
 pub strict-file : (s : List ℕ) {p n : ℕ} → answer.Next p n ≡ answerOf (strict s) 0 → file s 0 ≡ strict s
 strict-file s {p} {n} =
     strict-by s (λ o. answer.Next p n ≡ answerOf o 0 → file s 0 ≡ o) (λ e. let z : _≡_ {A = ℕ} 0 1 = cc in absurd (omega arith))
-    (λ i h e. let z : _≡_ {A = ℕ} 0 1 = cc in absurd (omega arith)) (λ o e. refl)
+    (λ i h e. let z : _≡_ {A = ℕ} 0 1 = cc in absurd (omega arith)) (λ o. by (file s 0))
+  where
+    by : (o : Out) → answer.Next p n ≡ answerOf (underlined s o) 0 → o ≡ underlined s o
+    by (ok q rs) e = refl
+    by (again q rs a) e = refl
+    by (bad f) e = let z : _≡_ {A = ℕ} 0 1 = cc in absurd (omega arith)
 
 spans-in : (s : List ℕ) (rs : List Row) → Spans s rs → SpansIn (length s) rs
 unfolding Spans SpansIn
@@ -116,6 +121,7 @@ steps =
       more-none = more-none;
       scans = λ t. many-turn (scan-turn-kept t) 0;
       strict-is = strict-is;
+      strict-ill = strict-ill;
       strict-bad = strict-bad;
       strict-ok = strict-ok;
       strict-spans = strict-spans;

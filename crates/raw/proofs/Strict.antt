@@ -28,10 +28,10 @@ use Rattle.row.specs.Row.{Row}
 use Rattle.raw.specs.Reader.{Out, ok, again, bad, more, andThen, after, turn, loop, many}
 use Rattle.raw.specs.Grammar.{is, any, white, comment, entry, fileTurn, file}
 use Rattle.row.specs.Limits.{mostBytes}
-use Rattle.raw.specs.Read.{checked, strict}
+use Rattle.raw.specs.Read.{culprit, underlined, checked, strict}
 use Rattle.raw.specs.Strict.{ShowsSame, Stops, Accepted, Refusal, Strict}
-use Rattle.raw.proofs.readers.Trace.{Trace, Refused, Traced}
-use Rattle.raw.proofs.readers.Spans.{reach-inside, trace-rising, trace-spans, trace-clean}
+use Rattle.raw.proofs.readers.Trace.{Trace, Traced}
+use Rattle.raw.proofs.readers.Spans.{trace-rising, trace-spans, trace-clean}
 use Rattle.raw.proofs.readers.Kept.{Advances, eaten-holds}
 use Rattle.raw.proofs.readers.Then.{bad-is}
 use Rattle.raw.proofs.readers.Loop.{many-turn}
@@ -39,6 +39,7 @@ use Rattle.raw.proofs.grammar.Early.{hits, eaten-else}
 use Rattle.raw.proofs.grammar.Readers.{from-start, white-laws, comment-laws}
 use Rattle.raw.proofs.grammar.Entries.{entry-kept}
 use Rattle.raw.proofs.grammar.Files.{file-turn-kept, file-turn-laws, file-laws, file-rules, file-few, file-early}
+use Rattle.raw.proofs.grammar.Culprits.{underlined-ok, underlined-again, underlined-bad, refused-of, culprit-order, culprit-of}
 
 -- ---- the loop of the file, without its fuel
 
@@ -143,19 +144,22 @@ file-accepts s q rs o e =
       few = omega (arith, file-few s 0 q rs e, file-ends s 0 q rs e (omega arith));
     }
 
-pub file-refuses : (s : List ℕ) (f : Fault) → file s 0 ≡ bad f → Refusal s f
-file-refuses s f e =
-    let r : Refused s 0 f = subst (Traced s 0) e (from-start file-laws .traced s 0) in
+-- where the grammar refuses with g, its place is widened
+file-refuses : (s : List ℕ) (g : Fault) → Octets s → file s 0 ≡ bad g → Refusal s (culprit s g)
+file-refuses s g o e =
+    let r = refused-of s g e in
     record {
       number = (omega (arith, r .least), r .most);
-      place = reach-inside (r .place) (omega arith);
-      empty = r .empty;
-      early = file-early s 0 f e;
+      place = culprit-order s g e;
+      empty = λ h. absurd (omega (arith, r .least));
+      culprit = λ h. culprit-of s g e o;
+      early = file-early s 0 g e;
     }
 
--- P holds of strict reading if it holds of the refusals of a text that is too long or not UTF-8, and of what the grammar reads
+-- P holds of strict reading if it holds of the refusals of a text that is too long or not UTF-8, and of what the grammar reads, with a refusal
+-- over its culprit
 module _ (s : List ℕ) (P : Out → Type 0) (long : P (bad (nowhere TooLong))) (ill : (n : ℕ) → n < length s → P (bad (faultAt NotUtf8 n)))
-    (read : Octets s → P (file s 0)) where
+    (read : Octets s → P (underlined s (file s 0))) where
   checked-by : (v : Validity) → validityOf s ≡ v → P (checked s v)
   checked-by validity.Valid e = read (rfc3629 .accepts s .0 e)
   checked-by (validity.IllFormed n) e = ill n (rfc3629 .refuses s n .0 e .inside)
@@ -172,26 +176,32 @@ accepts : (s : List ℕ) (q : ℕ) (rs : List Row) → strict s ≡ ok q rs → 
 accepts s q rs =
     strict-by s (λ o. o ≡ ok q rs → Accepted s q rs)
     (λ e. let z : _≡_ {A = ℕ} 0 1 = cc in absurd (omega arith)) (λ n h e. let z : _≡_ {A = ℕ} 0 1 = cc in absurd (omega arith))
-    (file-accepts s q rs)
+    (λ o e. file-accepts s q rs o (underlined-ok s (file s 0) e))
 
 -- a refusal with 1 or 2, before the grammar is asked
 unread : (s : List ℕ) (reason : Reason) (p : ℕ) → (1 ≤ numberOf reason) × (numberOf reason ≤ 2) → p ≤ length s
     → Refusal s (faultAt reason p)
 unread s reason p k h =
-    record { number = (k .0, omega (arith, k .1)); place = h; empty = refl; early = λ x. absurd (omega (arith, k .1)) }
+    record {
+      number = (k .0, omega (arith, k .1));
+      place = (omega arith, h);
+      empty = λ x. refl;
+      culprit = λ x. absurd (omega (arith, k .1));
+      early = λ x. absurd (omega (arith, k .1));
+    }
 
 refuses : (s : List ℕ) (f : Fault) → strict s ≡ bad f → Refusal s f
 refuses s f =
     strict-by s (λ o. o ≡ bad f → Refusal s f)
     (λ e. subst (Refusal s) (bad-is e) (unread s TooLong 0 (omega arith) (omega arith)))
     (λ n h e. subst (Refusal s) (bad-is e) (unread s NotUtf8 n (omega arith) (omega arith)))
-    (λ o. file-refuses s f)
+    (λ o e. let g = underlined-bad s (file s 0) e in subst (Refusal s) (g .2) (file-refuses s (g .0) o (g .1)))
 
 decides : (s : List ℕ) (q a : ℕ) (rs : List Row) → strict s ≡ again q rs a → ⊥
 decides s q a rs =
     strict-by s (λ o. o ≡ again q rs a → ⊥)
     (λ e. let z : _≡_ {A = ℕ} 0 1 = cc in omega arith) (λ n h e. let z : _≡_ {A = ℕ} 0 1 = cc in omega arith)
-    (λ o e. subst (Done s) e (file-done s 0))
+    (λ o e. subst (Done s) (underlined-again s (file s 0) e) (file-done s 0))
 
 pub strict-reading : Strict
 strict-reading =

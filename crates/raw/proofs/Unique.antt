@@ -1,8 +1,8 @@
 -- Each public contract allows one outcome only. This is said of the contract as the check reads it off the source, so that a contract
 -- which said less would fail here.
 --     the same answer and the same rows                               `read`
---     the same answer                                                 the readers without rows: the tokens, `string`, and `refused`
---     the same answer, and the same rows unless it is a refusal       the readers with rows: `parse`, `parse_bytes`, `entry`, `fields`, `abbr_field`
+--     the same answer                                                 the readers without rows: the tokens, `string`, and `refused`; `culprit`
+--     the same answer, and the same rows unless it is a refusal       the readers with rows: `parse`, `entry`, `fields`, `abbr_field`
 -- After a refusal the readers with rows say nothing of the lent numbers, since `read` counts over no numbers first (specs/Says.antt).
 -- Assumes nothing.
 use Prim.Native.Nat.{ℕ}
@@ -18,10 +18,10 @@ use Rattle.raw.specs.Reader as reader
 use Rattle.raw.specs.Says.{answerOf, RowsLaid, Says}
 use Rattle.raw.proofs.file.read.Kinds as read-kinds
 use Rattle.raw.proofs.file.read.Reads as read
+use Rattle.raw.proofs.file.culprit.Kinds as culprit-kinds
+use Rattle.raw.proofs.file.culprit.Reads as culprit
 use Rattle.raw.proofs.file.parse.Kinds as parse-kinds
 use Rattle.raw.proofs.file.parse.Reads as parse
-use Rattle.raw.proofs.file.parse_bytes.Kinds as parse-bytes-kinds
-use Rattle.raw.proofs.file.parse_bytes.Reads as parse-bytes
 use Rattle.raw.proofs.entry.entry.Kinds as entry-kinds
 use Rattle.raw.proofs.entry.entry.Reads as entry
 use Rattle.raw.proofs.field.fields.Kinds as fields-kinds
@@ -55,6 +55,9 @@ use Rattle.raw.proofs.token.name.Reads as name
 
 pub one-read : Both 2 read-kinds.ps read-kinds.r read.Post (λ κs x s y t. (x ≡ y) × (now (s .1 .0) ≡ now (t .1 .0)))
 one-read κs a x y s t p q = (p .answer ∙ sym (q .answer), p .rows ∙ sym (q .rows))
+
+pub one-culprit : One 1 culprit-kinds.ps culprit-kinds.r culprit.Post
+one-culprit κs a x y s t p q = p ∙ sym q
 
 pub one-comma : One 1 comma-kinds.ps comma-kinds.r comma.Post
 one-comma κs a x y s t p q = p .0 ∙ sym (q .0)
@@ -114,9 +117,6 @@ same-read o {base} {n} {b₀} {b} {c} {x} {y} p q =
 
 pub one-parse : Both 2 parse-kinds.ps parse-kinds.r parse.Post (λ κs x s y t. (x ≡ y) × SameLeft x (now (s .1 .1 .0)) (now (t .1 .1 .0)))
 one-parse κs a x y s t p q = same-read _ (p .0) (q .0)
-
-pub one-parse-bytes : Both 2 parse-bytes-kinds.ps parse-bytes-kinds.r parse-bytes.Post (λ κs x s y t. (x ≡ y) × SameLeft x (now (s .1 .1 .0)) (now (t .1 .1 .0)))
-one-parse-bytes κs a x y s t p q = same-read _ (p .0) (q .0)
 
 pub one-entry : Both 2 entry-kinds.ps entry-kinds.r entry.Post (λ κs x s y t. (x ≡ y) × SameLeft x (now (s .1 .1 .1 .0)) (now (t .1 .1 .1 .0)))
 one-entry κs a x y s t p q = same-read _ (p .0) (q .0)

@@ -18,3 +18,5 @@ pub mod Spells
 pub mod Entries
 -- the laws of the file, and what they say of its rows and of a refusal
 pub mod Files
+-- the culprit of a refusal
+pub mod Culprits

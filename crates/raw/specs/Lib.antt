@@ -8,3 +8,4 @@ pub mod Refusals
 pub mod Braces
 pub mod Comments
 pub mod Inner
+pub mod Worked

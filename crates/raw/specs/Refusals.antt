@@ -7,18 +7,19 @@ use mathlib.Core.Logic.{_↔_, _⊎_}
 use mathlib.Core.List.{List}
 use lib.ListN.{length}
 use Rattle.row.specs.declared.fault.Reason.{Reason}
-use Rattle.row.specs.declared.fault.Reason.the-variants.{TooLong, NoRoom}
+use Rattle.row.specs.declared.fault.Reason.the-variants.{TooLong, NotUtf8, NoRoom}
 use Rattle.row.specs.declared.fault.Fault.{Fault}
 use Rattle.row.specs.Fault.{numberOf, faultAt, nowhere, Answered}
 use Rattle.raw.specs.declared.answer.Reading.{Reading}
 use Rattle.raw.specs.declared.answer.Reading.the-variants.{Rows, Refused}
 use Rattle.raw.specs.Reader.{Out, bad}
-use Rattle.raw.specs.Read.{readingOut, leftOut, Read}
+use Rattle.raw.specs.Read.{culprit, readingOut, leftOut, Read}
 
--- 1 and 16 at 0..0, and 2 to 10 at an empty place of the file s
+-- 1 and 16 at 0..0, 2 at an empty place of the file s, and 3 to 10 over the character at a place of it, which is empty at its end
 pub data ReadFault (s : List ℕ) : Fault → Type 0 where
   long : ReadFault s (nowhere TooLong)
-  met : (reason : Reason) (p : ℕ) → 2 ≤ numberOf reason → numberOf reason ≤ 10 → p ≤ length s → ReadFault s (faultAt reason p)
+  ill : (p : ℕ) → p < length s → ReadFault s (faultAt NotUtf8 p)
+  met : (reason : Reason) (p : ℕ) → 3 ≤ numberOf reason → numberOf reason ≤ 10 → p ≤ length s → ReadFault s (culprit s (faultAt reason p))
   full : ReadFault s (nowhere NoRoom)
 
 -- a refusal that is answered for a reading is the reading's own, or 16

@@ -3,18 +3,20 @@
 -- Assumes nothing.
 use Prim.Native.Nat.{ℕ, _+_, _≤_, _<_, max}
 use mathlib.Core.Path.{_≡_}
+use mathlib.Core.Logic.{_↔_}
 use mathlib.Core.Bool.{Bool, true, false, _||_}
 use mathlib.Core.List.{List, [], _∷_, _++_}
 use lib.ListN.{length, getD}
 use Rattle.text.specs.Range.{within}
-use Rattle.text.specs.Utf8.{tail, isBoundary}
+use Rattle.text.specs.Utf8.{tail, decodeAt, isBoundary}
 use Rattle.text.specs.Class.{isIdStart, holdsOf}
 use Rattle.text.specs.Scan.{see}
 use Rattle.text.specs.declared.scanner.Seen.{Seen}
 use Rattle.text.specs.declared.scanner.Seen.the-variants.{End, Char}
 use Rattle.text.specs.declared.class.Test.the-variants as test
+use Rattle.text.specs.declared.utf8.Decoded.the-variants as decoded
 use Rattle.row.specs.declared.fault.Fault.{Fault}
-use Rattle.row.specs.Fault.{numberOf}
+use Rattle.row.specs.Fault.{numberOf, faultAt}
 use Rattle.row.specs.Row.{Row, moved}
 use Rattle.raw.specs.Reader.{OutOf, Out, ok, again, bad, after}
 use Rattle.raw.specs.Grammar.{is, white, comment, entry, fileTurn, file}
@@ -79,11 +81,23 @@ pub record Accepted (s : List ℕ) (q : ℕ) (rs : List Row) : Type 0 where
   -- the rows are at most as many as the bytes
   pub few : length rs ≤ length s
 
--- what a refused text gives: 01's numbers 1 to 10, at an empty place of the text
+-- [02:2] "the Rust's start, and the end so widened"
+pub record Culprit (s : List ℕ) (f : Fault) : Type 0 where
+  -- the start is the Rust's: there the grammar refuses, for this reason
+  pub start : file s 0 ≡ bad (faultAt (f .reason) (f .start))
+  -- the end is the end of the character there, and equals the start exactly if the text ends there
+  pub character : f .start < length s → (c : ℕ) × (decodeAt s (f .start) ≡ decoded.Char c (f .end))
+  pub empty : (f .end ≡ f .start) ↔ (f .start ≡ length s)
+  -- both are character boundaries
+  pub starts : isBoundary s (f .start) ≡ true
+  pub ends : isBoundary s (f .end) ≡ true
+
+-- what a refused text gives: 01's numbers 1 to 10, at a place of the text: 1 and 2 at an empty one, and 3 to 10 over their culprit
 pub record Refusal (s : List ℕ) (f : Fault) : Type 0 where
   pub number : (1 ≤ numberOf (f .reason)) × (numberOf (f .reason) ≤ 10)
-  pub place : f .start ≤ length s
-  pub empty : f .end ≡ f .start
+  pub place : (f .start ≤ f .end) × (f .end ≤ length s)
+  pub empty : numberOf (f .reason) ≤ 2 → f .end ≡ f .start
+  pub culprit : 3 ≤ numberOf (f .reason) → Culprit s f
   -- 3 is at the end of the text, or before it where no value begins
   pub early : numberOf (f .reason) ≡ 3 → beginsValue (see s (f .start)) ≡ false
 

@@ -4,7 +4,7 @@ use crate::answer::Step;
 use crate::answer::Turn;
 use crate::token;
 use crate::value;
-use row::fault::Fault;
+use row::fault;
 use row::fault::Reason;
 use row::form;
 use row::form::Kind;
@@ -72,11 +72,7 @@ fn field_end(s: &[u8], at: usize, n: usize) -> Turn
             return Turn::Done { at: p1, n };
         }
     }
-    Turn::Refused(Fault {
-        reason: Reason::ExpectedComma,
-        start: p1,
-        end: p1,
-    })
+    Turn::Refused(fault::fault_at(Reason::ExpectedComma, p1))
 }
 
 // Eat a field, if another one stands before the closing brace.
@@ -86,11 +82,7 @@ fn fields_turn(s: &[u8], base: usize, at: usize, rows: &mut [u32], n: usize, kin
     ensures within { λ r. ⌜ WithinTurn (length (now (s .entry))) 1 0 at n r ⌝ }
 {
     if s.len() <= at {
-        return Turn::Refused(Fault {
-            reason: Reason::UnexpectedEof,
-            start: at,
-            end: at,
-        });
+        return Turn::Refused(fault::fault_at(Reason::UnexpectedEof, at));
     }
     let p1 = scanner::eat_whitespace(s, at);
     if p1 < s.len() {

@@ -5,6 +5,7 @@ use crate::answer::Turn;
 use crate::entry;
 use crate::token;
 use reader;
+use row::fault;
 use row::fault::Fault;
 use row::fault::Reason;
 use row::form;
@@ -12,12 +13,13 @@ use row::limits::MOST_BYTES;
 use text::scanner;
 use text::utf8;
 use text::utf8::Validity;
-ghost use Prim.Native.Nat.{_+_, _≤_};
+ghost use mathlib.Core.Path.{_≡_};
+ghost use Prim.Native.Nat.{_≤_};
 ghost use lib.ListN.{length};
 ghost use Rattle.row.specs.Limits.{mostBytes};
 ghost use Rattle.raw.specs.Grammar.{fileTurn, file};
 ghost use Rattle.raw.specs.Says.{Says, Within, SaysTurn, WithinTurn, Ready};
-ghost use Rattle.raw.specs.Read.{strict, Read};
+ghost use Rattle.raw.specs.Read.{culprit, strict, Read};
 
 // Eat an entry, a comment or any other character, after white space.
 fn file_turn(s: &[u8], base: usize, at: usize, rows: &mut [u32], n: usize) -> Turn
@@ -52,7 +54,7 @@ fn file_turn(s: &[u8], base: usize, at: usize, rows: &mut [u32], n: usize) -> Tu
     }
 }
 
-// Reads a text that stands base bytes into a file: its rows from row n on.
+// Reads a text that stands base bytes into a file: its rows from row n on. A refusal is where the reader stood; who hands it out widens it.
 pub fn parse(s: &[u8], base: usize, rows: &mut [u32], n: usize) -> Answer
     requires { ⌜ Ready base (length (now s)) 0 n ⌝ }
     ensures says { λ r. ⌜ Says base (file (now (s .entry)) 0) n (now (rows .entry)) r (now (rows .exit)) ⌝ }
@@ -76,19 +78,31 @@ pub fn parse(s: &[u8], base: usize, rows: &mut [u32], n: usize) -> Answer
     }
 }
 
-// Reads a text that may not be UTF-8 and stands base bytes into a file. Where it is, its rows are put from the first on.
-pub fn parse_bytes(s: &[u8], base: usize, rows: &mut [u32]) -> Answer
-    requires { ⌜ base + length (now s) ≤ mostBytes ⌝ }
-    ensures says { λ r. ⌜ Says base (strict (now (s .entry))) 0 (now (rows .entry)) r (now (rows .exit)) ⌝ }
+// A refusal of a text, over the whole character where the reader stood; at the end of the text its place stays empty.
+pub fn culprit(s: &[u8], fault: Fault) -> Fault
+    ensures { λ r. ⌜ r ≡ culprit (now (s .entry)) fault ⌝ }
+{
+    let start = fault.start;
+    let reason = fault.reason;
+    let end = reader::after(s, start);
+    Fault { reason, start, end }
+}
+
+// Reads a file of 01's length that may not be UTF-8. Where it is, its rows are put from the first on.
+fn parse_bytes(s: &[u8], rows: &mut [u32]) -> Answer
+    requires { ⌜ length (now s) ≤ mostBytes ⌝ }
+    ensures says { λ r. ⌜ Says 0 (strict (now (s .entry))) 0 (now (rows .entry)) r (now (rows .exit)) ⌝ }
     ensures within { λ r. ⌜ Within (length (now (s .entry))) 0 0 0 r ⌝ }
 {
     match utf8::validate_short(s) {
-        Validity::IllFormed(i) => Answer::Refused(Fault {
-            reason: Reason::NotUtf8,
-            start: i,
-            end: i,
-        }),
-        Validity::Valid => parse(s, base, rows, 0),
+        Validity::IllFormed(i) => Answer::Refused(fault::fault_at(Reason::NotUtf8, i)),
+        Validity::Valid => {
+            let r = parse(s, 0, rows, 0);
+            let Answer::Refused(f) = r else {
+                return r;
+            };
+            Answer::Refused(culprit(s, f))
+        }
     }
 }
 
@@ -98,17 +112,13 @@ fn read_over(s: &[u8], few: &mut [u32], rows: &mut [u32]) -> Reading
     requires { ⌜ length (now s) ≤ mostBytes ⌝ }
     ensures { λ r. ⌜ Read (now (s .entry)) (now (rows .entry)) r (now (rows .exit)) ⌝ }
 {
-    match parse_bytes(s, 0, few) {
+    match parse_bytes(s, few) {
         Answer::Refused(f) => {
             return Reading::Refused(f);
         }
         Answer::Next { at: _, n } => {
             if rows.len() / 4 < n {
-                return Reading::Refused(Fault {
-                    reason: Reason::NoRoom,
-                    start: 0,
-                    end: 0,
-                });
+                return Reading::Refused(fault::fault_at(Reason::NoRoom, 0));
             }
             if n <= few.len() / 4 {
                 form::copy_numbers(few, n * 4, rows);
@@ -126,11 +136,7 @@ pub fn read(s: &[u8], rows: &mut [u32]) -> Reading
     ensures { λ r. ⌜ Read (now (s .entry)) (now (rows .entry)) r (now (rows .exit)) ⌝ }
 {
     if MOST_BYTES < s.len() {
-        return Reading::Refused(Fault {
-            reason: Reason::TooLong,
-            start: 0,
-            end: 0,
-        });
+        return Reading::Refused(fault::fault_at(Reason::TooLong, 0));
     }
     if (256 < s.len()) & (s.len() < 65_536) {
         let mut few = [0u32; 8_000];

@@ -1,6 +1,6 @@
 // Tokens, after src/raw.rs: `comma`, `brace`, `quote`, `equals`, `comment`, `key`, `ident`; and `name`, which is a quicker `ident`. None puts a row.
 use crate::answer::Step;
-use row::fault::Fault;
+use row::fault;
 use row::fault::Reason;
 use text::scanner;
 ghost use mathlib.Core.Path.{_≡_};
@@ -21,11 +21,7 @@ fn need(s: &[u8], at: usize, byte: u8, reason: Reason) -> Step
             return Step::At(at + 1);
         }
     }
-    Step::Refused(Fault {
-        reason,
-        start: at,
-        end: at,
-    })
+    Step::Refused(fault::fault_at(reason, at))
 }
 
 // Eat a comma.
@@ -53,11 +49,7 @@ fn brace(s: &[u8], at: usize, byte: u8, reason: Reason) -> Step
             return Step::At(at + 1);
         }
     }
-    Step::Refused(Fault {
-        reason,
-        start: at,
-        end: at,
-    })
+    Step::Refused(fault::fault_at(reason, at))
 }
 
 // Eat the delimiter that opens: a brace, or a double quote.
@@ -112,11 +104,7 @@ pub fn ident(s: &[u8], at: usize) -> Step
 {
     let next = scanner::eat_start(s, at);
     if next == at {
-        return Step::Refused(Fault {
-            reason: Reason::ExpectedIdentifier,
-            start: at,
-            end: at,
-        });
+        return Step::Refused(fault::fault_at(Reason::ExpectedIdentifier, at));
     }
     Step::At(scanner::eat_id(s, next))
 }

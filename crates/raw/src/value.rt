@@ -3,7 +3,7 @@ use crate::answer::Answer;
 use crate::answer::Step;
 use crate::answer::Turn;
 use crate::token;
-use row::fault::Fault;
+use row::fault;
 use row::fault::Reason;
 use row::form;
 use row::form::Kind;
@@ -38,11 +38,7 @@ fn quoted_end(s: &[u8], at: usize) -> Step
             }
         }
     }
-    Step::Refused(Fault {
-        reason: Reason::UnexpectedEof,
-        start: i,
-        end: i,
-    })
+    Step::Refused(fault::fault_at(Reason::UnexpectedEof, i))
 }
 
 // The place of the quote that closes a string, as `quoted_end` finds it, but quicker: a turn looks at two bytes, since escapes come close together
@@ -105,11 +101,7 @@ fn number(s: &[u8], at: usize) -> Step
             i += 1;
         } else if b == 0x2e {
             if dot {
-                return Step::Refused(Fault {
-                    reason: Reason::UnexpectedDecimalPoint,
-                    start: i,
-                    end: i,
-                });
+                return Step::Refused(fault::fault_at(Reason::UnexpectedDecimalPoint, i));
             }
             dot = true;
             i += 1;
@@ -117,11 +109,7 @@ fn number(s: &[u8], at: usize) -> Step
             return Step::At(i);
         }
     }
-    Step::Refused(Fault {
-        reason: Reason::UnexpectedEof,
-        start: i,
-        end: i,
-    })
+    Step::Refused(fault::fault_at(Reason::UnexpectedEof, i))
 }
 
 // The place of the brace that closes a braced value, from inside it: braces in it nest, and a backslash takes the next character with it.
@@ -146,11 +134,7 @@ fn in_braces(s: &[u8], at: usize) -> Step
             0x5c => {
                 if s.len() - i < 2 {
                     let end = i + 1;
-                    return Step::Refused(Fault {
-                        reason: Reason::UnexpectedEof,
-                        start: end,
-                        end: end,
-                    });
+                    return Step::Refused(fault::fault_at(Reason::UnexpectedEof, end));
                 }
                 i += 2;
             }
@@ -159,11 +143,7 @@ fn in_braces(s: &[u8], at: usize) -> Step
             }
         }
     }
-    Step::Refused(Fault {
-        reason: Reason::UnexpectedEof,
-        start: i,
-        end: i,
-    })
+    Step::Refused(fault::fault_at(Reason::UnexpectedEof, i))
 }
 
 // The refusal of a reader without rows, as one of a reader with rows; there is no other.
@@ -246,11 +226,7 @@ fn bare_element(s: &[u8], base: usize, at: usize, rows: &mut [u32], n: usize) ->
         form::put_row(rows, n, Kind::Name, base, at, p2);
         return Answer::Next { at: p2, n: n + 1 };
     }
-    Answer::Refused(Fault {
-        reason: Reason::UnexpectedEof,
-        start: at,
-        end: at,
-    })
+    Answer::Refused(fault::fault_at(Reason::UnexpectedEof, at))
 }
 
 // Eat an element of an abbreviation: most are in braces or quotes.

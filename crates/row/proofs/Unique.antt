@@ -4,6 +4,8 @@
 use mathlib.Core.Path.{_≡_, sym, _∙_}
 use denote.Ref.{now}
 use Rattle.text.proofs.general.Outcomes.{Both, One}
+use Rattle.row.proofs.fault.fault_at.Kinds as fault-at-kinds
+use Rattle.row.proofs.fault.fault_at.Reads as fault-at
 use Rattle.row.proofs.fault.number.Kinds as number-kinds
 use Rattle.row.proofs.fault.number.Reads as number
 use Rattle.row.proofs.check.is_detail.Kinds as is-detail-kinds
@@ -24,6 +26,9 @@ use Rattle.row.proofs.mask.step.Kinds as step-kinds
 use Rattle.row.proofs.mask.step.Reads as step
 use Rattle.row.proofs.mask.is_whole.Kinds as is-whole-kinds
 use Rattle.row.proofs.mask.is_whole.Reads as is-whole
+
+pub one-fault-at : One 0 fault-at-kinds.ps fault-at-kinds.r fault-at.Post
+one-fault-at κs a x y s t p q = p ∙ sym q
 
 pub one-number : One 0 number-kinds.ps number-kinds.r number.Post
 one-number κs a x y s t p q = p ∙ sym q

@@ -1,7 +1,7 @@
 // Why a call refuses, and where: one refusal for all calls [01:Numbers a caller can get]. And what a call comes to, where that is a count or
 // a refusal.
 ghost use mathlib.Core.Path.{_≡_};
-ghost use Rattle.row.specs.Fault.{numberOf};
+ghost use Rattle.row.specs.Fault.{numberOf, faultAt};
 
 // Document 01's table, in its order.
 pub enum Reason {
@@ -29,6 +29,17 @@ pub struct Fault {
     pub reason: Reason,
     pub start: usize,
     pub end: usize,
+}
+
+// A refusal at an empty place: a reader refuses where it stands.
+pub fn fault_at(reason: Reason, at: usize) -> Fault
+    ensures { λ r. ⌜ r ≡ faultAt reason at ⌝ }
+{
+    Fault {
+        reason,
+        start: at,
+        end: at,
+    }
 }
 
 // What a call comes to: the count of what it wrote, or a refusal.

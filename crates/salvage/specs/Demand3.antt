@@ -19,7 +19,7 @@ use Rattle.raw.specs.Grammar.{white, fileTurn}
 use Rattle.row.specs.Limits.{mostBytes}
 use Rattle.raw.specs.Read.{strict}
 use Rattle.row.specs.Rules.{isRows, clean}
-use Rattle.raw.specs.Strict.{Rising}
+use Rattle.raw.specs.Strict.{Rising, Refusal}
 use Rattle.salvage.specs.Salvage.{head, newline, Texts, cut, told, pieces, salvageOf, Salvage}
 
 -- ---- the words
@@ -45,12 +45,11 @@ unfoldable pub joined : Texts → List ℕ
 joined [] = []
 joined (w ∷ ws) = w ++ joined ws
 
--- a cause is one of the numbers 2 to 10, at an empty place of the piece w
+-- a cause is the refusal of the piece w by itself, with a number from 2 to 10: [02:2] "in strict reading and cause rows alike", 3 to 10 are over
+-- their culprit in the piece, and stay empty at its end
 pub record CauseOf (w : List ℕ) (f : Fault) : Type 0 where
   pub least : 2 ≤ numberOf (f .reason)
-  pub most : numberOf (f .reason) ≤ 10
-  pub place : f .start ≤ length w
-  pub empty : f .end ≡ f .start
+  pub refusal : Refusal w f
 
 -- what the piece w of a file gives, which stands behind the pieces ws and before the pieces vs
 pub record PieceGives (s : List ℕ) (ws : Texts) (w : List ℕ) (vs : Texts) : Type 0 where

@@ -11,6 +11,6 @@ use Rattle.salvage.specs.Salvage.{salvageOf}
 
 pub record Worked : Type 0 where
   pub strictly : strict (utf8 "@a{\n@b{k,}") ≡ ok 10 (rowOf 1 0 0 9 ∷ rowOf 2 0 1 2 ∷ rowOf 3 0 4 8 ∷ [])
-  -- the second piece lacks its comma, and a newline stands behind the place where it is missed
+  -- the second piece lacks its comma, and a brace stands where it is missed
   pub later : salvageOf (utf8 "@a{k,}\n@b{k}\n")
-      ≡ rowOf 1 0 0 5 ∷ rowOf 2 0 1 2 ∷ rowOf 3 0 3 4 ∷ rowOf 9 0 7 13 ∷ rowOf 10 7 11 11 ∷ []
+      ≡ rowOf 1 0 0 5 ∷ rowOf 2 0 1 2 ∷ rowOf 3 0 3 4 ∷ rowOf 9 0 7 13 ∷ rowOf 10 7 11 12 ∷ []

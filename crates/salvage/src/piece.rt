@@ -3,16 +3,17 @@ use raw::answer::Answer;
 use raw::file;
 use row::fault;
 use row::fault::Fault;
+use row::fault::Reason;
 use row::form;
 use row::form::Kind;
 use text::block;
+use text::utf8;
+use text::utf8::Validity;
 ghost use mathlib.Core.Path.{_≡_};
 ghost use mathlib.Core.Bool.{_&&_};
 ghost use Prim.Native.Nat.{_+_, _-_, _≤_, _<_};
 ghost use lib.ListN.{length, getD, drop};
 ghost use Rattle.row.specs.Row.{moved, overlay};
-ghost use Rattle.raw.specs.Read.{strict};
-ghost use Rattle.raw.specs.Says.{Says, Within};
 ghost use Rattle.salvage.specs.Salvage.{head, newline, damaged};
 ghost use Rattle.salvage.specs.Inner.{PieceEnds, PutsPiece, PieceToRead, DamageToWrite};
 
@@ -81,18 +82,6 @@ pub fn piece_end(s: &[u8], at: usize) -> usize
     far_end(s, at)
 }
 
-// Strict reading of a piece that stands base bytes into the file. Its UTF-8 is checked unless it is known to be valid.
-fn read_alone(w: &[u8], base: usize, rows: &mut [u32], valid: bool) -> Answer
-    requires { ⌜ PieceToRead (now w) base valid ⌝ }
-    ensures says { λ r. ⌜ Says base (strict (now (w .entry))) 0 (now (rows .entry)) r (now (rows .exit)) ⌝ }
-    ensures within { λ r. ⌜ Within (length (now (w .entry))) 0 0 0 r ⌝ }
-{
-    if valid {
-        return file::parse(w, base, rows, 0);
-    }
-    file::parse_bytes(w, base, rows)
-}
-
 // The damage of a piece that is refused, and the cause.
 fn write_damage(w: &[u8], base: usize, rows: &mut [u32], fault: Fault)
     requires { ⌜ DamageToWrite (now w) base fault ⌝ }
@@ -107,16 +96,28 @@ fn write_damage(w: &[u8], base: usize, rows: &mut [u32], fault: Fault)
     form::write_row(rows, 1, Kind::Cause, fault::number(reason), start, end);
 }
 
-// Reads a piece, whose rows then stand in front of the lent numbers where all of them fit. What a refused piece wrote before its fault is
-// overwritten by its damage and cause, or stands behind these, where the rows of later pieces go.
+// Reads a piece alone, whose rows then stand in front of the lent numbers where all of them fit. Its UTF-8 is checked unless it is known to be
+// valid. What a refused piece wrote before its fault is overwritten by its damage and cause, or stands behind these, where the rows of later
+// pieces go. Where there is no room for these two, as when rows are counted, nobody asks for the place of the cause.
 pub fn read_piece(w: &[u8], base: usize, rows: &mut [u32], valid: bool) -> Tally
     requires { ⌜ PieceToRead (now w) base valid ⌝ }
     ensures { λ r. ⌜ PutsPiece (now (w .entry)) base (now (rows .entry)) r (now (rows .exit)) ⌝ }
 {
-    match read_alone(w, base, rows, valid) {
+    if !valid {
+        match utf8::validate_short(w) {
+            Validity::IllFormed(i) => {
+                write_damage(w, base, rows, fault::fault_at(Reason::NotUtf8, i));
+                return Tally::Damaged(2);
+            }
+            Validity::Valid => {}
+        }
+    }
+    match file::parse(w, base, rows, 0) {
         Answer::Next { at: _, n } => Tally::Sound(n),
         Answer::Refused(f) => {
-            write_damage(w, base, rows, f);
+            if 8 <= rows.len() {
+                write_damage(w, base, rows, file::culprit(w, f));
+            }
             Tally::Damaged(2)
         }
     }

@@ -1,7 +1,7 @@
 -- The ways through the functions of src/file.rt, over what their calls answered.
 --     file-end, file-entry, file-comment, file-other     a turn of the file, by the byte it stands at
 --     comment-further                                    a comment goes past its percent sign
---     bytes-ill, bytes-valid                             the answers of `parse_bytes`
+--     bytes-ill, bytes-off, bytes-on                             the answers of `parse_bytes`
 --     read-long                                          `read`: the file is too long
 --     read-off, read-full, read-copied, read-fits        the answers of `read_over`
 -- Assumes nothing.
@@ -33,10 +33,10 @@ use Rattle.raw.specs.Reader.{Out, ok, again, bad, andThen}
 use Rattle.raw.specs.Grammar.{is, comment, entry, fileTurn, file}
 use Rattle.raw.specs.Says.{stepOf, answerOf, RowsLaid, Says}
 use Rattle.row.specs.Limits.{mostBytes}
-use Rattle.raw.specs.Read.{strict, readingOut, leftOut, Read}
+use Rattle.raw.specs.Read.{culprit, underlined, strict, readingOut, leftOut, Read}
 use Rattle.row.proofs.Laid.{laid}
 use Rattle.raw.proofs.readers.Then.{then-on}
-use Rattle.raw.proofs.contracts.SaysLaws.{says-at, said-off}
+use Rattle.raw.proofs.contracts.SaysLaws.{says-of, says-at, says-off, said-off}
 use Rattle.raw.proofs.ways.TokenWays.{scan-on, white-on, comment-on}
 use Rattle.raw.proofs.ways.ByteLoops.{seen-key, seen-other}
 use Rattle.text.proofs.general.Tests.{narrow-is}
@@ -78,14 +78,27 @@ comment-further s p {r} h q d =
 
 -- ---- `parse_bytes`
 
-module _ (s : List ℕ) (base : ℕ) (b : List ℕ) (h : base + length s ≤ mostBytes) {v : Validity} (d : v ≡ validityOf s) where
-  pub bytes-ill : {i : ℕ} {b′ : List ℕ} → v ≡ validity.IllFormed i → Says base (strict s) 0 b (answer.Refused (faultAt NotUtf8 i)) b′
+module _ (s b : List ℕ) (h : length s ≤ mostBytes) {v : Validity} (d : v ≡ validityOf s) where
+  pub bytes-ill : {i : ℕ} {b′ : List ℕ} → v ≡ validity.IllFormed i → Says 0 (strict s) 0 b (answer.Refused (faultAt NotUtf8 i)) b′
   bytes-ill {i} {b′} e =
-      subst (λ (o : Out). Says base o 0 b (answer.Refused (faultAt NotUtf8 i)) b′) (sym (strict-ill s (omega arith) i (sym d ∙ e)))
+      subst (λ (o : Out). Says 0 o 0 b (answer.Refused (faultAt NotUtf8 i)) b′) (sym (strict-ill s h i (sym d ∙ e)))
       (record { told = refl; rows = tt })
 
-  pub bytes-valid : v ≡ validity.Valid → {r : Answer} {b′ : List ℕ} → Says base (file s 0) 0 b r b′ → Says base (strict s) 0 b r b′
-  bytes-valid e {r} {b′} p = subst (λ (o : Out). Says base o 0 b r b′) (sym (strict-valid s (omega arith) (sym d ∙ e))) p
+  -- where the text is valid, and the grammar's answer is r
+  module _ (e : v ≡ validity.Valid) {r : Answer} {b′ : List ℕ} (p : Says 0 (file s 0) 0 b r b′) where
+    valid-is : strict s ≡ underlined s (file s 0)
+    valid-is = strict-valid s h (sym d ∙ e)
+
+    pub bytes-off : {f g : Fault} → r ≡ answer.Refused f → g ≡ culprit s f → Says 0 (strict s) 0 b (answer.Refused g) b′
+    bytes-off x y = says-off (valid-is ∙ ap (underlined s) (said-off (says-at x p)) ∙ ap bad (sym y))
+
+    pub bytes-on : {q n : ℕ} → r ≡ answer.Next q n → Says 0 (strict s) 0 b r b′
+    bytes-on {q} {n} x = says-of (valid-is ∙ same (file s 0) (sym x ∙ p .told)) p
+      where
+        same : (o : Out) → answer.Next q n ≡ answerOf o 0 → underlined s o ≡ o
+        same (ok i rs) y = refl
+        same (again i rs a) y = refl
+        same (bad f) y = let z : _≡_ {A = ℕ} 0 1 = cc in absurd (omega arith)
 
 -- ---- `read` and `read_over`
 

@@ -65,8 +65,7 @@ module _ (s : List ℕ) (ws : Texts) (w : List ℕ) (vs : Texts) (h : length s �
 
   piece-cause : (f : Fault) → strict w ≡ bad f → CauseOf w f
   piece-cause f d =
-      let r = strict-reading .refuses w f d in
-      record { least = steps .strict-bad w (omega (arith, piece-length)) f d; most = r .number .1; place = r .place; empty = r .empty }
+      record { least = steps .strict-bad w (omega (arith, piece-length)) f d; refusal = strict-reading .refuses w f d }
 
   pub each : PieceGives s ws w vs
   each =

@@ -54,7 +54,7 @@ told-spans w =
     told-by w (SpansIn (length w)) (steps .strict-spans w)
     (λ f e.
     let r = strict-reading .refuses w f e in
-    let c : SpanIn (length w) (cause f) = record { order = omega (arith, r .empty); inside = omega (arith, r .place, r .empty) } in
+    let c : SpanIn (length w) (cause f) = record { order = r .place .0; inside = r .place .1 } in
     (record { order = omega arith; inside = omega arith }, (c, tt)))
 
 pub pieces-spans : (p : ℕ) (ws : Texts) → SpansIn (p + length (joined ws)) (pieces p ws)

@@ -18,7 +18,7 @@ use Rattle.row.specs.Row.{Row, moved}
 use Rattle.raw.specs.Reader.{ok, more, loop, many}
 use Rattle.raw.specs.Grammar.{white, fileTurn, file}
 use Rattle.row.specs.Limits.{mostBytes}
-use Rattle.raw.specs.Read.{strict}
+use Rattle.raw.specs.Read.{underlined, strict}
 use Rattle.row.specs.Rules.{clean}
 use Rattle.raw.specs.Strict.{shifted}
 use Rattle.raw.proofs.Strict.{strict-reading}
@@ -104,7 +104,7 @@ module _ (b : ℕ) (s : List ℕ) where
       let t = through w r (length (f .0)) (meet b (f .0) r (m .0) (m .1)) (x .0) (told w (strict w)) (u .2) in
       let g = rest w r (length (f .0)) refl ∙ ap (shifted (length w)) (v .2) in
       let z = t .0 ∙ ap (more (told w (strict w))) g ∙ ap (ok (y .0 + length w)) (sym rows) in
-      (y .0 + length w, steps .strict-is (b ∷ s) h o ∙ ap (λ (l : List ℕ). file l 0) whole ∙ z)
+      (y .0 + length w, steps .strict-is (b ∷ s) h o ∙ ap (underlined (b ∷ s)) (ap (λ (l : List ℕ). file l 0) whole ∙ z))
 
   accepts-step : length (b ∷ s) ≤ mostBytes
       → ((t : List ℕ) → length t ≤ length s → clean (salvageOf t) ≡ true → Accepts t (salvageOf t))
@@ -138,9 +138,9 @@ module _ (b : ℕ) (s : List ℕ) where
       let l = length-append w r in
       let lw : length w ≤ mostBytes = omega (arith, u .0, ap length whole) in
       let lr : length r ≤ mostBytes = omega (arith, u .0, ap length whole) in
-      let z = steps .strict-is r lr (o .1) ∙ y .2 in
+      let z = steps .strict-is r lr (o .1) ∙ ap (underlined r) (y .2) in
       let i : salvageOf r ≡ y .1 = ih (y .1) (z ∙ ap (λ (n : ℕ). ok n (y .1)) (strict-reading .accepts r (y .0) (y .1) z .end)) in
-      rows ∙ ap₂ (λ (a c : List Row). a ++ c) (ap (told w) (steps .strict-is w lw (o .0) ∙ x .2)) (ap (moved (length w)) i ∙ sym (y .4)) ∙ sym (x .4)
+      rows ∙ ap₂ (λ (a c : List Row). a ++ c) (ap (told w) (steps .strict-is w lw (o .0) ∙ ap (underlined w) (x .2))) (ap (moved (length w)) i ∙ sym (y .4)) ∙ sym (x .4)
 
 accepts-by : (n : ℕ) (s : List ℕ) → length s ≤ n → length s ≤ mostBytes → clean (salvageOf s) ≡ true → Accepts s (salvageOf s)
 accepts-by zero [] h l k = (0, empty)

@@ -1,4 +1,5 @@
 -- `raw::field::field_end` meets its contract. Assumes nothing.
+use mathlib.Core.Logic.{⊎-elim}
 use native.Mathlib.Omega.{arith}
 use borrow.Author.Needs.{needs}
 use Rattle.raw.proofs.contracts.SaysLaws.{turn-done, turn-again, turn-off}
@@ -43,17 +44,15 @@ returns-3 c =
 
 returns-4 : tie.Need-returns-4
 returns-4 c =
-    let if4 = c .before in
-    let if3 = if4 .before .before in
+    let if3 = c .before in
     let eat-whitespace2 = if3 .before in
     let asked = eat-whitespace2 .before .before .before in
     let a = asked .args in
-    (λ base b. turn-off (end-off (a .s .now) (a .at) (eat-whitespace2 .eat-whitespace2 .ensures .0) (if3 .if3 .taken) (if4 .if4 .left) (c .if5 .left)), tt)
-
-returns-5 : tie.Need-returns-5
-returns-5 c =
-    let a = c .before .before .before .before .args in
-    (λ base b. turn-off (end-end (a .s .now) (a .at) (c .before .eat-whitespace2 .ensures .0) (c .if3 .left)), tt)
+    let blank = eat-whitespace2 .eat-whitespace2 .ensures .0 in
+    let off =
+    ⊎-elim (λ w. end-off (a .s .now) (a .at) blank (w .0 .taken) (w .2 .left) (w .3 .left)) (λ w. end-end (a .s .now) (a .at) blank (w .left))
+    (if3 .if3 .came) in
+    (λ base b. rw (c .fault-at .ensures) (turn-off off), tt)
 
 pub field-end-spec : {M : Type 1} → statement M
 field-end-spec =
@@ -71,5 +70,5 @@ field-end-spec =
     (λ c κs. search needs)
     returns-2
     returns-3
-    returns-4
-    returns-5)
+    (λ c κs. search needs)
+    returns-4)

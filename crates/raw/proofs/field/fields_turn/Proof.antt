@@ -10,7 +10,10 @@ use Rattle.raw.proofs.field.fields_turn.Statement.{statement}
 use Rattle.raw.proofs.field.fields_turn.Tie as tie
 
 returns : tie.Need-returns
-returns c = let a = c .before .before .before .args in (turn-off (fields-eof (a .kind) (a .s .now) (a .at) (c .if1 .taken)), tt)
+returns c =
+    let if1 = c .before in
+    let a = if1 .before .before .before .args in
+    (rw (c .fault-at .ensures) (turn-off (fields-eof (a .kind) (a .s .now) (a .at) (if1 .if1 .taken))), tt)
 
 returns-2 : tie.Need-returns-2
 returns-2 c =
@@ -63,6 +66,7 @@ pub fields-turn-spec : {M : Type 1} → statement M
 fields-turn-spec =
     tie.close
     (tie.spec
+    (λ c κs. search needs)
     returns
     (λ c κs. search needs)
     (λ c. search needs)

@@ -13,10 +13,11 @@ returns c =
 
 returns-2 : tie.Need-returns-2
 returns-2 c =
-    let answered = c .before .before in
+    let room = c .before in
+    let answered = room .before .before in
     let counted = answered .before .before .before .before in
     let a = counted .before .before .before .before .before .args in
-    read-full (a .s .now) (a .rows .now) (counted .parse-bytes .ensures .0) (answered .n .given .1) (c .if1 .taken)
+    rw (c .fault-at .ensures) (read-full (a .s .now) (a .rows .now) (counted .parse-bytes .ensures .0) (answered .n .given .1) (room .if1 .taken))
 
 returns-3 : tie.Need-returns-3
 returns-3 c =
@@ -27,7 +28,7 @@ returns-3 c =
     let counted = answered .before .before .before .before in
     let a = counted .before .before .before .before .before .args in
     read-copied (a .s .now) (a .rows .now) (counted .parse-bytes .ensures .0) (answered .n .given .1) (room .if1 .left)
-    (omega (arith, small .if2 .taken, counted .parse-bytes .kept .1 .1 .0)) (copied .copy-numbers .ensures)
+    (omega (arith, small .if2 .taken, counted .parse-bytes .kept .1 .0)) (copied .copy-numbers .ensures)
 
 returns-4 : tie.Need-returns-4
 returns-4 c =
@@ -47,6 +48,7 @@ read-over-spec =
     (λ c. search needs)
     returns
     (λ c. search needs)
+    (λ c κs. search needs)
     (λ c. search needs)
     returns-2
     (λ c. search needs)

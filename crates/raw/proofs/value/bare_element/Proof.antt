@@ -1,10 +1,11 @@
 -- `raw::value::bare_element` meets its contract. Assumes nothing.
-use mathlib.Core.Path.{refl, ap, _∙_}
+use mathlib.Core.Path.{ap, _∙_}
 use native.Mathlib.Omega.{arith}
 use lib.ListN.{length}
 use borrow.Author.Needs.{needs}
 use Rattle.row.specs.declared.form.Kind.the-variants as kind
 use Rattle.row.specs.Row.{row}
+use Rattle.raw.specs.declared.answer.Answer.the-variants as answer
 use Rattle.raw.specs.Reader.{under}
 use Rattle.raw.specs.Grammar.{number, ident}
 use Rattle.raw.proofs.grammar.Rowless.{rowless-at, rowless-off, number-rowless, ident-rowless}
@@ -102,14 +103,15 @@ returns-4 c =
 
 returns-5 : tie.Need-returns-5
 returns-5 c =
-    let eat-if2 = c .before in
+    let if2 = c .before in
+    let eat-if2 = if2 .before in
     let if1 = eat-if2 .before in
     let eat-if = if1 .before in
     let asked = eat-if .before .before .before in
     let a = asked .args in
     off-answer (length (a .s .now)) 1 (a .at)
-    (element-field (a .s .now) (a .at) (eat-if .eat-if .ensures .0) (if1 .if1 .left) (eat-if2 .eat-if2 .ensures .0) (c .if2 .left) ∙ single-none (a .s .now) (a .at)
-    (asked .pre .1)) refl
+    (element-field (a .s .now) (a .at) (eat-if .eat-if .ensures .0) (if1 .if1 .left) (eat-if2 .eat-if2 .ensures .0) (if2 .if2 .left) ∙ single-none (a .s .now) (a .at)
+    (asked .pre .1)) (ap answer.Refused (c .fault-at .ensures))
 
 pub bare-element-spec : {M : Type 1} → statement M
 bare-element-spec =
@@ -135,4 +137,5 @@ bare-element-spec =
     (λ c. search needs)
     (λ c. search needs)
     returns-4
+    (λ c κs. search needs)
     returns-5)

@@ -66,10 +66,9 @@ add-end c = omega arith
 
 returns-2 : tie.Need-returns-2 Inv-loop μ-loop
 returns-2 c =
-    let turn = c .before .before .before .before .loop in
-    let test = c .before .before .before .loop-test in
-    let matched = c .before .match in
-    braces-eof (turn .inv .1) (test .taken) (matched .keys3) (omega arith)
+    let matched = c .before .before in
+    let test = matched .before .before in
+    rw (c .fault-at .ensures) (braces-eof (test .before .loop .inv .1) (test .loop-test .taken) (matched .match .keys3) (omega arith))
 
 add-i-3 : tie.Need-add-i-3 Inv-loop μ-loop
 add-i-3 c = omega arith
@@ -101,7 +100,9 @@ loop-again-4 c =
     (omega (arith, x .from), braces-clear plain (omega arith) x)
 
 returns-3 : tie.Need-returns-3 Inv-loop μ-loop
-returns-3 c = braces-end (c .before .loop .inv .1) (c .loop-test .left)
+returns-3 c =
+    let test = c .before in
+    rw (c .fault-at2 .ensures) (braces-end (test .before .loop .inv .1) (test .loop-test .left))
 
 pub in-braces-spec : {M : Type 1} → statement M
 in-braces-spec =
@@ -122,6 +123,7 @@ in-braces-spec =
     loop-again-2
     sub-if2
     add-end
+    (λ c κs. search needs)
     returns-2
     add-i-3
     loop-less-3
@@ -130,4 +132,5 @@ in-braces-spec =
     (λ c κs. search needs)
     loop-less-4
     loop-again-4
+    (λ c κs. search needs)
     returns-3)

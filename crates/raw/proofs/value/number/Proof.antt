@@ -2,6 +2,7 @@
 use Prim.Native.Nat.{_-_}
 use native.Mathlib.Omega.{arith}
 use lib.ListN.{length}
+use borrow.Author.Needs.{needs}
 use Rattle.raw.specs.Grammar.{numberTurn}
 use Rattle.raw.proofs.ways.ByteLoops.{Reached, reached}
 use Rattle.raw.proofs.ways.ByteTurns.{dotted, number-end, number-digit, number-point, number-again, number-done}
@@ -34,10 +35,11 @@ loop-again c =
 
 returns : tie.Need-returns Inv-loop μ-loop
 returns c =
-    let if2 = c .before in
+    let if3 = c .before in
+    let if2 = if3 .before in
     let test = if2 .before .before .before in
     let turn = test .before in
-    number-again (test .loop-test .taken) (if2 .if2 .taken) (turn .loop .dot) (turn .loop .inv) (c .if3 .taken)
+    rw (c .fault-at .ensures) (number-again (test .loop-test .taken) (if2 .if2 .taken) (turn .loop .dot) (turn .loop .inv) (if3 .if3 .taken))
 
 add-i-2 : tie.Need-add-i-2 Inv-loop μ-loop
 add-i-2 c = omega arith
@@ -61,8 +63,9 @@ returns-2 c =
 
 returns-3 : tie.Need-returns-3 Inv-loop μ-loop
 returns-3 c =
-    let turn = c .before .loop in
-    number-end (turn .dot) (turn .inv) (c .loop-test .left)
+    let test = c .before in
+    let turn = test .before .loop in
+    rw (c .fault-at2 .ensures) (number-end (turn .dot) (turn .inv) (test .loop-test .left))
 
 pub number-spec : {M : Type 1} → statement M
 number-spec =
@@ -75,9 +78,11 @@ number-spec =
     add-i
     loop-less
     loop-again
+    (λ c κs. search needs)
     returns
     add-i-2
     loop-less-2
     loop-again-2
     returns-2
+    (λ c κs. search needs)
     returns-3)

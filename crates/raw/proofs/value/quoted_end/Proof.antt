@@ -2,6 +2,7 @@
 use Prim.Native.Nat.{_-_}
 use native.Mathlib.Omega.{arith}
 use lib.ListN.{length}
+use borrow.Author.Needs.{needs}
 use Rattle.raw.specs.Grammar.{quotedTurn}
 use Rattle.raw.proofs.ways.ByteLoops.{Reached, reached}
 use Rattle.raw.proofs.ways.ByteTurns.{quoted-end, quoted-closed, quoted-cut, quoted-escape, quoted-plain}
@@ -59,7 +60,9 @@ loop-again-3 : tie.Need-loop-again-3 Inv-loop μ-loop
 loop-again-3 c = quoted-plain (c .before .before .before .loop .inv) (c .before .before .loop-test .taken) (c .match .rest .0 .1) (c .match .rest .1)
 
 returns-2 : tie.Need-returns-2 Inv-loop μ-loop
-returns-2 c = quoted-end (c .before .loop .inv) (c .loop-test .left)
+returns-2 c =
+    let test = c .before in
+    rw (c .fault-at .ensures) (quoted-end (test .before .loop .inv) (test .loop-test .left))
 
 pub quoted-end-spec : {M : Type 1} → statement M
 quoted-end-spec =
@@ -79,4 +82,5 @@ quoted-end-spec =
     add-i-3
     loop-less-3
     loop-again-3
+    (λ c κs. search needs)
     returns-2)
