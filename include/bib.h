@@ -73,13 +73,15 @@ extern "C" {
 /* Numbers that are enough for the rows of every file of so many bytes, salvaged or read strictly. */
 #define BIB_ENOUGH_NUMBERS(file_len) (((size_t)(file_len) + 1) * BIB_ROW_NUMBERS)
 
-/* What the status says. A place is start..end; 0..0 where none is named here. */
+/* What the status says. A place is start..end; 0..0 where none is named here. That of 3 to 10 is the
+ * whole character that is wrong, or n..n where the file ends, or in bib_salvage the piece; but that of
+ * a 3 in a literal is n..n. */
 enum bib_status {
     BIB_OK = 0,
     BIB_TOO_LONG = 1,                 /* the file has more than BIB_MOST_BYTES; or, at its place, a
                                          literal has more than BIB_MOST_LITERAL */
     BIB_NOT_UTF8 = 2,                 /* n..n, the first byte of the first ill-formed sequence */
-    BIB_UNEXPECTED_EOF = 3,           /* n..n, as all to 10: the text ends, or no value begins */
+    BIB_UNEXPECTED_EOF = 3,           /* the text ends, or no value begins */
     BIB_EXPECTED_IDENTIFIER = 4,
     BIB_EXPECTED_OPENING_BRACE = 5,
     BIB_EXPECTED_CLOSING_BRACE = 6,
@@ -112,7 +114,8 @@ enum bib_kind {
     BIB_NAME = 7,                     /* a part of a value that names a definition */
     BIB_DEFINITION_NAME = 8,
     BIB_DAMAGE = 9,                   /* of bib_salvage: a piece that is refused */
-    BIB_CAUSE = 10                    /* and why: the detail is its number, 2 to 10 */
+    BIB_CAUSE = 10                    /* and why: the detail is its number, 2 to 10, and start and end
+                                         are its place */
 };
 
 /* What a chunk row is of. */

@@ -35,7 +35,9 @@ struct bib_finding {
     uint32_t level;       /* one of enum bib_level */
     uint64_t line;        /* where a person should look, both from 1; columns are characters */
     uint64_t column;
-    uint64_t start;       /* the bytes of the file that it is about, of a refusal as the rows have them */
+    /* The bytes of the file that it is about, of a refusal as the rows have them: where reading stops, the whole character
+     * that stands there; where the text ends, start and end are equal. Line and column may be of another place. */
+    uint64_t start;
     uint64_t end;
     uint64_t lender;      /* 0: line, column and bytes are of the file; n: of the nth file that lends definitions */
     const char *name;     /* as `--allow` takes it of a warning: duplicate-key; of a refusal: expected-comma */

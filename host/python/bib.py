@@ -85,7 +85,8 @@ class Chunk(enum.IntEnum):
 
 
 class Row(NamedTuple):
-    """The bytes start..end of the file are of this kind. The detail is 0, but in a cause the number of the refusal."""
+    """The bytes start..end of the file are of this kind. The detail is 0, but in a cause the number of the refusal, whose bytes these
+    are."""
 
     kind: int
     detail: int
@@ -207,7 +208,8 @@ _WHAT = {
 
 
 class Refusal(ValueError):
-    """What was refused: its number, and its place, the bytes start..end."""
+    """What was refused: its number, and its place, the bytes start..end. Where reading refuses with 3 to 10, these are the whole
+    character that is wrong, or none at the end of the file."""
 
     def __init__(self, number: int, start: int, end: int):
         # A file that is too long has 0..0, a literal its own place.

@@ -101,12 +101,23 @@ class Reading(unittest.TestCase):
         self.assertEqual(rows[1], (Kind.CAUSE, 7, 4, 4))
         self.assertEqual(len(bib.salvage(b"@\n@\n@")), 6)
 
+    def test_causes(self):
+        """A cause is the character that is wrong; at its piece's end it is empty, though the file goes on."""
+        for culprit in ("x", "é", "漢", "😀", ""):
+            piece = f"@a{{k {culprit}\n".encode()
+            rows = bib.salvage("é\n".encode() + piece + b"@b{k,}")
+            start = 8 if culprit else 3 + len(piece)
+            want = (Kind.CAUSE, 7, start, start + len(culprit.encode()))
+            self.assertEqual([row for row in rows if row.kind == Kind.CAUSE], [want])
+
     def test_refusals(self):
-        for file, number, place in [(b"@a{k}", 7, 4), (b"@a{k,t=}", 3, 7), (b"a\xff", 2, 1)]:
+        cases = [(b"@a{k}", 7, 4, 5), (b"@a{k,t=}", 3, 7, 8), (b"@a{k,y=1.2.3}", 10, 10, 11), (b"@a{k,y=12", 3, 9, 9)]
+        cases += [(f"@a{{k {c},}}".encode(), 7, 5, end) for c, end in [("é", 7), ("漢", 8), ("😀", 9)]] + [(b"a\xff", 2, 1, 1)]
+        for file, *want in cases:
             with self.assertRaises(Refusal) as caught:
                 bib.read(file)
             refusal = caught.exception
-            self.assertEqual((refusal.number, refusal.start, refusal.end), (number, place, place))
+            self.assertEqual([refusal.number, refusal.start, refusal.end], want)
         self.assertEqual(str(refusal), "bytes that are not UTF-8 at byte 1 (refusal 2)")
 
     def test_longest(self):

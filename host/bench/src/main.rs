@@ -5,8 +5,10 @@
 //!     cargo run --release -p bench                        the made shapes only
 //!     cargo run --release -p bench -- --processor FOLDER  the processor's time, where there is other work
 //!     cargo run --release -p bench -- --only literals FOLDER    of reading, utf8, packing, salvage,
-//!                                                         literals, sentences, names, wholes and buckets
-//!                                                         just this
+//!                                                         refused, literals, sentences, names, wholes and
+//!                                                         buckets just this
+//!     cargo run --release -p bench -- --empty-places FOLDER    a library of before 02's "Underline the culprit",
+//!                                                         whose refusals have empty places
 //!     cargo run --release -p bench -- --only buckets --most 16    files of up to 16 MB whose names have one
 //!                                                         hash, and not of 1 MB alone
 //!     cargo run --release -p bench -- --write FOLDER --most 16    writes these files, and times nothing
@@ -26,13 +28,15 @@
 //! Then the UTF-8 check alone beside `std::str::from_utf8`; packing and unpacking the rows beside the
 //! Rust packer, with ratios of the same sense; and salvage: on files sound and damaged beside strict
 //! reading, where the figure is salvage's time divided by strict reading's, and on files of many
-//! pieces. And literals, and all fields of files, resolved and formatted, beside the Rust's functions;
+//! pieces. Then what is refused, strictly read and salvaged, beside the Rust.
+//! And literals, and all fields of files, resolved and formatted, beside the Rust's functions;
 //! titles formatted in sentence case beside the Rust's; and a program against the names of the Rust's modules, over the original and over the proved library.
 
 mod buckets;
 mod literals;
 mod names;
 mod packing;
+mod refused;
 mod salvage;
 mod sentences;
 mod shapes;
@@ -137,6 +141,9 @@ fn rows(wanted: &Wanted) {
     if wanted.has("salvage") {
         salvage::run(folders, rounds);
     }
+    if wanted.has("refused") {
+        refused::run(folders, rounds);
+    }
 }
 
 fn wanted() -> Result<Wanted, String> {
@@ -154,6 +161,7 @@ fn wanted() -> Result<Wanted, String> {
             "--most" => wanted.most = number(&word, words.next())?,
             "--write" => wanted.write = Some(words.next().ok_or("--write takes a folder")?.into()),
             "--processor" => timing::by_processor(),
+            "--empty-places" => refused::with_empty_places(),
             "--only" => wanted.only = words.next().ok_or("--only takes a word")?,
             _ => wanted.folders.push(word.into()),
         }

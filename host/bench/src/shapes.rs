@@ -136,6 +136,55 @@ pub fn pieces() -> [Shape; 4] {
     ]
 }
 
+/// Files that are refused at their end: over a character of one, three or four bytes where a comma is looked
+/// for, and over nothing, where a value is not closed.
+pub fn refused(folders: &[PathBuf]) -> Vec<Shape> {
+    let mut shapes = Vec::new();
+    if let Some(real) = real(folders) {
+        shapes.push(ended(real, b"@a{k}", "and one without a comma"));
+    }
+    let wide = "@a{k 漢,}\n".as_bytes();
+    shapes.push(ended(
+        million(),
+        wide,
+        "and one with three bytes for a comma",
+    ));
+    shapes.push(made("one field that is left open", |size| {
+        around(b"@a{k,t={", b"word ", b"", size)
+    }));
+    shapes.push(made("many fields, with four bytes for a comma", |size| {
+        around(b"@a{k,\n", b" year = 1999,\n", "t = 1 😀}".as_bytes(), size)
+    }));
+    shapes
+}
+
+/// A shape with this at the end of its texts.
+fn ended(shape: Shape, end: &[u8], said: &str) -> Shape {
+    Shape {
+        name: format!("{}, {said}", shape.name),
+        small: [&shape.small, end].concat(),
+        full: [&shape.full, end].concat(),
+    }
+}
+
+/// Files whose pieces are all refused: tiny ones over a character of one, three or four bytes, and entries as
+/// authors have them in which a value is missing.
+pub fn damaged_pieces() -> [Shape; 4] {
+    let shape = |name: &str, piece: &str| {
+        let text = |size| around(b"", piece.as_bytes(), b"", size);
+        made(name, text)
+    };
+    [
+        shape("tiny entries without a comma", "@a{k}\n"),
+        shape("tiny ones with three bytes for a comma", "@a{k 漢,}\n"),
+        shape("tiny ones with four bytes for a comma", "@a{k 😀,}\n"),
+        shape(
+            "entries without a year",
+            "@book{key,\n  author = {Someone Else},\n  title = {A Title},\n  year = ,\n}\n",
+        ),
+    ]
+}
+
 /// The files that strict reading accepts.
 pub fn real(folders: &[PathBuf]) -> Option<Shape> {
     joined("accepted", folders, |file| oracle::read(file).is_ok())

@@ -119,7 +119,8 @@ impl Reason {
     }
 }
 
-/// A refusal: why, and at which bytes of what was given.
+/// A refusal: why, and at which bytes of what was given. Where reading comes to what it cannot take, which
+/// are the numbers 3 to 10, these are the whole character that stands there; and none where the text ends.
 #[derive(Debug, Clone, Copy, PartialEq, Eq, Hash)]
 pub struct Refusal {
     pub reason: Reason,

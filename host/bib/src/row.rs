@@ -23,7 +23,8 @@ pub enum Kind {
     DefinitionName,
     /// A piece that is damaged, of salvage only.
     Damage,
-    /// Why the piece of the row before is damaged: the detail is the refusal's number.
+    /// Why the piece of the row before is damaged: the detail is the refusal's number, and the bytes are
+    /// the refusal's.
     Cause,
 }
 

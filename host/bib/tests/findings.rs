@@ -983,14 +983,18 @@ fn places_of_errors() {
     }
 }
 
-/// The number and the bytes are those of the row, wherever the mark is.
+/// The number and the bytes are those of the row, wherever the mark is: here the letter before which a comma
+/// is missing, and the end of a piece.
 #[test]
 fn numbers_and_bytes() {
     let file = b"@a{k,\n  t = {x}\n  u = {y}\n}\n@b{k, t = {x\n\n@c{k,}";
     let rows = bib::salvage(file).unwrap();
     let causes = rows.iter().filter(|row| row.kind == bib::Kind::Cause);
     let found = findings(file);
-    assert_eq!(found.len(), 2);
+    let bytes = found
+        .iter()
+        .map(|(_, finding)| (finding.start, finding.end));
+    assert!(bytes.eq([(18, 19), (42, 42)]));
     for ((_, finding), cause) in found.iter().zip(causes) {
         assert_eq!((finding.start, finding.end), (cause.start, cause.end));
         assert!(matches!(finding.code, Code::Refusal(reason) if reason.number() == cause.detail));

@@ -83,15 +83,17 @@ static void reads(void)
     hold(says(call(bib_read, "@a{k,}", rows, 12), BIB_OK, 3, 0, 0), "exactly the room");
     hold(says(call(bib_read, "@a{k,}", rows, 11), BIB_NO_ROOM, 0, 0, 0), "one number too few");
     hold(untouched(rows, 0), "no room: the rows stay");
-    hold(says(call(bib_read, "@a{k}", rows, ROOM), BIB_EXPECTED_COMMA, 0, 4, 4), "a comma");
+    hold(says(call(bib_read, "@a{k}", rows, ROOM), BIB_EXPECTED_COMMA, 0, 4, 5), "a comma");
     hold(untouched(rows, 0), "a refusal: the rows stay");
-    hold(says(call(bib_read, "@a{k,y=1.2.3}", rows, ROOM), BIB_UNEXPECTED_DECIMAL_POINT, 0, 10, 10), "a point");
+    hold(says(call(bib_read, "@a{k,y=1.2.3}", rows, ROOM), BIB_UNEXPECTED_DECIMAL_POINT, 0, 10, 11), "a point");
+    hold(says(call(bib_read, "@a{k \xe6\xbc\xa2,}", rows, ROOM), BIB_EXPECTED_COMMA, 0, 5, 8), "a character of three bytes");
+    hold(says(call(bib_read, "@a{k,y=12", rows, ROOM), BIB_UNEXPECTED_EOF, 0, 9, 9), "the end of the file");
     hold(says(call(bib_read, "a\xff", rows, ROOM), BIB_NOT_UTF8, 0, 1, 1), "not UTF-8");
 }
 
 /* bib.h: what has length 0 is not looked at, and its pointer may be null. For each call: nothing is given, nothing is lent, and
  * neither; where something is given, the answer is the one for no room, and the refusals that come before it stay. */
-static void takes_nothing_to_read(reading *read, uint32_t damaged, uint64_t place)
+static void takes_nothing_to_read(reading *read, uint32_t damaged, uint64_t start, uint64_t end)
 {
     uint32_t rows[ROOM];
     struct answer a = call(read, "", rows, ROOM);
@@ -101,7 +103,7 @@ static void takes_nothing_to_read(reading *read, uint32_t damaged, uint64_t plac
     hold(says(take(read, NULL, 0, NULL, 0), BIB_OK, 0, 0, 0), "a null file, and null rows");
     hold(says(take(read, "words", 5, NULL, 0), BIB_OK, 0, 0, 0), "a file without rows, and null rows");
     hold(says(take(read, "@a{k,}", 6, NULL, 0), BIB_NO_ROOM, 0, 0, 0), "rows, and null rows for them");
-    hold(says(take(read, "@a{k}", 5, NULL, 0), damaged, 0, place, place), "a comma that is missing, and null rows");
+    hold(says(take(read, "@a{k}", 5, NULL, 0), damaged, 0, start, end), "a comma that is missing, and null rows");
 }
 
 static void takes_nothing_to_pack(void)
@@ -628,8 +630,8 @@ static void takes_nothing_to_resolve_in_files(void)
 int main(void)
 {
     reads();
-    takes_nothing_to_read(bib_read, BIB_EXPECTED_COMMA, 4);
-    takes_nothing_to_read(bib_salvage, BIB_NO_ROOM, 0);
+    takes_nothing_to_read(bib_read, BIB_EXPECTED_COMMA, 4, 5);
+    takes_nothing_to_read(bib_salvage, BIB_NO_ROOM, 0, 0);
     takes_nothing_to_pack();
     takes_nothing_to_unpack();
     salvages();

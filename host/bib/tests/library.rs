@@ -372,8 +372,12 @@ fn refused_chunks() {
 fn refusals() {
     let refused = |file: &[u8]| bib::read(file).unwrap_err();
     assert_eq!(refused(b"a\xff"), refusal(Reason::NotUtf8, 1, 1));
-    assert_eq!(refused(b"@a{k,t=}"), refusal(Reason::UnexpectedEof, 7, 7));
-    assert_eq!(refused(b"@a{k}"), refusal(Reason::ExpectedComma, 4, 4));
+    assert_eq!(refused(b"@a{k,t=}"), refusal(Reason::UnexpectedEof, 7, 8));
+    assert_eq!(refused(b"@a{k}"), refusal(Reason::ExpectedComma, 4, 5));
+    let wide = refused("@a{k 漢,}".as_bytes());
+    assert_eq!(wide, refusal(Reason::ExpectedComma, 5, 8));
+    // The file ends there.
+    assert_eq!(refused(b"@a{k,y=12"), refusal(Reason::UnexpectedEof, 9, 9));
     let long = vec![b' '; bib::MOST_BYTES + 1];
     assert_eq!(refused(&long), refusal(Reason::TooLong, 0, 0));
     assert_eq!(bib::salvage(&long), Err(refusal(Reason::TooLong, 0, 0)));

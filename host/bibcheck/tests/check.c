@@ -76,7 +76,7 @@ static void finds(void)
     hold(checked.sound == 1 && checked.warned == 1 && checked.unresolved == 1 && checked.damaged == 1, "four entries");
     const struct bib_finding *one = &heard.all[0];
     hold(one->number == 7 && one->level == BIB_ERROR && is(one->name, "expected-comma"), "an error has a number");
-    hold(one->line == 1 && one->column == 5 && one->start == 4 && one->end == 4 && one->lender == 0, "its place");
+    hold(one->line == 1 && one->column == 5 && one->start == 4 && one->end == 5 && one->lender == 0, "its place");
     hold(is(one->key, "k") && is(one->message, "expected a comma, in entry k") && one->hint != NULL, "its words");
     one = &heard.all[1];
     hold(one->number == 0 && one->level == BIB_WARNING && is(one->name, "duplicate-field"), "a warning has a name");
@@ -84,6 +84,19 @@ static void finds(void)
     hold(is(one->key, "l") && is(one->hint, NULL), "it has no hint");
     one = &heard.all[2];
     hold(one->number == 12 && is(one->name, "unknown-name") && is(one->key, "m"), "a name without a definition");
+    forget(&heard);
+}
+
+/* The bytes of a refusal are the whole character at which reading stopped, and none where the file ends. */
+static void has_whole_characters(void)
+{
+    struct heard heard = {0, 0, {{0}}};
+    hold(check("@a{k \xe6\xbc\xa2,}", NULL, &heard, NULL) == 0 && heard.count == 1, "a wide character");
+    const struct bib_finding *one = &heard.all[0];
+    hold(one->number == 7 && one->column == 6 && one->start == 5 && one->end == 8, "all of its bytes");
+    forget(&heard);
+    hold(check("@a{k,y=12", NULL, &heard, NULL) == 0 && heard.count == 1, "a file that ends too early");
+    hold(one->number == 3 && one->column == 1 && one->start == 9 && one->end == 9, "it ends there");
     forget(&heard);
 }
 
@@ -147,6 +160,7 @@ static void takes_any_bytes(void)
 int main(void)
 {
     finds();
+    has_whole_characters();
     lends();
     limits();
     stops();

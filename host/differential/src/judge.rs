@@ -2,7 +2,7 @@
 
 use std::time::Instant;
 
-use oracle::{Refusal, Row};
+use oracle::{Kind, Refusal, Row};
 use proved::Answer;
 
 use crate::report;
@@ -101,11 +101,20 @@ impl Judge {
     /// One case, with a row and a number more than is needed lent.
     pub fn check(&mut self, file: &[u8]) {
         let expected = self.ask_the_rust(file);
-        let room = match expected {
-            Ok(()) => 4 * self.rows.len() + 5,
-            Err(_) => ROOM_AT_REFUSAL,
-        };
-        self.compare(file, expected, room);
+        self.compare_in_enough(file, expected);
+    }
+
+    /// The same; gives what the Rust refuses: the file, or of a salvaged file its first damaged piece.
+    pub fn check_refused(&mut self, file: &[u8]) -> Option<Refusal> {
+        let expected = self.ask_the_rust(file);
+        self.compare_in_enough(file, expected);
+        let cause = |row: &&Row| row.kind == Kind::Cause as u32;
+        let cause = self.rows.iter().find(cause).map(|row| Refusal {
+            number: row.detail,
+            start: row.start,
+            end: row.end,
+        });
+        expected.err().or(cause)
     }
 
     /// The same file with every kind of room: none, some, too little by a row and by a number,
@@ -125,6 +134,14 @@ impl Judge {
         self.file.extend_from_slice(file);
         self.file.extend_from_slice(self.asked.behind);
         (self.asked.rust)(file, &mut self.rows)
+    }
+
+    fn compare_in_enough(&mut self, file: &[u8], rust: Result<(), Refusal>) {
+        let room = match rust {
+            Ok(()) => 4 * self.rows.len() + 5,
+            Err(_) => ROOM_AT_REFUSAL,
+        };
+        self.compare(file, rust, room);
     }
 
     fn compare(&mut self, file: &[u8], rust: Result<(), Refusal>, room: usize) {

@@ -3,8 +3,8 @@
 //! with the Rust's, sentence case among them, and resolving of literals, of fields and of whole files, chunk by chunk, with the
 //! Rust's.
 //!
-//!     cargo run --release -p differential                    some 4,630,000 cases, in a minute at most
-//!     cargo run --release -p differential -- --long          some hundred million
+//!     cargo run --release -p differential                    some 5,300,000 cases, in a minute at most
+//!     cargo run --release -p differential -- --long          some two hundred million
 //!     cargo run --release -p differential -- --seed 7        other random cases
 //!     cargo run --release -p differential -- --only literals   the groups whose names have this word
 //!     cargo run --release -p differential -- FILE FOLDER     these .bib files, folders searched
@@ -15,6 +15,7 @@
 //! from.
 
 mod blocks;
+mod culprits;
 mod drawn;
 mod edges;
 mod exhaustive;
@@ -104,6 +105,7 @@ fn reading(judge: &mut Judge, wanted: &Wanted) {
     judge.group("damaged", |j| drawn::STRICT.damaged(j, seed, long));
     judge.group("bytes", |j| drawn::bytes(j, seed, long));
     judge.group("room", |j| drawn::STRICT.rooms(j, seed, long));
+    judge.group("culprits", |j| culprits::run(j, &culprits::ALONE, long));
 }
 
 fn packing(judge: &mut Judge, wanted: &Wanted) {
@@ -133,6 +135,9 @@ fn salvaging(judge: &mut Judge, wanted: &Wanted) {
     });
     judge.group("salvage, bytes", |j| drawn::bytes(j, seed, long));
     judge.group("salvage, room", |j| drawn::SALVAGE.rooms(j, seed, long));
+    judge.group("salvage, culprits", |j| {
+        culprits::run(j, &culprits::A_PIECE, long)
+    });
 }
 
 /// The groups of texts with chunks, by what they are asked about.

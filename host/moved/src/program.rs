@@ -11,7 +11,7 @@ use biblatex::Spanned;
 
 /// The list, or why the source is refused.
 pub fn listed(source: &str) -> Result<String, String> {
-    let raw = RawBibliography::parse(source).map_err(|error| shown(&error))?;
+    let raw = RawBibliography::parse(source).map_err(|error| shown(&underlined(source, error)))?;
     let abbreviations = definitions(&raw);
     let mut list = format!("preamble {:?}\n", raw.preamble);
     for pair in &raw.abbreviations {
@@ -69,6 +69,16 @@ fn add_chunks(list: &mut String, chunks: &Chunks) {
         let written = chunks.to_biblatex_string(is_verbatim);
         writeln!(list, "    {written}").expect("strings grow");
     }
+}
+
+/// An error of reading, over at least the whole character where it begins, as an editor underlines it: the
+/// original says only where that is.
+pub fn underlined(source: &str, error: ParseError) -> ParseError {
+    let start = error.span.start;
+    let character = source[start..].chars().next();
+    let end = start + character.map_or(0, char::len_utf8);
+    let span = start..error.span.end.max(end);
+    ParseError { span, ..error }
 }
 
 fn shown(error: &ParseError) -> String {

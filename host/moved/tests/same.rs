@@ -33,7 +33,7 @@ fn on_the_examples() {
 }
 
 /// What strict reading takes, with names in every order, and what it does not.
-const SOURCES: [&str; 16] = [
+const SOURCES: [&str; 21] = [
     "",
     "@preamble{\"a\"} @preamble{ {b} } @preamble{\"c\"}",
     "@a{k,}",
@@ -50,12 +50,34 @@ const SOURCES: [&str; 16] = [
     "@string{a={}}@b{k,t=a#a,u={}#a#{},v={{}}#a}",
     "@a{k,t={a\n  b\r\n\r\nc}}",
     "@comment{x} text @b{k, t = {a},, }",
+    "@a{k \u{e9},}",
+    "@a{k,t \u{6f22} {x}}",
+    "@preamble{\u{1f600}",
+    "@a{k,t=\u{86}}",
+    "@a{k,y=12",
 ];
 
 #[test]
 fn on_sources() {
     let compared = SOURCES.into_iter().filter(|source| compare(source));
     assert_eq!(compared.count(), SOURCES.len());
+}
+
+/// What the program works out for the original, whose places of reading are empty, ours says itself.
+#[test]
+fn on_places() {
+    let mut widths = Vec::new();
+    for source in SOURCES {
+        let original = oracle::raw::RawBibliography::parse(source);
+        let ours = biblatex_shapes::RawBibliography::parse(source);
+        if let (Err(original), Err(ours)) = (original, ours) {
+            assert_eq!(original.span.len(), 0, "{source}");
+            let underlined = moved::original::underlined(source, original);
+            assert_eq!(ours.span, underlined.span, "{source}");
+            widths.push(ours.span.len());
+        }
+    }
+    assert_eq!(widths, [1, 1, 1, 1, 1, 2, 3, 4, 2, 0]);
 }
 
 /// Files drawn by the grammar of .bib files.

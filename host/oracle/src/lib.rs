@@ -3,9 +3,9 @@
 //! raw.rs, resolve.rs and chunk.rs of typst/biblatex are compiled here unchanged, from a folder
 //! that build.rs finds; nothing of them is kept in this repository. This crate root gives them what
 //! they import from theirs (`Span`, `Spanned`, and the stand-ins in `types` and `mechanics`), and
-//! `read` turns what the Rust answers into the rows and the numbers of document 01. `chunks` turns
-//! rows of chunks into the Rust's own, and `resolve_literal` the Rust's chunks of a literal into rows,
-//! as `Fields` those of a field.
+//! `read` turns what the Rust answers into the rows and the numbers of document 01, with the places of
+//! document 02. `chunks` turns rows of chunks into the Rust's own, and `resolve_literal` the Rust's
+//! chunks of a literal into rows, as `Fields` those of a field.
 
 mod chunks;
 mod fields;

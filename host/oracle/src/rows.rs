@@ -1,5 +1,5 @@
 //! The Rust's answer as rows and refusals, as 01's "Rows and their packing" and "Numbers a caller
-//! can get" have them.
+//! can get" have them, with the places that 02's "Underline the culprit" gives to refusals.
 
 use crate::places;
 use crate::raw::{Pair, ParseError, ParseErrorKind, RawBibliography, RawChunk, RawEntry, Token};
@@ -79,7 +79,7 @@ pub fn read(file: &[u8]) -> Result<Vec<Row>, Refusal> {
 pub fn read_into(file: &[u8], rows: &mut Vec<Row>) -> Result<(), Refusal> {
     rows.clear();
     let text = text_of(file)?;
-    let bibliography = RawBibliography::parse(text).map_err(refusal)?;
+    let bibliography = RawBibliography::parse(text).map_err(|error| refusal(text, error))?;
     lay(text, &bibliography, rows);
     Ok(())
 }
@@ -95,7 +95,7 @@ pub(crate) fn text_of(file: &[u8]) -> Result<&str, Refusal> {
     })
 }
 
-fn refusal(error: ParseError) -> Refusal {
+fn refusal(text: &str, error: ParseError) -> Refusal {
     let number = match &error.kind {
         ParseErrorKind::UnexpectedEof => 3,
         ParseErrorKind::Expected(Token::Identifier) => 4,
@@ -107,7 +107,23 @@ fn refusal(error: ParseError) -> Refusal {
         ParseErrorKind::Unexpected(Token::DecimalPoint) => 10,
         other => panic!("strict reading has no such refusal: {other:?}"),
     };
-    Refusal::new(number, error.span)
+    Refusal::new(number, culprit(text, error.span))
+}
+
+/// 02: "the Rust's start, and the end so widened", to "the offending character's whole span". At the
+/// end of the text that is read no character stands, and the place stays empty. Salvage hands over a
+/// piece as a text of its own.
+///
+/// The Rust reports only where its scanner stands: in all these refusals its span is empty, so that
+/// what is widened here has no end of the Rust's to be lost. One that is not empty stops the run.
+fn culprit(text: &str, rusts: Span) -> Span {
+    let start = rusts.start;
+    assert_eq!(start, rusts.end, "the Rust's span is not empty");
+    let rest = text
+        .get(start..)
+        .expect("the Rust stands between characters");
+    let character = rest.chars().next();
+    start..start + character.map_or(0, char::len_utf8)
 }
 
 /// Puts entries, definitions and preambles, which the Rust keeps apart, in file order.

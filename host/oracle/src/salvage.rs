@@ -1,7 +1,8 @@
 //! 01's salvage: the file is cut, and the Rust reads each piece alone.
 //!
 //! The cutting is 01's three sentences and no more; all that is read is read by `read_into`, which
-//! the piece is handed as a file of its own, so that nothing outside it can be seen.
+//! the piece is handed as a file of its own, so that nothing outside it can be seen: no character of
+//! the next piece is the cause that this one is refused for.
 
 use crate::rows::{read_into, Kind, Refusal, Row, LONGEST_FILE};
 

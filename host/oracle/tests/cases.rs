@@ -1,4 +1,4 @@
-//! 01's edge table for files, and the cases that strict reading must hold to.
+//! 01's edge table for files with the places of 02, and the cases that strict reading must hold to.
 
 use oracle::{read, Refusal, Row, LONGEST_FILE};
 
@@ -34,9 +34,9 @@ fn refused(file: &[u8], number: u32, start: u32, end: u32) {
 fn edge_table() {
     accepted(b"", &[]);
     accepted(b"@a{k,}", &[(1, 0, 5), (2, 1, 2), (3, 3, 4)]);
-    refused(b"@a{k}", 7, 4, 4);
-    refused(b"@a{k,t=}", 3, 7, 7);
-    refused(b"@a{k,y=1.2.3}", 10, 10, 10);
+    refused(b"@a{k}", 7, 4, 5);
+    refused(b"@a{k,t=}", 3, 7, 8);
+    refused(b"@a{k,y=1.2.3}", 10, 10, 11);
     refused(b"@a{k,y=12", 3, 9, 9);
     accepted(
         b"@a{k,t={x\\}y} }",
@@ -73,13 +73,42 @@ fn every_number() {
     accepted(&vec![b' '; LONGEST_FILE], &[]);
     refused(b"@a{k,t={}\xFF", 2, 9, 9);
     refused(b"@a{k,t={", 3, 8, 8);
-    refused(b"@ a", 4, 1, 1);
-    refused(b"@a k", 5, 3, 3);
+    refused(b"@ a", 4, 1, 2);
+    refused(b"@a k", 5, 3, 4);
     refused(b"@comment{x", 6, 10, 10);
-    refused(b"@a{k t", 7, 5, 5);
-    refused(b"@preamble{x", 8, 10, 10);
-    refused(b"@a{k,t{x}}", 9, 6, 6);
-    refused(b"@a{k,t=1..", 10, 9, 9);
+    refused(b"@a{k t", 7, 5, 6);
+    refused(b"@preamble{x", 8, 10, 11);
+    refused(b"@a{k,t{x}}", 9, 6, 7);
+    refused(b"@a{k,t=1..", 10, 9, 10);
+}
+
+/// Culprits of two, three and four bytes, in the middle of the file and at its end. Only those of two
+/// bytes can be the cause of 3, and none of four that of 4: all others begin a name.
+#[test]
+fn culprits() {
+    for (c, width) in [('é', 2), ('漢', 3), ('😀', 4)] {
+        for (before, number) in [
+            ("@a ", 5),
+            ("@preamble{\"x\" ", 6),
+            ("@a{k ", 7),
+            ("@a{k,t={x}", 7),
+            ("@preamble{", 8),
+            ("@a{k,t ", 9),
+        ] {
+            let place = before.len() as u32;
+            refused(before.as_bytes(), number, place, place);
+            for behind in ["", ",}", "é"] {
+                let file = format!("{before}{c}{behind}");
+                refused(file.as_bytes(), number, place, place + width);
+            }
+        }
+    }
+    refused("@a{k,t=\u{86}}".as_bytes(), 3, 7, 9);
+    refused("@a{k,\u{9f}".as_bytes(), 4, 5, 7);
+    refused("@\u{a0}".as_bytes(), 4, 1, 3);
+    refused("@\u{3000}a".as_bytes(), 4, 1, 4);
+    // What is not UTF-8 has an empty place still.
+    refused(b"@a{k \xC3", 2, 5, 5);
 }
 
 #[test]

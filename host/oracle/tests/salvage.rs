@@ -1,4 +1,5 @@
-//! 01's salvage case, and what the document says of boundaries and pieces.
+//! 01's salvage case, and what the document says of boundaries and pieces; and what 02 says of the
+//! places of causes.
 
 use oracle::{read, salvage, Row, LONGEST_FILE};
 
@@ -35,18 +36,18 @@ fn pieces() {
     // What stands before the first boundary is a piece of its own, and byte 0 is a boundary.
     gives(
         b"a@\n@",
-        &[(9, 0, 0, 3), (10, 4, 2, 2), (9, 0, 3, 4), (10, 4, 4, 4)],
+        &[(9, 0, 0, 3), (10, 4, 2, 3), (9, 0, 3, 4), (10, 4, 4, 4)],
     );
-    gives(b"\n@\n", &[(9, 0, 1, 3), (10, 4, 2, 2)]);
+    gives(b"\n@\n", &[(9, 0, 1, 3), (10, 4, 2, 3)]);
     // Neither a carriage return nor a blank makes a boundary.
-    gives(b"@\r@", &[(9, 0, 0, 3), (10, 4, 1, 1)]);
-    gives(b"@\n @", &[(9, 0, 0, 4), (10, 4, 1, 1)]);
+    gives(b"@\r@", &[(9, 0, 0, 3), (10, 4, 1, 2)]);
+    gives(b"@\n @", &[(9, 0, 0, 4), (10, 4, 1, 2)]);
 }
 
 #[test]
 fn refused_pieces() {
     // The entry before the fault is of the refused piece, and is not given.
-    gives(b"@a{k,} @a{k}", &[(9, 0, 0, 12), (10, 7, 11, 11)]);
+    gives(b"@a{k,} @a{k}", &[(9, 0, 0, 12), (10, 7, 11, 12)]);
     // UTF-8 is checked in each piece alone, and comes before what stands further left.
     gives(
         b"@a{\xFF\n@a{k,}",
@@ -59,6 +60,36 @@ fn refused_pieces() {
         ],
     );
     gives(b"@a{k}\xC3", &[(9, 0, 0, 6), (10, 2, 5, 5)]);
+}
+
+/// A cause has the whole character, at its place in the file; at its piece's end it is empty, though
+/// the file goes on there.
+#[test]
+fn culprits() {
+    for (c, width) in [('x', 1), ('é', 2), ('漢', 3), ('😀', 4)] {
+        let pieces = [
+            "é\n",
+            &format!("@a{{k {c}\n"),
+            "@b{k \n",
+            &format!("@c {c}"),
+        ];
+        let mut starts = [0; 5];
+        for (n, piece) in pieces.iter().enumerate() {
+            starts[n + 1] = starts[n] + piece.len() as u32;
+        }
+        let [_, one, two, three, end] = starts;
+        gives(
+            pieces.concat().as_bytes(),
+            &[
+                (9, 0, one, two),
+                (10, 7, one + 5, one + 5 + width),
+                (9, 0, two, three),
+                (10, 7, three, three),
+                (9, 0, three, end),
+                (10, 5, three + 3, end),
+            ],
+        );
+    }
 }
 
 #[test]

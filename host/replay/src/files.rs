@@ -56,6 +56,18 @@ const NAMED: [&[u8]; 40] = [
     b"\xEF\xBB\xBF@a{k,}",
 ];
 
+/// Where an opening brace, a closing one, a comma, a quotation mark or an equals sign is looked for; and
+/// what is none of them: nothing, and characters of two, three and four bytes.
+const BEFORE: [&str; 6] = [
+    "@a ",
+    "@preamble{\"x\"",
+    "@a{k ",
+    "@a{k,t={x}",
+    "@preamble{",
+    "@a{k,t ",
+];
+const CULPRITS: [&str; 4] = ["", "é", "漢", "😀"];
+
 /// Repeats of a part, from none to as many as the length allows.
 const REPEATS: [usize; 9] = [0, 1, 2, 15, 16, 17, 127, 128, 180];
 
@@ -64,6 +76,7 @@ pub fn add_to(list: &mut List) {
     let seen = HashSet::new();
     let mut files = Files { list, seen };
     NAMED.iter().for_each(|file| files.add(file));
+    files.culprits();
     files.tails();
     files.characters();
     files.sequences();
@@ -82,6 +95,16 @@ impl Files<'_> {
     fn add(&mut self, file: &[u8]) {
         if file.len() < LONGEST && self.seen.insert(file.to_vec()) {
             self.list.add(&Case::File(file));
+        }
+    }
+
+    /// Each as the last character of the file, and not.
+    fn culprits(&mut self) {
+        for before in BEFORE {
+            for culprit in CULPRITS {
+                self.add(format!("{before}{culprit}").as_bytes());
+                self.add(format!("{before}{culprit}é}}").as_bytes());
+            }
         }
     }
 

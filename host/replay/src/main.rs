@@ -18,17 +18,19 @@
 //!                literal the five of a chunk row
 //!
 //! How the files are chosen, with no choice left to the machine or the day (`files.rs`): 01's table
-//! and a file for each refusal; each tail of at most one character behind each head of
-//! `cases::symbols`, and one in four of those of two; each ASCII character and each edge of a class
-//! in the places that show its class; sequences around RFC 3629; each string of at most five of
-//! "1", "." and "}" as a value; parts repeated at lengths around 2^4 and 2^7; and files by grammar,
-//! damaged ones and bytes without a grammar, drawn by seed 3. No file stands in it twice.
+//! and a file for each refusal; refusals over no character and over one of two, three and four bytes;
+//! each tail of at most one character behind each head of `cases::symbols`, and one in four of those
+//! of two; each ASCII character and each edge of a class in the places that show its class; sequences
+//! around RFC 3629; each string of at most five of "1", "." and "}" as a value; parts repeated at
+//! lengths around 2^4 and 2^7; and files by grammar, damaged ones and bytes without a grammar, drawn
+//! by seed 3. No file stands in it twice.
 //!
 //! How the literals are chosen (`literals.rs`): every command bare, with an argument and with a
 //! letter more; all that may stand behind a name, behind three; every accent with everything that it
 //! may be given; every pair of commands, braces and letters; literals by grammar, whole and broken,
 //! drawn by seed 3; and literals in the middle of files, with places that are none and files that
-//! are not UTF-8. What 01 adds to the Rust, 2 and 17, is written from 01 (`oracle`).
+//! are not UTF-8. What 01 adds to the Rust, 2 and 17, is written from 01, and what 02 adds, the ends
+//! of a file's refusals, from 02 (`oracle`).
 
 mod case;
 mod files;

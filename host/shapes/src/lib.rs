@@ -15,7 +15,7 @@
 //!
 //! What is not here: what parses chunks into types, and serde. What is more: the limits of the proved
 //! library are refusals here, with kinds of their own, where the original has no limit or does not end.
-//! The words in which errors are shown are others.
+//! Errors have other words here, and those of reading other spans ([`ParseError::span`]).
 
 pub mod chunk;
 mod lent;

@@ -48,6 +48,9 @@ impl<'s> Pair<'s> {
 /// Why a source is refused, and where.
 #[derive(Debug, Clone, PartialEq)]
 pub struct ParseError {
+    /// Unlike the original's, the span of an error of reading is the whole character that is wrong, and
+    /// empty only at the end of the source; the original's begins there and is always empty. Errors of
+    /// resolving have the original's spans.
     pub span: Span,
     pub kind: ParseErrorKind,
 }

@@ -1,4 +1,5 @@
-//! Fields that no file has: made by hand, standing anywhere, with nothing in them, and past the limits.
+//! Fields that no file has: made by hand, standing anywhere, with nothing in them, and past the limits. And
+//! the spans of errors of reading, which the original does not have so.
 
 use std::collections::HashMap;
 
@@ -26,7 +27,7 @@ fn places() {
     let chunks = parse_field("title", &field, &map).unwrap();
     let y = Spanned::new(Chunk::Verbatim("y".into()), 502..503);
     assert_eq!(chunks, [normal("x", 7..501), y, normal("z", 3..4)]);
-    assert_eq!(chunks.span(), 7..4);
+    assert_eq!(chunks.span(), Span { start: 7, end: 4 });
     let month = parse_field("month", &vec![name("may", 9)], &map).unwrap();
     assert_eq!(month, [normal("May", 9..12)]);
 }
@@ -77,6 +78,37 @@ fn refusals() {
     assert_eq!(refused(vec![literal(&deep, 1)], &none), too_deep);
     let many = vec![name("may", 0); 4_097];
     assert_eq!(refused(many, &none), (ParseErrorKind::TooManyNames, 0..3));
+}
+
+/// Errors of reading have the whole character, and at the end of the source none; those of resolving are
+/// as the original has them.
+#[test]
+fn culprits() {
+    use biblatex_shapes::Token::*;
+    use ParseErrorKind::{Expected, Unexpected, UnexpectedEof};
+    let cases = [
+        ("@a{k}", Expected(Comma), 4..5),
+        ("@a{k,t=}", UnexpectedEof, 7..8),
+        ("@a{k,y=1.2.3}", Unexpected(DecimalPoint), 10..11),
+        ("@a{k,y=12", UnexpectedEof, 9..9),
+        ("@a{k é,}", Expected(Comma), 5..7),
+        ("@a{k 漢,}", Expected(Comma), 5..8),
+        ("@a{k 😀", Expected(Comma), 5..9),
+        ("@a{k ", Expected(Comma), 5..5),
+        ("@\u{3000}a{k,}", Expected(Identifier), 1..4),
+        ("@a é", Expected(OpeningBrace), 3..5),
+        ("@preamble{漢}", Expected(QuotationMark), 10..13),
+        ("@preamble{\"漢\"😀}", Expected(ClosingBrace), 15..19),
+        ("@a{k,t é}", Expected(Equals), 7..9),
+    ];
+    for (source, kind, span) in cases {
+        let error = RawBibliography::parse(source).unwrap_err();
+        assert_eq!((error.kind, error.span), (kind, span), "{source}");
+    }
+    let raw = RawBibliography::parse("@a{k,t={$x}}").unwrap();
+    let field = &raw.entries[0].v.fields[0];
+    let error = parse_field("t", &field.value.v, &HashMap::new()).unwrap_err();
+    assert_eq!((error.kind, error.span), (UnexpectedEof, 10..10));
 }
 
 /// What makes a chunk, and its text.

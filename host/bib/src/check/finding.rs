@@ -308,10 +308,11 @@ pub enum Code {
 #[derive(Debug, Clone, PartialEq, Eq)]
 pub struct Finding {
     pub code: Code,
-    /// The bytes that it is about. Of a refusal they are document 01's.
+    /// The bytes that it is about. Of a refusal they are the proved library's: where reading stopped, the
+    /// whole character that stands there, or none where the text ends.
     pub start: usize,
     pub end: usize,
-    /// The byte at which a person should look.
+    /// The byte at which a person should look. It may be elsewhere: where a comma should have stood.
     pub mark: usize,
     pub message: String,
     /// What can be done, where that is known.

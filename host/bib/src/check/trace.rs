@@ -318,7 +318,7 @@ mod tests {
     use crate::check::{Items, Reading, What};
     use crate::{Kind, Reason};
 
-    const PARTS: [&str; 30] = [
+    const PARTS: [&str; 31] = [
         "@",
         "a",
         "k",
@@ -347,6 +347,7 @@ mod tests {
         "}\n",
         "é",
         "“",
+        "😀",
         "\u{a0}",
         "% b\n",
     ];
@@ -366,10 +367,12 @@ mod tests {
         })
     }
 
-    /// It comes to the place at which the proved reader refuses, always.
+    /// It comes to the place at which the proved reader refuses, always; and what that refuses is the whole
+    /// character there, or nothing where the piece ends.
     #[test]
     fn stops_where_the_reader_does() {
-        let mut damaged = 0;
+        // By the bytes of the character.
+        let mut damaged = [0; 5];
         for text in texts(200_000) {
             let rows = crate::salvage(text.as_bytes()).unwrap();
             for (piece, cause) in rows.iter().zip(rows.iter().skip(1)) {
@@ -377,11 +380,32 @@ mod tests {
                     assert_ne!(cause.detail, Reason::NotUtf8.number());
                     let trace = Trace::of(text.as_bytes(), piece.span());
                     assert_eq!(trace.place(), cause.start, "{text:?}");
-                    damaged += 1;
+                    let bytes = length_of_first(&text[cause.start..piece.end]);
+                    assert_eq!(cause.end - cause.start, bytes, "{text:?}");
+                    damaged[bytes] += 1;
                 }
             }
         }
-        assert!(damaged > 50_000, "{damaged} damaged pieces are too few");
+        assert!(damaged.iter().all(|count| *count > 900), "{damaged:?}");
+    }
+
+    /// What strict reading refuses is the whole character too, or nothing where the file ends.
+    #[test]
+    fn strict_reading_refuses_whole_characters() {
+        let mut refused = [0; 5];
+        for text in texts(200_000) {
+            if let Err(refusal) = crate::read(text.as_bytes()) {
+                let bytes = length_of_first(&text[refusal.start..]);
+                assert_eq!(refusal.end - refusal.start, bytes, "{text:?}");
+                refused[bytes] += 1;
+            }
+        }
+        assert!(refused.iter().all(|count| *count > 900), "{refused:?}");
+    }
+
+    /// The bytes of the first character; 0 where there is none.
+    fn length_of_first(text: &str) -> usize {
+        text.chars().next().map_or(0, char::len_utf8)
     }
 
     /// The items hold all rows in order, and all text but white space.

@@ -1,4 +1,4 @@
-//! `bib check`: for people. What is wrong, with its line and a mark under the place.
+//! `bib check`: for people. What is wrong, with its line and marks under the character at the place.
 
 use std::collections::HashMap;
 use std::io::{self, BufWriter, Stdout, Write};

@@ -12,7 +12,7 @@ const HELP: &str = "\
 Reads .bib files: every entry, name and field with its place and its resolved text, or what is
 wrong and where.
 
-  bib check [FILE..]    what is wrong in each file, with the line and a mark under the place
+  bib check [FILE..]    what is wrong in each file, with the line and the place underlined
   bib show [FILE [KEY..]]
                         the entries of a file, or those of the keys; names and accents resolved
   bib write [FILE]      each entry again as BibTeX, names and accents resolved
@@ -83,7 +83,9 @@ BibTeX, not verbatim and verbatim. Names and texts are in hex behind the x. The 
 Rows are lines `kind detail start end`, and then `rows N`; places are bytes of the file. The kinds:
 0 preamble with its quotes, 1 entry, 2 entry type, 3 key, 4 field name, 5 value, 6 literal, 7 name,
 8 definition name, 9 damaged piece, 10 its cause, whose detail is the number of a refusal.
-A refusal is a line `refused NUMBER START END`; `bib pack` has it on standard error.
+A refusal is a line `refused NUMBER START END`; `bib pack` has it on standard error. Where reading
+stops, with 3 to 10, the bytes of the refusal or of the cause are the whole character that stands
+there; where the file ends, or the piece, START and END are equal.
 
 Exit status: 0 sound, or with warnings alone; 1 something is wrong in a file: it is refused or
 damaged, a value cannot be resolved, or it has no such key; 2 a file cannot be read, the output cannot

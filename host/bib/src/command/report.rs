@@ -115,11 +115,13 @@ impl Report<'_> {
         out.extend_from_slice(b")\n");
     }
 
+    /// Puts the line, and below it marks under the whole character at which a person should look.
     fn excerpt(&self, finding: &Finding, level: Level, lines: &Lines, out: &mut Vec<u8>) {
         let line = lines.at(finding.mark);
         let place = finding.mark.saturating_sub(line.begin);
-        excerpt::put(line.text, place, self.room, out);
-        put(&[self.style.level(level), "^", self.style.plain, "\n"], out);
+        let marks = excerpt::put(line.text, place, self.room, out);
+        let (colour, plain) = (self.style.level(level), self.style.plain);
+        put(&[colour, marks, plain, "\n"], out);
     }
 }
 

@@ -132,7 +132,7 @@ fn json() {
     bib(&["check", "--json"], file).is(
         1,
         "\
-{\"file\":\"<stdin>\",\"line\":1,\"column\":11,\"start\":10,\"end\":10,\"number\":3,\"name\":\"unexpected-end\",\"level\":\"error\",\
+{\"file\":\"<stdin>\",\"line\":1,\"column\":11,\"start\":10,\"end\":11,\"number\":3,\"name\":\"unexpected-end\",\"level\":\"error\",\
 \"message\":\"expected a value, in entry k\",\
 \"hint\":\"the field `t` has no value: write `t = {}`, or take it out\",\"key\":\"k\"}
 {\"file\":\"<stdin>\",\"line\":2,\"column\":14,\"start\":25,\"end\":26,\"number\":null,\"name\":\"duplicate-field\",\
@@ -251,6 +251,57 @@ fn columns() {
     shows(line.as_bytes(), [place, line, "           ^"]);
     let place = "<stdin>:1:5: error: expected a comma, in entry k (7)";
     shows(b"\xef\xbb\xbf@a{k}", [place, "@a{k}", "    ^"]);
+}
+
+/// Each column of the character at which reading stops has a mark: wide characters have two, and one that
+/// stands on another has those of that.
+#[test]
+fn whole_characters() {
+    let place = "<stdin>:1:6: error: expected a comma, in entry k (7)";
+    for (line, marks) in [
+        ("@a{k é,}", "     ^"),
+        ("@a{k 漢,}", "     ^^"),
+        ("@a{k 漢\u{301},}", "     ^^"),
+        ("@a{k \u{301},}", "    ^"),
+        ("@a{k 😀,}", "     ^^"),
+    ] {
+        shows(line.as_bytes(), [place, line, marks]);
+    }
+    let place = "<stdin>:1:9: error: expected a comma, in entry k (7)";
+    let line = "@a{k,t=1\u{301}}";
+    shows(line.as_bytes(), [place, line, "       ^"]);
+}
+
+/// A tab has marks up to the next stop, and the end of a line or of the file has one.
+#[test]
+fn tabs_and_ends() {
+    let place = "<stdin>:1:2: error: expected an identifier (4)";
+    shows(b"@\ta{k,}", [place, "@\ta{k,}", " ^^^^^^^"]);
+    for file in ["@\n", "@\r\n", "@\r", "@", "@\n@b{k,}"] {
+        shows(file.as_bytes(), [place, "@", " ^"]);
+    }
+    let place = "<stdin>:2:2: error: expected an identifier (4)";
+    shows("漢\n@".as_bytes(), [place, "@", " ^"]);
+}
+
+/// Where the mark is elsewhere than the refusal, the character there is underlined: the blank before which a
+/// comma is missing, or the brace that is not closed. The bytes are the refusal's all the same.
+#[test]
+fn marks_elsewhere() {
+    let file = "@a{k,\n t = {x}\u{3000}\n é = {y}}";
+    let place = "<stdin>:2:9: error: expected a comma, in entry k (line 1) (7)";
+    shows(file.as_bytes(), [place, " t = {x}\u{3000}", "        ^^"]);
+    let bytes = |file: &str| {
+        let run = bib(&["check", "--json"], file.as_bytes());
+        let (_, rest) = run.text().split_once("\"start\":").expect("a start");
+        let (bytes, _) = rest.split_once(",\"number\"").expect("a number");
+        bytes.to_string()
+    };
+    assert_eq!(bytes(file), "19,\"end\":21");
+    let file = "@a{k, t = {漢\n";
+    let place = "<stdin>:1:11: error: entry k (line 1) is not closed (3)";
+    shows(file.as_bytes(), [place, "@a{k, t = {漢", "          ^"]);
+    assert_eq!(bytes(file), "15,\"end\":15");
 }
 
 /// Lines may end in CR alone.

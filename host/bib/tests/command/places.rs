@@ -70,7 +70,7 @@ fn json() {
     let file = "@a{k}\n@b{l, t = {\\\"a} # {b}, u = x}\n@string{a={\u{1b}é}}\n@c{m, v = a # mar}\n";
     let run = bib(&["show", "--json", "-"], file.as_bytes());
     let want = concat!(
-        r#"{"file":"<stdin>","line":1,"column":5,"start":4,"end":4,"number":7,"name":"expected-comma","#,
+        r#"{"file":"<stdin>","line":1,"column":5,"start":4,"end":5,"number":7,"name":"expected-comma","#,
         r#""level":"error","message":"expected a comma, in entry k","#,
         r#""hint":"BibTeX takes an entry without fields so, but this reader wants a comma: write `{k,}`","#,
         r#""key":"k"}"#,

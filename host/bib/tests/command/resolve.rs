@@ -89,7 +89,7 @@ fn verbatim_values() {
 fn refused_files() {
     bib(&["resolve"], b"").is(0, "");
     bib(&["resolve"], b"@a{k,}").is(0, "entry x6b 0 5\n");
-    bib(&["resolve"], b"@a{k, t = x}\n@a{k}").is(1, "refused 7 17 17\n");
+    bib(&["resolve"], b"@a{k, t = x}\n@a{k}").is(1, "refused 7 17 18\n");
     bib(&["resolve"], b"@a{k, t = {\xff}}").is(1, "refused 2 11 11\n");
     bib(&["resolve"], &vec![b' '; 16_777_216]).is(1, "refused 1 0 0\n");
 }

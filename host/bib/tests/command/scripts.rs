@@ -7,16 +7,31 @@ use crate::run::{bib, shell, Run, Scratch};
 fn rows() {
     bib(&["rows"], b"").is(0, "rows 0\n");
     bib(&["rows"], b"@a{k,}").is(0, "1 0 0 5\n2 0 1 2\n3 0 3 4\nrows 3\n");
-    bib(&["rows"], b"@a{k}").is(1, "refused 7 4 4\n");
-    bib(&["rows"], b"@a{k,t=}").is(1, "refused 3 7 7\n");
-    bib(&["rows"], b"@a{k,y=1.2.3}").is(1, "refused 10 10 10\n");
+    bib(&["rows"], b"@a{k}").is(1, "refused 7 4 5\n");
+    bib(&["rows"], b"@a{k,t=}").is(1, "refused 3 7 8\n");
+    bib(&["rows"], b"@a{k,y=1.2.3}").is(1, "refused 10 10 11\n");
     bib(&["rows"], b"@a{k,y=12").is(1, "refused 3 9 9\n");
     bib(&["rows"], b"@preamble{\"x\"\"").is(0, "0 0 10 13\nrows 1\n");
     bib(&["rows"], b"\xe2\x82\x40\x61\x7b").is(1, "refused 2 0 0\n");
 }
 
+/// A refusal takes in the whole character at which reading stopped, of one byte to four.
+#[test]
+fn whole_characters() {
+    for (c, line) in [("~", "5 6"), ("é", "5 7"), ("漢", "5 8"), ("😀", "5 9")] {
+        let file = format!("@a{{k {c},}}");
+        let refused = format!("refused 7 {line}\n");
+        bib(&["rows"], file.as_bytes()).is(1, &refused);
+        bib(&["resolve"], file.as_bytes()).is(1, &refused);
+        bib(&["pack"], file.as_bytes()).says(1, &refused);
+        let rows = format!("9 0 0 {}\n10 7 {line}\nrows 2\n", file.len());
+        bib(&["salvage"], file.as_bytes()).is(1, &rows);
+    }
+}
+
 #[test]
 fn salvage() {
+    // The piece is read alone, so that its cause is empty where the next begins.
     let rows = "9 0 0 4\n10 7 4 4\n1 0 4 9\n2 0 5 6\n3 0 7 8\nrows 5\n";
     bib(&["salvage"], b"@a{\n@b{k,}").is(1, rows);
     bib(&["salvage"], b"\xff").is(1, "9 0 0 1\n10 2 0 0\nrows 2\n");
@@ -78,7 +93,7 @@ fn pack() {
     assert_eq!(run, want);
     let file = Scratch::new("packed.bib", b"@a{k,}");
     assert_eq!(bib(&["pack", file.name()], b""), want);
-    bib(&["pack"], b"@a{k}").says(1, "refused 7 4 4\n");
+    bib(&["pack"], b"@a{k}").says(1, "refused 7 4 5\n");
 }
 
 #[test]

@@ -29,28 +29,29 @@ fn colour() {
     assert!(!run.text().contains('\x1b'), "{:?}", run.text());
 }
 
-/// Excerpts and the progress line keep to the terminal's width, whatever it is.
+/// Excerpts and their marks keep to the terminal's width, whatever it is.
 #[test]
 fn narrow_terminals() {
-    let line = format!(
-        "@a{{k, t = {{{}}} {}}}\n",
-        "漢".repeat(100),
-        "x".repeat(100)
-    );
-    let file = Scratch::new("narrow.bib", line.as_bytes());
-    for columns in [2, 7, 20, 60, 200] {
-        let run = on_terminal(&format!("stty cols {columns}; $BIB check {}", file.name()));
-        let excerpt = run.text().lines().nth(1).expect("there is an excerpt");
-        let width: usize = excerpt
-            .trim_end()
-            .chars()
-            .map(|c| if c == '漢' { 2 } else { 1 })
-            .sum();
-        assert!(width < columns, "{columns}: {excerpt:?}");
-        assert!(
-            columns < 60 || width > columns - 4,
-            "{columns}: {excerpt:?}"
-        );
+    let wide = "漢".repeat(100);
+    for (behind, marks) in [("x", "^"), ("字", "^^")] {
+        let line = format!("@a{{k, t = {{{wide}}} {}}}\n", behind.repeat(100));
+        let file = Scratch::new("narrow.bib", line.as_bytes());
+        for columns in [2, 7, 20, 60, 200] {
+            let words = format!(
+                "stty cols {columns}; $BIB check --color never {}",
+                file.name()
+            );
+            let run = on_terminal(&words);
+            let lines: Vec<&str> = run.text().lines().skip(1).take(2).collect();
+            let width = |line: &str| -> usize {
+                let wide = |c: char| if "漢字".contains(c) { 2 } else { 1 };
+                line.trim_end().chars().map(wide).sum()
+            };
+            let [text, below] = [lines[0], lines[1]].map(width);
+            assert!(text < columns && below < columns, "{columns}: {lines:?}");
+            let is_used = text > columns - 4 && lines[1].trim() == marks;
+            assert!(columns < 60 || is_used, "{columns}: {lines:?}");
+        }
     }
 }
 
