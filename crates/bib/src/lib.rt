@@ -4,6 +4,8 @@
 // that it wrote, or 0; `start` and `end`, the refusal's place, or 0. A resolving call writes rows and bytes, and resolves names: `bytes` and
 // `names` tell how many, or 0. A refusal leaves what was lent for rows or bytes as it was, and what lies past an answer stays as it was.
 // Scratch holds zeros after the call, whatever it held. include/bib.h says all this to C.
+#![tactic(auto)]
+
 ghost use Rattle.std.specs.Prelude.{◌≡◌, length};
 ghost use Rattle.raw.specs.Read.{strict};
 ghost use Rattle.salvage.specs.Salvage.{salvaged};

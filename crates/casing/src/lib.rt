@@ -2,6 +2,8 @@
 //
 // `to_lowercase` makes its table anew for its one question, which costs 4 KB of moves. Whoever asks more than once makes it once, by
 // `lower_table`, and hands it down to `lowered`.
+#![tactic(auto)]
+
 mod lowers;
 mod uppers;
 
@@ -13,7 +15,7 @@ ghost use Rattle.text.specs.Range.{◌–◌, within};
 ghost use Rattle.casing.specs.Casing.{to_lowercase, to_uppercase, is_settled};
 
 // The characters that one character is mapped to: 0 where there is none, as in most images for the second and third.
-#[derive(Drop)]
+#[derive(Clone, Copy)]
 pub struct Image {
     pub one: u32,
     pub two: u32,

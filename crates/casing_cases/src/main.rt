@@ -2,6 +2,8 @@
 // out; host/casing/cases made it from ICU, without our tables.
 //
 // `lowered` is asked for every character, over a table that is made once, and `to_lowercase` again for each that changes.
+#![tactic(auto)]
+
 ghost use Rattle.std.specs.Prelude.{◌≡◌};
 ghost use Rattle.casing.specs.Mapping.{numbers};
 ghost use Rattle.casing.specs.Lowers.{lowers};
@@ -9,7 +11,7 @@ ghost use Rattle.casing.specs.Lowers.{lowers};
 use casing::Image;
 
 // How many characters were asked for, and how many of them change.
-#[derive(Drop)]
+#[derive(Clone, Copy)]
 struct Tally {
     asked: u64,
     raised: u64,

@@ -2,7 +2,7 @@
 use row::fault::Fault;
 
 // What the check of lent rows and their text answers.
-#[derive(Drop)]
+#[derive(Clone, Copy)]
 pub enum Checked {
     Passed,
     Refused(Fault),

@@ -3,7 +3,7 @@ ghost use Rattle.std.specs.Prelude.{◌≡◌, ◌+◌, ◌≤◌, length, get_o
 ghost use Rattle.chunk.specs.Chunk.{kind_of, kind_from, chunk_row, put_chunk, Stores};
 
 // What a chunk is. Document 01 gives the numbers.
-#[derive(Drop)]
+#[derive(Clone, Copy)]
 pub enum Kind {
     Normal,
     Verbatim,
@@ -47,7 +47,7 @@ pub fn write_chunk(rows: &mut [u32], n: usize, kind: Kind, from: u32, to: u32, s
 }
 
 // What a writer looks at in a row: its kind's number, and its text.
-#[derive(Drop)]
+#[derive(Clone, Copy)]
 pub struct Stored {
     pub kind: u32,
     pub from: usize,
@@ -67,7 +67,7 @@ pub fn row_at(rows: &[u32], i: usize) -> Stored
 }
 
 // The span of a row.
-#[derive(Drop)]
+#[derive(Clone, Copy)]
 pub struct Span {
     pub start: usize,
     pub end: usize,

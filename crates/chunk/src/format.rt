@@ -13,7 +13,7 @@ use crate::{check, ending, form, put};
 use row::fault::{Fault, Outcome, Reason};
 
 // The place after what was put, and whether white space came last.
-#[derive(Drop)]
+#[derive(Clone, Copy)]
 pub struct Formatted {
     pub at: usize,
     pub white: bool,

@@ -3,6 +3,8 @@
 // The public calls, `format::format_verbatim`, `biblatex::to_biblatex_string` and `sentence::format_sentence`, have no `requires`: each is total
 // on any text, any numbers and any lent output. What crates above use besides are the row form, the last character of a text, `is_escapable`,
 // and `put::copy`.
+#![tactic(auto)]
+
 pub mod answer;
 pub mod biblatex;
 pub mod check;

@@ -154,7 +154,7 @@ fn unbroken(c: u32) -> u32
 }
 
 // Where a Normal text has come to: the place after what was put, and the Rust's `first` and `prev_was_whitespace`.
-#[derive(Drop)]
+#[derive(Clone, Copy)]
 pub struct Said {
     pub at: usize,
     pub first: bool,

@@ -5,7 +5,7 @@ ghost use Rattle.text.specs.SameBytes.{same_bytes};
 ghost use Rattle.command.specs.Commands.{meaning_of};
 ghost use Rattle.command.specs.Names.{code_of, decoded, names as allNames, SpanOf};
 
-#[derive(Drop)]
+#[derive(Clone, Copy)]
 pub enum Meaning {
     // The name itself is written.
     Itself,
@@ -108,7 +108,7 @@ fn meaning_at(x: u8, y: u8, z: u8) -> Meaning
 }
 
 // Two places among the names, at which rows begin.
-#[derive(Drop)]
+#[derive(Clone, Copy)]
 struct Span(usize, usize);
 
 // Between which two places a name of n bytes is to be looked for: outside of them no name has n bytes. None has more than 24, and those of more

@@ -4,6 +4,8 @@
 // hands it down to `find`.
 //
 // No public function has a `requires`: each is total on any numbers, and `find` on any lent table too.
+#![tactic(auto)]
+
 mod composites;
 
 ghost use Rattle.std.specs.Prelude.{◌≡◌};
@@ -11,7 +13,7 @@ ghost use Rattle.compose.specs.Lookup.{numbers, lookup};
 ghost use Rattle.compose.specs.Composites.{composites};
 ghost use Rattle.compose.specs.Halving.{halved};
 
-#[derive(Drop)]
+#[derive(Clone, Copy)]
 pub enum Composed {
     Char(u32),
     Nothing,

@@ -2,6 +2,8 @@
 // character. `stdout` says what must come out; host/compose/cases made it from ICU, without our table.
 //
 // `find` is asked for every pair, over a table that is made once, and `compose` again for each pair that composes.
+#![tactic(auto)]
+
 use compose::Composed;
 
 const MARKS: [u32; 16] = [
@@ -10,7 +12,7 @@ const MARKS: [u32; 16] = [
 ];
 
 // How many pairs were asked for, and how many of them compose.
-#[derive(Drop)]
+#[derive(Clone, Copy)]
 struct Tally {
     asked: u64,
     composed: u64,

@@ -18,7 +18,7 @@ use text::class::Test;
 use text::scanner;
 
 // What content came to.
-#[derive(Drop)]
+#[derive(Clone, Copy)]
 pub enum Made {
     Done(Making),
     Refused(Fault),
@@ -42,7 +42,7 @@ pub fn further(st: Making, at: usize, len: usize) -> Making
 }
 
 // Where a brace or a formula ends: the place of its last byte, and how many braces are open behind it; or why it is refused.
-#[derive(Drop)]
+#[derive(Clone, Copy)]
 enum SignEnd {
     At { to: usize, braces: usize },
     Refused(Fault),

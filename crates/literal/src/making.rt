@@ -13,7 +13,7 @@ use command::{settle, stack};
 //
 // A place in the content and the braces open there; whether a chunk is done; where the chunk under construction starts in the content, and
 // where its text starts and ends; in an argument, whether white space came last; and the rows.
-#[derive(Drop)]
+#[derive(Clone, Copy)]
 pub struct Making {
     pub at: usize,
     pub braces: usize,
@@ -27,7 +27,7 @@ pub struct Making {
 
 // What the content belongs to: an argument, whose chunks are formatted as they end; or a literal, whose chunks become rows, with its place in
 // the file and the place of its text among all the text of the value.
-#[derive(Drop)]
+#[derive(Clone, Copy)]
 pub struct Place {
     pub base: usize,
     pub text: usize,

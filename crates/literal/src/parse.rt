@@ -24,7 +24,7 @@ use turn::turn as turns;
 use turn::turn::Text;
 
 // What a literal came to: the rows of the value so far, and the bytes of the literal's text.
-#[derive(Drop)]
+#[derive(Clone, Copy)]
 pub enum Parsed {
     Chunks { rows: Rows, len: usize },
     Refused(Fault),
@@ -32,7 +32,7 @@ pub enum Parsed {
 
 // The text that a literal begins with: all of it, so that the literal is one Normal chunk of so many bytes; or the text up to a place of the
 // content, and how many bytes it has.
-#[derive(Drop)]
+#[derive(Clone, Copy)]
 pub enum Begun {
     Whole(usize),
     Part { at: usize, len: usize },

@@ -13,7 +13,7 @@ pub const MOST_NUMBER: usize = 4_294_967_295;
 pub const MOST_ROWS: usize = 4_000_000_000_000_000_000;
 
 // The rows of chunks so far: how many; of the last one its kind's number, or 3 where there is none, and where its text and its span begin.
-#[derive(Drop)]
+#[derive(Clone, Copy)]
 pub struct Rows {
     pub n: usize,
     pub last: u32,

@@ -45,7 +45,7 @@ fn bucket(name: &[u8], size: usize) -> usize
 }
 
 // What following a chain comes to: the row that was looked for; none; or the chain is too long to be followed.
-#[derive(Drop)]
+#[derive(Clone, Copy)]
 pub enum Followed {
     Row(usize),
     Nothing,

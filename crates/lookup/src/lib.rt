@@ -4,6 +4,8 @@
 //     plain    the plain search
 //     order    the definitions in the order of their names, and the search among them
 //     index    the index in lent numbers, and the search by it, which the crates above call
+#![tactic(auto)]
+
 pub mod hash;
 pub mod index;
 pub mod order;

@@ -13,7 +13,7 @@ use crate::plain::Found;
 use row::form::DEFINITION_NAME;
 use text::scanner;
 
-#[derive(Drop)]
+#[derive(Clone, Copy)]
 pub enum Order {
     Less,
     Equal,

@@ -7,7 +7,7 @@ ghost use Rattle.lookup.specs.Names.{is_named, row_no, last_named};
 use row::form::DEFINITION_NAME;
 use text::scanner;
 
-#[derive(Drop)]
+#[derive(Clone, Copy)]
 pub enum Found {
     Row(usize),
     Nothing,

@@ -1,4 +1,6 @@
 // Prints the rows of a .bib file that it reads from standard input, or the refusal, as document 01 says.
+#![tactic(auto)]
+
 ghost use Rattle.std.specs.Prelude.{◌<◌};
 
 use raw::answer::Reading;

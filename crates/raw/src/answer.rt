@@ -2,21 +2,21 @@
 use row::fault::Fault;
 
 // What a reader answers that puts no rows: the place after what it read.
-#[derive(Drop)]
+#[derive(Clone, Copy)]
 pub enum Step {
     At(usize),
     Refused(Fault),
 }
 
 // What a reader answers that puts rows: the place after what it read, and the number of the next row.
-#[derive(Drop)]
+#[derive(Clone, Copy)]
 pub enum Answer {
     Next { at: usize, n: usize },
     Refused(Fault),
 }
 
 // What one turn of a loop of readers answers: the loop goes on, or is done.
-#[derive(Drop)]
+#[derive(Clone, Copy)]
 pub enum Turn {
     Again { at: usize, n: usize },
     Done { at: usize, n: usize },
@@ -24,7 +24,7 @@ pub enum Turn {
 }
 
 // What `read` answers: the number of rows.
-#[derive(Drop)]
+#[derive(Clone, Copy)]
 pub enum Reading {
     Rows(usize),
     Refused(Fault),

@@ -12,7 +12,7 @@ use text::class::Test;
 use text::scanner;
 
 // What an entry is, by its type.
-#[derive(Drop)]
+#[derive(Clone, Copy)]
 pub enum Form {
     Strings,
     Preambles,

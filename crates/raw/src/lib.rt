@@ -1,4 +1,6 @@
 // Strict reading of a .bib file, after src/raw.rs: rows out, or the refusal.
+#![tactic(auto)]
+
 pub mod answer;
 pub mod entry;
 pub mod field;

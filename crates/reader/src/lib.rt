@@ -2,6 +2,8 @@
 //
 // The functions over the struct are few and thin, since each is proved by hand: it takes the struct apart and calls one of `text::scanner` on
 // the slice and the number. What other crates call has plain parameters.
+#![tactic(auto)]
+
 ghost use Rattle.std.specs.Prelude.{◌≡◌};
 ghost use Rattle.text.specs.Scan.{see, next_of, skip, fails, Inside, Ahead};
 
@@ -9,7 +11,7 @@ use text::class::Test;
 use text::scanner;
 use text::scanner::Seen;
 
-#[derive(Drop)]
+#[derive(Clone, Copy)]
 pub struct Reader<'a> {
     pub file: &'a [u8],
     pub at: usize,

@@ -7,6 +7,8 @@
 // answer begins with one byte. Where it is not 0 it is the refusal's number, and start and end follow in two bytes each. Where it is 0 there
 // follow in two bytes each how many numbers the rows have and how many bytes their text has, then the text, and then the numbers in two bytes
 // each. A file has no text.
+#![tactic(auto)]
+
 ghost use Rattle.std.specs.Prelude.{◌<◌, ◌≤◌};
 
 use raw::answer::Reading;
@@ -18,7 +20,7 @@ use row::fault::Fault;
 use text::scanner;
 
 // Where a case ends, and whether it was answered as the list has it.
-#[derive(Drop)]
+#[derive(Clone, Copy)]
 struct Case {
     next: usize,
     same: bool,
@@ -202,7 +204,7 @@ fn replay(list: &[u8], at: usize) -> Case
 }
 
 // How many cases the list has, and how many of them were answered otherwise.
-#[derive(Drop)]
+#[derive(Clone, Copy)]
 struct Tally {
     cases: u64,
     differ: u64,

@@ -9,7 +9,7 @@ use text::utf8;
 use text::utf8::Validity;
 
 // The rows of chunks and the bytes of text that were written, and the names that were resolved; or a refusal.
-#[derive(Drop)]
+#[derive(Clone, Copy)]
 pub enum Answer {
     Chunks {
         rows: usize,

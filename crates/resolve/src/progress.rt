@@ -22,7 +22,7 @@ use row::fault::Fault;
 use row::form;
 
 // The rows, bytes of text and names so far; or that there is more of them than can be written.
-#[derive(Drop)]
+#[derive(Clone, Copy)]
 pub struct Progress {
     pub rows: Rows,
     pub bytes: usize,
@@ -31,7 +31,7 @@ pub struct Progress {
 }
 
 // What elements came to.
-#[derive(Drop)]
+#[derive(Clone, Copy)]
 pub enum Went {
     Done(Progress),
     Refused(Fault),

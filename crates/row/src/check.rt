@@ -8,7 +8,7 @@ ghost use Rattle.row.specs.Rules.{is_detail, begun, next, wrong};
 ghost use Rattle.row.specs.Numbers.{await_of, state_of, whole_of, or_wrong, found_of, rows_of, check_of};
 
 // What may come next, with the words of specs/Rules.antt. The flag says that a field may follow.
-#[derive(Drop)]
+#[derive(Clone, Copy)]
 pub enum State {
     Part(bool),
     Type,
@@ -21,13 +21,13 @@ pub enum State {
 }
 
 // What stands where a value row must stand: a value row, and the place after it; or anything else.
-#[derive(Drop)]
+#[derive(Clone, Copy)]
 pub enum Found {
     Value(usize),
     Other,
 }
 
-#[derive(Drop)]
+#[derive(Clone, Copy)]
 pub enum Checked {
     Passed,
     BadRows,

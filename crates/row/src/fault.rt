@@ -4,7 +4,7 @@ ghost use Rattle.std.specs.Prelude.{◌≡◌};
 ghost use Rattle.row.specs.Fault.{number_of, fault_at};
 
 // Document 01's table, in its order.
-#[derive(Drop)]
+#[derive(Clone, Copy)]
 pub enum Reason {
     TooLong,
     NotUtf8,
@@ -26,7 +26,7 @@ pub enum Reason {
 }
 
 // A refusal: its reason, and its place in the file. The place is 0..0 where 01 gives none.
-#[derive(Drop)]
+#[derive(Clone, Copy)]
 pub struct Fault {
     pub reason: Reason,
     pub start: usize,
@@ -45,7 +45,7 @@ pub fn fault_at(reason: Reason, at: usize) -> Fault
 }
 
 // What a call comes to: the count of what it wrote, or a refusal.
-#[derive(Drop)]
+#[derive(Clone, Copy)]
 pub enum Outcome {
     Count(usize),
     Refused(Fault),

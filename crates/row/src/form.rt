@@ -4,7 +4,7 @@ ghost use Rattle.row.specs.Limits.{most_bytes};
 ghost use Rattle.row.specs.Row.{kind_of, row_of, row_with, row, put_row};
 
 // What a row is of. Document 01 gives the numbers.
-#[derive(Drop)]
+#[derive(Clone, Copy)]
 pub enum Kind {
     Preamble,
     Entry,

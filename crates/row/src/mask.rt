@@ -9,7 +9,7 @@ use crate::check;
 
 // Two masks, in each of which bit k stands for kind k. The first has the kinds that may come next. The second has those that may come after
 // the next literal or name: another of these, a new part of the sequence, and in an entry a field.
-#[derive(Drop)]
+#[derive(Clone, Copy)]
 pub struct Masks(pub u32, pub u32);
 
 // The masks before the first row.

@@ -13,7 +13,7 @@ use text::utf8::Validity;
 use text::{block, utf8};
 
 // A number of rows, and whether damage is among them.
-#[derive(Drop)]
+#[derive(Clone, Copy)]
 pub enum Tally {
     Sound(usize),
     Damaged(usize),

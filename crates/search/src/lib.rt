@@ -1,4 +1,6 @@
 // Search by halving, for the tables of `compose` and `casing`.
+#![tactic(auto)]
+
 ghost use Rattle.std.specs.Prelude.{◌≡◌, ◌/◌, ◌≤◌, length};
 ghost use Rattle.search.specs.Halving.{before, place_of};
 

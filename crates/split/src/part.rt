@@ -9,7 +9,7 @@ use chunk::form;
 use chunk::form::Kind;
 
 // A chunk in hand: its kind, its text and its span.
-#[derive(Drop)]
+#[derive(Clone, Copy)]
 pub struct Piece {
     pub kind: Kind,
     pub from: usize,
@@ -89,7 +89,7 @@ pub fn trimmed(t: &[u8], p: Piece, first: bool, last: bool) -> Piece
 }
 
 // How far the outputs are written: the parts that are whole, the first row of the part under construction, and the rows.
-#[derive(Drop)]
+#[derive(Clone, Copy)]
 pub struct Place {
     pub parts: usize,
     pub first: usize,

@@ -7,14 +7,14 @@ ghost use Rattle.text.specs.Scan.{part};
 ghost use Rattle.text.specs.Block.{set_of, in_set, apart, braces, quotes, others, solids, lines, breaks, Clear, Found, is_simple, PlainRun};
 
 // The bytes from the first to the last, both included.
-#[derive(Drop)]
+#[derive(Clone, Copy)]
 pub struct Interval {
     pub first: u8,
     pub last: u8,
 }
 
 // The bytes of three intervals, which may be the same.
-#[derive(Drop)]
+#[derive(Clone, Copy)]
 pub struct Set {
     pub one: Interval,
     pub two: Interval,

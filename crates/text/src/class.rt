@@ -5,7 +5,7 @@ ghost use Rattle.text.specs.Class.{is_whitespace, is_control, mark, id_marks, is
 ghost use Rattle.text.specs.Inner.{masks_of, has_bit, AsciiOf};
 
 // A test of a character. The single ones have their names from raw.rs's `Token` where it has one.
-#[derive(Drop)]
+#[derive(Clone, Copy)]
 pub enum Test {
     Whitespace,
     Key,
@@ -113,7 +113,7 @@ pub fn holds(t: Test, c: u32) -> bool
 
 // A test, by what passes it: a bit for each character of ASCII, the first 64 in `low` and the others in `high`; and in `narrow`, whether no
 // character beyond ASCII passes.
-#[derive(Drop)]
+#[derive(Clone, Copy)]
 pub struct Masks {
     pub low: u64,
     pub high: u64,

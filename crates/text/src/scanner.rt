@@ -10,7 +10,7 @@ use crate::utf8::Decoded;
 use crate::{block, class, utf8};
 
 // What stands at a place: a code point and the place after it, or the end.
-#[derive(Drop)]
+#[derive(Clone, Copy)]
 pub enum Seen {
     End,
     Char { code: u32, next: usize },

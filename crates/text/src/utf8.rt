@@ -7,14 +7,14 @@ ghost use Rattle.text.specs.Inner.{seconds, goes_second, WideAt};
 use crate::block;
 
 // Whether a text is valid, or where its first ill-formed sequence starts.
-#[derive(Drop)]
+#[derive(Clone, Copy)]
 pub enum Validity {
     Valid,
     IllFormed(usize),
 }
 
 // What stands at a place: a code point and the place after it, an octet that starts no sequence, or the end.
-#[derive(Drop)]
+#[derive(Clone, Copy)]
 pub enum Decoded {
     End,
     Char { code: u32, next: usize },
@@ -22,7 +22,7 @@ pub enum Decoded {
 }
 
 // What became of a code point: its octets were written, that many; or nothing was.
-#[derive(Drop)]
+#[derive(Clone, Copy)]
 pub enum Encoded {
     Wrote(usize),
     NotScalar,

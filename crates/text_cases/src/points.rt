@@ -4,7 +4,7 @@ use text::utf8::{Decoded, Encoded, Validity};
 use text::{class, scanner, utf8};
 
 // How many code points there are with each number of octets; `none` counts those that are no scalar values.
-#[derive(Drop)]
+#[derive(Clone, Copy)]
 struct Tally {
     none: u32,
     one: u32,

@@ -1,2 +1,4 @@
 // The turns of content that write text, after `ContentParser` of resolve.rs.
+#![tactic(auto)]
+
 pub mod turn;

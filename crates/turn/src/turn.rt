@@ -19,7 +19,7 @@ use text::{block, class, scanner};
 
 // What came of a turn: the content has ended; text was written, up to a place of the content and a new end of the text; the content is refused;
 // or a command has an argument in braces: what its name means, where the name ends, and where the argument begins and ends.
-#[derive(Drop)]
+#[derive(Clone, Copy)]
 pub enum Text {
     End,
     Put {
@@ -36,7 +36,7 @@ pub enum Text {
 }
 
 // A place of the content, and the end of the text there.
-#[derive(Drop)]
+#[derive(Clone, Copy)]
 pub struct Grown {
     pub at: usize,
     pub len: usize,

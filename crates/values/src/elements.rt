@@ -24,7 +24,7 @@ use row::limits::{MOST_NAMES, MOST_OPEN};
 use text::scanner;
 
 // What a name means: the definition in a row, or a month word with its text.
-#[derive(Drop)]
+#[derive(Clone, Copy)]
 pub enum Meaning {
     Definition(usize),
     Month { from: usize, to: usize },
@@ -32,7 +32,7 @@ pub enum Meaning {
 }
 
 // An element of a value, and where it stands in the file.
-#[derive(Drop)]
+#[derive(Clone, Copy)]
 pub enum Element {
     Literal { start: usize, end: usize },
     Name { start: usize, end: usize },
@@ -40,14 +40,14 @@ pub enum Element {
 }
 
 // The literal that is a whole value, and where it stands in the file; or nothing, where a value has a name, several elements or none.
-#[derive(Drop)]
+#[derive(Clone, Copy)]
 pub enum Only {
     Literal { start: usize, end: usize },
     Nothing,
 }
 
 // Whether a name may be opened.
-#[derive(Drop)]
+#[derive(Clone, Copy)]
 pub enum Allowed {
     Yes,
     No(Reason),

@@ -7,7 +7,7 @@ use lookup::plain;
 use resolve::lent;
 
 // A month word's text in the lent bytes, or that there is no such word.
-#[derive(Drop)]
+#[derive(Clone, Copy)]
 pub enum Month {
     Text { from: usize, to: usize },
     Nothing,

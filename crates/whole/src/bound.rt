@@ -13,7 +13,7 @@ use values::elements::Element;
 
 // So many chunk rows and bytes of text at most. Or nothing is known: names are used of which nothing is known, or the sums are more than can be
 // written.
-#[derive(Drop)]
+#[derive(Clone, Copy)]
 pub enum Most {
     Literals { rows: usize, bytes: usize },
     Unknown,

@@ -35,7 +35,7 @@ use row::form::VALUE;
 use row::limits::LEAST_SCRATCH;
 
 // The values, chunk rows and bytes of text that were written; or a refusal of the whole call.
-#[derive(Drop)]
+#[derive(Clone, Copy)]
 pub enum Filed {
     Values {
         values: usize,
@@ -46,7 +46,7 @@ pub enum Filed {
 }
 
 // The values so far, and the chunk rows and bytes of text that they have together; or that there is more of these than can be written.
-#[derive(Drop)]
+#[derive(Clone, Copy)]
 pub struct Totals {
     pub values: usize,
     pub rows: usize,

@@ -19,7 +19,7 @@ use Rattle.row.specs.Ruled.{Free, none, one}
 pub run-append : (a : Await) (rs ss : List Row) → run a (rs ++ ss) ≡ run (run a rs) ss
 unfolding run
 run-append a [] ss = refl
-run-append a (r ∷ rs) ss = run-append _ rs ss
+run-append a (r ∷ rs) ss = run-append (cond (is_detail r.kind r.detail) (next a r.kind) wrong) rs ss
 
 pub run-wrong : (rs : List Row) → run wrong rs ≡ wrong
 unfolding run next
@@ -74,7 +74,11 @@ next-covers n over = over
 run-covers : {a b : Await} (rs : List Row) → Covers a b → Covers (run a rs) (run b rs)
 unfolding run
 run-covers [] c = c
-run-covers {a} {b} (r ∷ rs) c = run-covers rs (by (is_detail r.kind r.detail))
+run-covers {a} {b} (r ∷ rs) c =
+    run-covers
+    {a = cond (is_detail r.kind r.detail) (next a r.kind) wrong}
+    {b = cond (is_detail r.kind r.detail) (next b r.kind) wrong}
+    rs (by (is_detail r.kind r.detail))
   where
     by : (t : Bool) → Covers (cond t (next a r.kind) wrong) (cond t (next b r.kind) wrong)
     by true = next-covers r.kind c
@@ -113,7 +117,7 @@ clean-append (r ∷ rs) ss = ap (cond (eqb r.kind 9) false) (clean-append rs ss)
 run_moved : (d : ℕ) (a : Await) (rs : List Row) → run a (moved d rs) ≡ run a rs
 unfolding run moved
 run_moved d a [] = refl
-run_moved d a (r ∷ rs) = run_moved d _ rs
+run_moved d a (r ∷ rs) = run_moved d (cond (is_detail r.kind r.detail) (next a r.kind) wrong) rs
 
 pub rows-moved : (d : ℕ) (rs : List Row) → is_rows (moved d rs) ≡ is_rows rs
 unfolding is_rows

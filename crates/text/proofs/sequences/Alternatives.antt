@@ -128,6 +128,7 @@ from_less h (from {b} l) = from {b = b} (omega arith)
 rising-from : {n : ℕ} {alts : List (List Range)} {w : List ℕ} → FirstRising n alts → Any alts w → From n w
 rising-from (step f l r) (here (on {b = b} p q m)) = from {b = b} (omega arith)
 rising-from (step f l r) (there m) = from_less (omega arith) (rising-from r m)
+rising-from {w = w} (last {n = n}) x4 = elim x4 [ ]
 
 match-begins : {a : List Range} {w : List ℕ} (t : List ℕ) → Match a w → begins a (w ++ t) ≡ true
 unfolding begins

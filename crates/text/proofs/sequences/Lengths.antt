@@ -46,6 +46,7 @@ any-shape (there (there (there (there (there (there (here (on {b = a} l h (on {b
 any-shape (there (there (there (there (there (there (there (here (on {b = a} l h (on {b = b} p q m)))))))))) = four-of a b m (omega arith) (omega arith) (omega arith) (omega arith)
 any-shape (there (there (there (there (there (there (there (there (here (on {b = a} l h (on {b = b} p q m))))))))))) =
     four-of a b m (omega arith) (omega arith) (omega arith) (omega arith)
+any-shape {w = w} (there (there (there (there (there (there (there (there (there x36))))))))) = elim x36 [ ]
 
 pub char-shape : (w : List ℕ) → is_char w ≡ true → Shape w
 char-shape w e = any-shape (any_of alternatives w e)

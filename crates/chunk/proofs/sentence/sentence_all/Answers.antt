@@ -1,0 +1,51 @@
+-- `chunk::sentence::sentence_all` meets its contract. Assumes nothing.
+use Prim.Native.Nat.{◌-◌}
+use native.Mathlib.Omega.{arith}
+use mathlib.Core.Path.{◌∙◌}
+use Rattle.chunk.proofs.rows.RowCheck.{five}
+use Rattle.chunk.proofs.passes.Passes.{row_here}
+use Rattle.chunk.proofs.passes.PassTurns as laws
+use Rattle.chunk.proofs.sentence.sentence_all.Goals as goal
+
+pub loop-i-init : goal.loop-i-init
+loop-i-init c =
+    let a = c.args in
+    (laws.sentence-start a.t.now a.rows.now a.out.now c.requires.0, omega arith)
+
+pub row_at-row-requires : goal.row_at-row-requires
+row_at-row-requires c = five c.loop-i.invariant.0.checks c.loop-i-test.true
+
+pub sentence_one-next-requires : goal.sentence_one-next-requires
+sentence_one-next-requires c =
+    let p = c.requires in
+    let g = c.loop-i.invariant in
+    let row = c.row_at-row.ensures in
+    let fit = row_here g.0.checks p.0 c.loop-i-test.true row in
+    (fit.0, fit.1, omega (arith, row.small, g.1, p.1))
+
+pub shape_of-out-then-room-next : goal.shape_of-out-then-room-next
+shape_of-out-then-room-next c = c.sentence_one-next.auto.out ∙ c.loop-i.invariant.0.long
+
+pub returns-then-room-next : goal.returns-then-room-next
+returns-then-room-next c =
+    let row = laws.row_of c.kind_from-kind.ensures c.row_at-row.ensures in
+    let read = laws.sentence-turn c.loop-i.invariant.0 c.requires.0 c.loop-i-test.true row in
+    laws.sentence-more (read c.sentence_one-next.ensures.puts c.sentence_one-next.ensures.white_value.0 c.sentence_one-next.auto.out) c.if-room-next.true
+
+pub overflow_add-i : goal.overflow_add-i
+overflow_add-i c = omega arith
+
+pub loop-i-smaller : goal.loop-i-smaller
+loop-i-smaller c = omega arith
+
+pub loop-i-preserved : goal.loop-i-preserved
+loop-i-preserved c =
+    let row = laws.row_of c.kind_from-kind.ensures c.row_at-row.ensures in
+    let read = laws.sentence-turn c.loop-i.invariant.0 c.requires.0 c.loop-i-test.true row in
+    (read c.sentence_one-next.ensures.puts c.sentence_one-next.ensures.white_value.0 c.sentence_one-next.auto.out, c.if-room-next.false)
+
+pub shape_of-out : goal.shape_of-out
+shape_of-out c = c.loop-i.invariant.0.long
+
+pub returns : goal.returns
+returns c = laws.sentence-done c.loop-i.invariant.0 c.requires.0 c.loop-i-test.false

@@ -1,0 +1,24 @@
+-- `lookup::order::precedes` meets its contract. Assumes nothing.
+use mathlib.Core.Path.{sym, ◌∙◌}
+use Rattle.row.specs.Numbers.{rows_of}
+use Rattle.lookup.specs.declared.order.Order.TheVariants as order
+use Rattle.lookup.proofs.loops.RowsCompared.{comes-by}
+use Rattle.lookup.proofs.order.precedes.Goals as goal
+
+pub returns-in-Less : goal.returns-in-Less
+returns-in-Less c =
+    let a = c.args in
+    comes-by a.file.now (rows_of a.rows.now) a.i a.j _ _ c.name.ensures c.name-2.ensures order.Less
+    (sym c.in-Less.is ∙ c.compare.ensures)
+
+pub returns-in-Equal : goal.returns-in-Equal
+returns-in-Equal c =
+    let a = c.args in
+    comes-by a.file.now (rows_of a.rows.now) a.i a.j _ _ c.name.ensures c.name-2.ensures order.Equal
+    (sym c.in-Equal.is ∙ c.compare.ensures)
+
+pub returns-in-Greater : goal.returns-in-Greater
+returns-in-Greater c =
+    let a = c.args in
+    comes-by a.file.now (rows_of a.rows.now) a.i a.j _ _ c.name.ensures c.name-2.ensures order.Greater
+    (sym c.in-Greater.is ∙ c.compare.ensures)

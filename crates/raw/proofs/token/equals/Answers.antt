@@ -1,0 +1,12 @@
+-- `raw::token::equals` meets its contract. Assumes nothing.
+use native.Mathlib.Omega.{arith}
+use Rattle.text.specs.Class.{holds_of}
+use Rattle.raw.specs.Grammar.{equals}
+use Rattle.raw.proofs.token.equals.Goals as goal
+
+pub need-requires : goal.need-requires
+need-requires c = omega arith
+
+pub returns : goal.returns
+unfolding equals holds_of
+returns c = c.need.ensures

@@ -1,0 +1,12 @@
+-- `raw::token::quote` meets its contract. Assumes nothing.
+use native.Mathlib.Omega.{arith}
+use Rattle.text.specs.Class.{holds_of}
+use Rattle.raw.specs.Grammar.{quote}
+use Rattle.raw.proofs.token.quote.Goals as goal
+
+pub need-requires : goal.need-requires
+need-requires c = omega arith
+
+pub returns : goal.returns
+unfolding quote holds_of
+returns c = c.need.ensures

@@ -1,0 +1,11 @@
+-- The invariants of `text::block::past`.
+use Prim.Native.Nat.{◌-◌}
+use lib.ListN.{length}
+use Rattle.text.specs.Block.{Clear}
+use Rattle.text.proofs.block.past.Given as goal
+
+abbrev pub invariant-loop-x : goal.invariant-loop-x
+invariant-loop-x l = Clear l.x l.s l.at l.i
+
+abbrev pub decreases-loop-x : goal.decreases-loop-x
+decreases-loop-x l = length l.s - l.i

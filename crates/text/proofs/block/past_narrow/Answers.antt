@@ -1,0 +1,6 @@
+-- `text::block::past_narrow` meets its contract. Assumes nothing.
+use Rattle.text.proofs.scanning.Blocks.{clear-as}
+use Rattle.text.proofs.block.past_narrow.Goals as goal
+
+pub returns : goal.returns
+returns c = clear-as c.intervals.ensures c.past_short.ensures

@@ -1,0 +1,6 @@
+-- `text::block::place` meets its contract. Assumes nothing.
+use native.Mathlib.Omega.{arith}
+use Rattle.text.proofs.block.place.Goals as goal
+
+pub returns : goal.returns
+returns c = λ h. omega arith
