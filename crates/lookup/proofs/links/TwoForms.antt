@@ -1,12 +1,12 @@
 -- The two forms of the index are told apart by the first number of `heads`: with chains it is at most the number of rows, in order it is more.
 --     is-linked, is-ordered        the chains; the definitions in order
 --     ordered-fits, ordered-part   how many definitions there are, and that they stand in `next`
---     still-fits, built            the ways through `build`
+--     unbuilt, still-fits, built   the ways through `build`
 -- Assumes nothing.
 use Prim.Native.Nat.{ℕ, ◌-◌, ◌/◌, ◌≤◌, ◌<◌}
 use native.Mathlib.Omega.{arith}
-use mathlib.Core.Path.{◌≡◌, sym, ◌∙◌}
-use mathlib.Core.Bool.{true, true≢false}
+use mathlib.Core.Path.{◌≡◌, refl, sym, ◌∙◌}
+use mathlib.Core.Bool.{true, false, true≢false}
 use mathlib.Core.List.{List}
 use mathlib.Core.Logic.{◌⊎◌, ⊎_elim}
 use lib.ListN.{length, get_or, take}
@@ -44,6 +44,11 @@ module _ (file rows heads next : List ℕ) where
 
     pub ordered-part : take (mark - length rows / 4 - 1) next ≡ in_order file (rows_of rows)
     ordered-part = rw count o.order
+
+-- with no room all stays as it is
+pub unbuilt : (file rows heads next : List ℕ) → fits (length rows / 4) (length heads) (length next) ≡ false → Built file rows heads next heads next
+unbuilt file rows heads next none =
+    record { heads-size = refl; next-size = refl; index = λ e. absurd (true≢false (sym e ∙ none)); no_room = λ e. (refl, refl) }
 
 -- what `build` leaves, of one form or the other; and the room after a call that kept the sizes
 module _ (file rows heads next heads' next' : List ℕ) (h : length heads' ≡ length heads) (n : length next' ≡ length next)

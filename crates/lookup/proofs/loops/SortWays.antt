@@ -1,7 +1,6 @@
 -- A list sorted in one place: the ways through `sort`.
---     sort-deep, sort-stays                a list that is halved has a halving left; a list that is not halved stays as it is
---     half, one_done, other, both_done       the list while its halves are sorted, and the part that is lent for the second
---     half-size, one-length, other-size, both-length    how long these are
+--     sort-stays                           a list that is not halved stays as it is
+--     half, one_done, other, both_done     the list while its halves are sorted, and the part that is lent for the second
 --     sort-whole                           the halves are sorted, merged into the spare numbers, and copied back
 -- Assumes nothing.
 use Prim.Native.Nat.{ℕ, zero, suc, ◌-◌, ◌/◌, ◌≤◌}
@@ -13,16 +12,8 @@ use lib.ListN.{length, take, drop, drop_of_length-le, length-drop}
 use lib.Seq.{take_all, take_at, drop_at, length-take-le, length_front}
 use lib.Dec.{ltb, eqb}
 use borrow.Author.Tests.{eqb-true}
-use borrow.Rule.Slice.PartMut.{mid_of, put_mid, same_len_mid}
+use borrow.Rule.Slice.PartMut.{mid_of, put_mid}
 use Rattle.lookup.specs.Order.{merged, sorted}
-
-pub sort-deep : (d : ℕ) (xs : List ℕ) → (ltb (length xs) 2 || eqb d 0) ≡ false → 1 ≤ d
-sort-deep zero xs e = by (ltb (length xs) 2) e
-  where
-    by : (s : Bool) → (s || true) ≡ false → 1 ≤ 0
-    by true e = absurd (false≢true (sym e))
-    by false e = absurd (false≢true (sym e))
-sort-deep (suc d) xs e = omega arith
 
 module _ (le : ℕ → ℕ → Bool) where
   pub sort-stays : (d : ℕ) (xs : List ℕ) → (ltb (length xs) 2 || eqb d 0) ≡ true → xs ≡ sorted le d xs
@@ -66,11 +57,11 @@ other xs ys = mid_of (half xs) (length (one_done xs ys) - half xs) (one_done xs 
 abbrev pub both_done : List ℕ → List ℕ → List ℕ → List ℕ
 both_done xs ys zs = put_mid (half xs) (length (one_done xs ys) - half xs) (one_done xs ys) zs
 
-pub half-size : (xs : List ℕ) → half xs ≡ length (take (half xs) xs)
+half-size : (xs : List ℕ) → half xs ≡ length (take (half xs) xs)
 half-size xs = sym (length-take-le (half xs) xs (omega arith))
 
 module _ (xs ys : List ℕ) (as_many : length ys ≡ length (take (half xs) xs)) where
-  pub one-length : length (one_done xs ys) ≡ length xs
+  one-length : length (one_done xs ys) ≡ length xs
   one-length = length_front xs ys (half xs) as_many
 
   size : length ys ≡ half xs
@@ -85,9 +76,6 @@ module _ (xs ys : List ℕ) (as_many : length ys ≡ length (take (half xs) xs))
   other-is : other xs ys ≡ drop (half xs) xs
   other-is = ap (take (length (one_done xs ys) - half xs)) behind ∙ take_all (length (one_done xs ys) - half xs) (drop (half xs) xs) all
 
-  pub other-size : length (other xs ys) ≡ length xs - half xs
-  other-size = ap length other-is ∙ length-drop (half xs) xs
-
   both_is : (zs : List ℕ) → both_done xs ys zs ≡ ys ++ zs
   both_is zs =
       let k = length (one_done xs ys) - half xs in
@@ -95,9 +83,6 @@ module _ (xs ys : List ℕ) (as_many : length ys ≡ length (take (half xs) xs))
       let front : take (half xs) (one_done xs ys) ≡ ys = take_at ys (drop (half xs) xs) (half xs) size in
       ap (λ (l : List ℕ). l ++ (zs ++ drop k (drop (half xs) (one_done xs ys)))) front ∙ ap (λ (l : List ℕ). ys ++ (zs ++ l)) none
       ∙ ap (λ (l : List ℕ). ys ++ l) (append-nil zs)
-
-  pub both-length : (zs : List ℕ) → length zs ≡ length (other xs ys) → length (both_done xs ys zs) ≡ length xs
-  both-length zs e = same_len_mid (half xs) (length (one_done xs ys) - half xs) (one_done xs ys) zs e ∙ one-length
 
   pub sort-whole : (le : ℕ → ℕ → Bool) (d : ℕ) (zs spare out : List ℕ) → (ltb (length xs) 2 || eqb d 0) ≡ false →
       ys ≡ sorted le (d - 1) (take (half xs) xs) →

@@ -1,6 +1,5 @@
 -- `lookup::hash::fnv1a` meets its contract. Assumes nothing.
 use native.Mathlib.Omega.{arith}
-use Prim.Native.Nat.{◌-◌}
 use mathlib.Core.Path.{refl, sym, ◌∙◌}
 use Rattle.lookup.proofs.bytes.HashTurns.{hash-turn, hash-end}
 use Rattle.lookup.proofs.hash.fnv1a.Goals as goal

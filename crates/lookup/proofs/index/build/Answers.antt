@@ -1,10 +1,10 @@
 -- `lookup::index::build` meets its contract: the index has one form or the other. Assumes nothing.
 use native.Mathlib.Omega.{arith}
 use mathlib.Core.Path.{◌≡◌, refl, sym, ◌∙◌}
-use mathlib.Core.Bool.{Bool, true, false, true≢false}
+use mathlib.Core.Bool.{Bool, true, false}
 use mathlib.Core.Logic.{inl, inr}
 use Prim.Native.Nat.{◌+◌, ◌≤◌}
-use Rattle.lookup.proofs.links.TwoForms.{still-fits, built}
+use Rattle.lookup.proofs.links.TwoForms.{unbuilt, still-fits, built}
 use Rattle.lookup.proofs.index.build.Goals as goal
 
 -- no chain has more rows than the file, so the second attempt has made the chains
@@ -14,8 +14,8 @@ made false h = absurd (let k = h refl in omega arith)
 
 pub returns-then-not-has_room : goal.returns-then-not-has_room
 returns-then-not-has_room c =
-    let no = sym c.has_room.ensures ∙ c.if-not-has_room.true in
-    record { heads-size = refl; next-size = refl; index = λ e. absurd (true≢false (sym e ∙ no)); no_room = λ e. (refl, refl) }
+    let a = c.args in
+    unbuilt a.file.now a.rows.now a.heads.now a.next.now (sym c.has_room.ensures ∙ c.if-not-has_room.true)
 
 pub chain-requires : goal.chain-requires
 chain-requires c = sym c.has_room.ensures ∙ c.if-not-has_room.false
@@ -37,7 +37,7 @@ returns-then-fill c =
     let a = c.args in
     let yes = sym c.has_room.ensures ∙ c.if-not-has_room.false in
     built a.file.now a.rows.now a.heads.now a.next.now _ _ (c.fill.auto.heads ∙ c.chain.auto.heads) (c.fill.auto.next ∙ c.chain.auto.next) yes
-    (inr (c.fill.ensures.1 c.if-fill.true))
+    (inr (c.fill.ensures.ordered c.if-fill.true))
 
 pub chain-requires-2 : goal.chain-requires-2
 chain-requires-2 c =

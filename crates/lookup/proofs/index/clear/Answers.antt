@@ -3,7 +3,7 @@ use borrow.Author.Fill.{fill_more}
 use native.Mathlib.Omega.{arith}
 use mathlib.Core.Path.{◌≡◌, refl, ap, ◌∙◌}
 use mathlib.Core.List.{List, append-nil}
-use Prim.Native.Nat.{ℕ, ◌-◌, ◌≤◌}
+use Prim.Native.Nat.{ℕ, ◌≤◌}
 use lib.ListN.{length, set, length-set, drop_of_length-le}
 use Rattle.lookup.proofs.index.clear.Goals as goal
 

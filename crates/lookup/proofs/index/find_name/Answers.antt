@@ -20,19 +20,19 @@ bounds-heads-0 c =
 pub slice_bounds-search-end : goal.slice_bounds-search-end
 slice_bounds-search-end c =
     let a = c.args in
-    let yes = sym c.has_room.ensures ∙ c.if1.false in
-    let m = c.number.ensures in
+    let yes = sym c.has_room.ensures ∙ c.if-not-has_room.false in
+    let m = c.number-mark.ensures in
     let ordered = is-ordered a.file.now a.rows.now a.heads.now a.next.now (c.requires yes) (omega (arith, m)) in
-    sym (length-take-le _ a.next.now (ordered-fits a.file.now a.rows.now a.heads.now a.next.now ordered c.number.result m yes))
+    sym (length-take-le _ a.next.now (ordered-fits a.file.now a.rows.now a.heads.now a.next.now ordered c.number-mark.result m yes))
 
 pub search-requires : goal.search-requires
 search-requires c =
     let a = c.args in
-    let yes = sym c.has_room.ensures ∙ c.if1.false in
-    let m = c.number.ensures in
+    let yes = sym c.has_room.ensures ∙ c.if-not-has_room.false in
+    let m = c.number-mark.ensures in
     let ordered = is-ordered a.file.now a.rows.now a.heads.now a.next.now (c.requires yes) (omega (arith, m)) in
     let small = (room (length a.rows.now / 4) (length a.heads.now) (length a.next.now) yes).small in
-    (ordered-part a.file.now a.rows.now a.heads.now a.next.now ordered c.number.result m, small)
+    (ordered-part a.file.now a.rows.now a.heads.now a.next.now ordered c.number-mark.result m, small)
 
 pub bucket-requires : goal.bucket-requires
 bucket-requires c =
@@ -43,7 +43,10 @@ pub follow-requires : goal.follow-requires
 follow-requires c =
     let a = c.args in
     let yes = sym c.has_room.ensures ∙ c.if-not-has_room.false in
-    (is-linked a.file.now a.rows.now a.heads.now a.next.now (c.requires yes) (omega (arith, c.number-mark.ensures)), c.bucket.ensures)
+    record {
+      indexed_from = is-linked a.file.now a.rows.now a.heads.now a.next.now (c.requires yes) (omega (arith, c.number-mark.ensures));
+      b_value = c.bucket.ensures;
+    }
 
 pub returns-in-Row : goal.returns-in-Row
 returns-in-Row c =

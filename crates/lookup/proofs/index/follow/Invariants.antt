@@ -1,5 +1,5 @@
 -- The invariants of `lookup::index::follow`.
-use Prim.Native.Nat.{◌+◌, ◌-◌, ◌/◌, ◌≤◌}
+use Prim.Native.Nat.{◌+◌, ◌/◌, ◌≤◌}
 use lib.ListN.{length}
 use Rattle.lookup.proofs.links.Chains.{left}
 use Rattle.lookup.proofs.links.FollowWays.{Going}

@@ -25,16 +25,16 @@ bucket-b-requires c =
 pub returns-in-Row : goal.returns-in-Row
 returns-in-Row c =
     let a = c.args in
-    let name = c.from.ensures ∙ name_by a.file.now a.rows.now a.i (omega (arith, c.requires.inside)) _ _ c.number.ensures c.number2.ensures in
-    let last = last_from a.file.now c.from.result.now (rows_of a.rows.now) (a.i + 1) in
+    let name = c.from-name.ensures ∙ name_by a.file.now a.rows.now a.i (omega (arith, c.requires.inside)) _ _ c.number.ensures c.number-2.ensures in
+    let last = last_from a.file.now c.from-name.result.now (rows_of a.rows.now) (a.i + 1) in
     let later = follows-row last (length a.rows.now / 4) a.most c.follow.ensures _ c.in-Row.is in
     links-made a.file.now a.rows.now a.i a.most _ _
-    (link-later a.file.now a.rows.now a.i a.heads.now a.next.now c.requires _ c.if1.false name _ later)
+    (link-later a.file.now a.rows.now a.i a.heads.now a.next.now c.requires _ c.if-rows-at-ne-DEFINITION_NAME.false name _ later)
 
 pub returns-in-TooLong : goal.returns-in-TooLong
 returns-in-TooLong c =
     let a = c.args in
-    let last = last_from a.file.now c.from.result.now (rows_of a.rows.now) (a.i + 1) in
+    let last = last_from a.file.now c.from-name.result.now (rows_of a.rows.now) (a.i + 1) in
     links-long a.file.now a.rows.now a.i a.most _ _
     (follows-long last (length a.rows.now / 4) a.most c.follow.ensures c.in-TooLong.is)
 
@@ -53,9 +53,9 @@ overflow_cast-heads c =
 pub returns : goal.returns
 returns c =
     let a = c.args in
-    let name = c.from.ensures ∙ name_by a.file.now a.rows.now a.i (omega (arith, c.requires.inside)) _ _ c.number.ensures c.number2.ensures in
-    let b = c.bucket in
-    let last = last_from a.file.now c.from.result.now (rows_of a.rows.now) (a.i + 1) in
+    let name = c.from-name.ensures ∙ name_by a.file.now a.rows.now a.i (omega (arith, c.requires.inside)) _ _ c.number.ensures c.number-2.ensures in
+    let b = c.bucket-b in
+    let last = last_from a.file.now c.from-name.result.now (rows_of a.rows.now) (a.i + 1) in
     let none = follows-none last (length a.rows.now / 4) a.most c.follow.ensures c.in-Nothing.is in
     links-made a.file.now a.rows.now a.i a.most _ _
-    (link-new a.file.now a.rows.now a.i a.heads.now a.next.now c.requires _ c.if1.false name b.result b.ensures.0 none b.ensures.1)
+    (link-new a.file.now a.rows.now a.i a.heads.now a.next.now c.requires _ c.if-rows-at-ne-DEFINITION_NAME.false name b.result b.ensures.0 none b.ensures.1)

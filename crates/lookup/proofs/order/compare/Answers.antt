@@ -1,6 +1,5 @@
 -- `lookup::order::compare` meets its contract. Assumes nothing.
 use native.Mathlib.Omega.{arith}
-use Prim.Native.Nat.{◌-◌}
 use mathlib.Core.Path.{refl, sym, ◌∙◌}
 use Rattle.lookup.proofs.loops.CompareTurns.{order-on, order-less, order-greater, order-longer, order-shorter, order-end}
 use Rattle.lookup.proofs.order.compare.Goals as goal

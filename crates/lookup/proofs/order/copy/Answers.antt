@@ -1,6 +1,5 @@
 -- `lookup::order::copy` meets its contract. Assumes nothing.
 use native.Mathlib.Omega.{arith}
-use Prim.Native.Nat.{◌-◌}
 use mathlib.Core.Path.{◌≡◌, refl}
 use lib.ListN.{length}
 use Rattle.lookup.proofs.loops.CopyTurns.{copy-on, copied}

@@ -43,13 +43,17 @@ bounds-heads-0 c =
 pub returns-then-heads-m : goal.returns-then-heads-m
 returns-then-heads-m c =
     let a = c.args in
-    (too_few a.rows.now c.gather-m.new.next c.gather-m.result c.gather-m.ensures.0 c.gather-m.ensures.1 a.heads.now c.if-heads-m.true, λ e. absurd (false≢true e))
+    record {
+      value = too_few a.rows.now c.gather-m.new.next c.gather-m.result c.gather-m.ensures.0 c.gather-m.ensures.1 a.heads.now c.if-heads-m.true;
+      ordered = λ e. absurd (false≢true e);
+    }
 
 pub returns : goal.returns
 returns c =
     let a = c.args in
-    let r = room (length a.rows.now / 4) (length a.heads.now) (length a.next.now) c.requires in (
-      enough a.rows.now c.gather-m.new.next c.gather-m.result c.gather-m.ensures.0 c.gather-m.ensures.1 a.heads.now (omega (arith, c.if-heads-m.false)),
-      λ e. filled a.rows.now c.gather-m.new.next c.gather-m.result c.gather-m.ensures.0 c.gather-m.ensures.1
-          a.file.now c.sort.new.spare c.sort.new.a (omega (arith, r.some, c.sort.auto.spare)) c.sort.ensures c.sort.auto.a,
-    )
+    let r = room (length a.rows.now / 4) (length a.heads.now) (length a.next.now) c.requires in
+    record {
+      value = enough a.rows.now c.gather-m.new.next c.gather-m.result c.gather-m.ensures.0 c.gather-m.ensures.1 a.heads.now (omega (arith, c.if-heads-m.false));
+      ordered = λ e. filled a.rows.now c.gather-m.new.next c.gather-m.result c.gather-m.ensures.0 c.gather-m.ensures.1
+          a.file.now c.sort.new.spare c.sort.new.a (omega (arith, r.some, c.sort.auto.spare)) c.sort.ensures c.sort.auto.a;
+    }

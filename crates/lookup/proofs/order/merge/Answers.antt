@@ -1,6 +1,5 @@
 -- `lookup::order::merge` meets its contract. Assumes nothing.
 use native.Mathlib.Omega.{arith}
-use Prim.Native.Nat.{◌-◌}
 use mathlib.Core.Path.{refl, sym, ◌∙◌}
 use Rattle.row.specs.Numbers.{rows_of}
 use Rattle.lookup.specs.Order.{comes}

@@ -1,6 +1,5 @@
 -- `lookup::order::search` meets its contract, by the laws of `SearchTurns`. Assumes nothing.
 use native.Mathlib.Omega.{arith}
-use Prim.Native.Nat.{◌-◌}
 use Rattle.row.specs.Numbers.{rows_of}
 use Rattle.lookup.proofs.sorting.InOrder.{split-all}
 use Rattle.lookup.proofs.loops.SearchTurns.{search-greater, search-less, search-same, search-none, search-inside, search-other, search-row}

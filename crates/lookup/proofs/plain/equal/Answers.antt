@@ -1,6 +1,5 @@
 -- `lookup::plain::equal` meets its contract. Assumes nothing.
 use native.Mathlib.Omega.{arith}
-use Prim.Native.Nat.{◌-◌}
 use mathlib.Core.Path.{refl, sym, ◌∙◌}
 use Rattle.text.proofs.general.SameBytes.{same_length}
 use Rattle.lookup.proofs.bytes.Compared.{same_turn, same_differs, same_end}
