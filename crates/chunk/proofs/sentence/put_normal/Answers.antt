@@ -57,8 +57,8 @@ loop-i-smaller c = omega (arith, c.loop-i-test.true)
 
 pub loop-i-preserved : goal.loop-i-preserved
 loop-i-preserved c =
-    let s = (c.step-s.ensures.puts, c.step-s.ensures.white_value) in
-    laws.says c.loop-i.invariant c.requires.1 c.loop-i-test.true s.0 s.1.0 s.1.1 s.1.2 c.step-s.auto.out
+    let said = c.step-s.ensures.white_value in
+    laws.says c.loop-i.invariant c.requires.1 c.loop-i-test.true c.step-s.ensures.puts said.0 said.1 said.2 c.step-s.auto.out
 
 pub shape_of-out : goal.shape_of-out
 shape_of-out c = c.loop-i.invariant.long

@@ -3,7 +3,6 @@ use Prim.Native.Nat.{ℕ, ◌≤◌}
 use native.Mathlib.Nat.{le_refl}
 use mathlib.Core.Path.{◌≡◌, sym, ap, subst, ◌∙◌}
 use mathlib.Core.Bool.{Bool, ◌&&◌}
-use borrow.Author.Tests.{not-true, not-false}
 use Rattle.text.specs.Utf8.{is_scalar}
 use Rattle.text.specs.Scan.{part, code}
 use Rattle.chunk.specs.Sentence.{unbroken}
@@ -15,14 +14,14 @@ use Rattle.chunk.proofs.sentence.step.Goals as goal
 pub returns-then-not-is_boundary : goal.returns-then-not-is_boundary
 returns-then-not-is_boundary c =
     let a = c.args in
-    let tail = sym c.is_boundary.ensures ∙ not-true c.is_boundary.result c.if-not-is_boundary.true in
+    let tail = sym c.is_boundary.ensures ∙ c.if-not-is_boundary.true in
     let all = laws.stays-tail a.t.now a.i a.to c.requires.0 c.requires.1 a.s.first a.s.white tail in
     record { puts = all.0; white_value = all.1 }
 
 pub returns-then-is_line_end-s : goal.returns-then-is_line_end-s
 returns-then-is_line_end-s c =
     let a = c.args in
-    let first = sym c.is_boundary.ensures ∙ not-false c.is_boundary.result c.if-not-is_boundary.false in
+    let first = sym c.is_boundary.ensures ∙ c.if-not-is_boundary.false in
     let end = ap (λ (x : Bool). x && a.s.white) (sym c.is_line_end.ensures) ∙ c.if-is_line_end-s.true in
     let all = laws.stays-end a.t.now a.i a.to c.requires.0 c.requires.1 a.s.first a.s.white first c.code_at-c.ensures end in
     record { puts = all.0; white_value = all.1 }
@@ -41,7 +40,7 @@ put_cased-at-requires c =
 pub returns : goal.returns
 returns c =
     let a = c.args in
-    let first = sym c.is_boundary.ensures ∙ not-false c.is_boundary.result c.if-not-is_boundary.false in
+    let first = sym c.is_boundary.ensures ∙ c.if-not-is_boundary.false in
     let other = ap (λ (x : Bool). x && a.s.white) (sym c.is_line_end.ensures) ∙ c.if-is_line_end-s.false in
     let all = laws.goes a.t.now a.i a.to c.requires.0 c.requires.1 a.s.first a.s.white first c.code_at-c.ensures other
     c.unbroken-d.ensures c.put_cased-at.ensures.puts c.is_whitespace-white.ensures c.put_cased-at.ensures.upper_bound in
