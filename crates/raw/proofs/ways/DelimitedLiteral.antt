@@ -13,7 +13,7 @@ use Rattle.raw.specs.declared.answer.Step.{Step}
 use Rattle.raw.specs.declared.answer.Step.TheVariants as step
 use Rattle.raw.specs.declared.answer.Answer.{Answer}
 use Rattle.row.specs.Row.{plain, row}
-use Rattle.raw.specs.Reader.{Out, ok, bad, Reader, more, ◌then◌, over}
+use Rattle.raw.specs.Reader.{again, Out, ok, bad, Reader, more, ◌then◌, over}
 use Rattle.raw.specs.Grammar.{quote, quoted, string}
 use Rattle.raw.specs.Says.{step_of, Onward, Within, Says}
 use Rattle.raw.specs.Inner.{literal_of}
@@ -42,6 +42,7 @@ module _ (f g h : Reader) (s : List ℕ) (i : ℕ) (F : Rowless (f s i)) (G : (p
           by : (o : Out) → Rowless o → (r : Step) → r ≡ step_of o → more (row kind.Literal p₁ p₂ ∷ []) o ≡ literal_of p₁ p₂ r
           by (ok q rs) rowless-ok r k = rw k
           by (bad f) rowless-bad r k = rw k
+          by (again _ _ _) x5 r k = elim x5 [ ]
 
 -- a literal goes forward by at least two bytes, one for each delimiter
 pub literal-within : (len p a e base n : ℕ) (r : Step) {b b' : List ℕ} {x : Answer} →

@@ -29,6 +29,10 @@ pub returns : goal.returns
 returns c =
     let a = c.args in
     let blank = c.eat_whitespace-p1.ensures.0 in
-    let off =
-    (elim c.if-p1-s.branch [ then-p1-s+else-b-eq44+else-b-eq125 w ↦ end-off a.s.now a.at blank w.if-p1-s.true w.if-b-eq44.false w.if-b-eq125.false | else-p1-s w ↦ end-end a.s.now a.at blank w.if-p1-s.false ]) in
-    record { says = λ base b. rw c.fault_at.ensures (turn-off off); within = tt }
+    record {
+      says = λ base b. rw c.fault_at.ensures (elim c.if-p1-s.branch [
+        | then-p1-s+else-b-eq44+else-b-eq125 w ↦ turn-off (end-off a.s.now a.at blank w.if-p1-s.true w.if-b-eq44.false w.if-b-eq125.false)
+        | else-p1-s w ↦ turn-off (end-end a.s.now a.at blank w.if-p1-s.false)
+      ]);
+      within = tt;
+    }
