@@ -1,0 +1,7 @@
+-- `command::stack::push` meets its contract. Assumes nothing.
+use mathlib.Core.Path.{refl}
+use Rattle.command.proofs.stacks.LaysLaws as laws
+use Rattle.command.proofs.stack.push.Goals as goal
+
+pub returns : goal.returns
+returns c = record { lays = laws.pushed c.args.out.now c.args.at c.args.b c.requires; value = refl }

@@ -1,0 +1,20 @@
+-- `pack::unpacking::unpack` meets its contract: checked first, written second. Assumes nothing.
+use mathlib.Core.Path.{sym, ◌∙◌}
+use native.Mathlib.Omega.{arith}
+use Rattle.pack.proofs.contracts.Answers.{unpack-done, unpack-full, unpack-bad}
+use Rattle.pack.proofs.unpacking.unpack.Goals as goal
+
+pub returns-then-rows-n : goal.returns-then-rows-n
+returns-then-rows-n c =
+    let a = c.args in
+    unpack-full a.bytes.now a.rows.now (sym c.is_unpackable.ensures ∙ c.if-is_unpackable.true) (omega arith)
+
+pub returns-then-is_unpackable : goal.returns-then-is_unpackable
+returns-then-is_unpackable c =
+    let a = c.args in
+    unpack-done a.bytes.now a.rows.now (sym c.is_unpackable.ensures ∙ c.if-is_unpackable.true) (omega arith) _ c.put_all.ensures
+
+pub returns : goal.returns
+returns c =
+    let a = c.args in
+    unpack-bad a.bytes.now a.rows.now (sym c.is_unpackable.ensures ∙ c.if-is_unpackable.false)

@@ -1,0 +1,8 @@
+-- `turn::turn::ends_text` meets its contract. Assumes nothing.
+use mathlib.Core.Path.{ap}
+use mathlib.Core.Bool.{Bool, ◌||◌}
+use lib.Dec.{eqb}
+use Rattle.turn.proofs.turn.ends_text.Goals as goal
+
+pub returns : goal.returns
+returns c = ap (λ (w : Bool). eqb c.args.b 0x5C || w) c.is_sign.ensures
