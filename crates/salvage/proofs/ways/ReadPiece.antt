@@ -57,12 +57,8 @@ overlay-front base rs b e h =
 
 module _ (w : List ℕ) {base : ℕ} {valid : Bool} (k : PieceToRead w base valid) (b : List ℕ) where
   -- it is known that the piece is UTF-8, or it was checked
-  pub valid-known : not valid ≡ false → Octets w
-  valid-known e = k.known (by valid e)
-    where
-      by : (x : Bool) → not x ≡ false → x ≡ true
-      by true e = refl
-      by false e = let z : ◌≡◌ {A = ℕ} 0 1 = cc in absurd (omega arith)
+  pub valid-known : valid ≡ true → Octets w
+  valid-known e = k.known e
 
   module _ {v : Validity} (d : v ≡ validity_of w) where
     pub valid-checked : v ≡ validity.Valid → Octets w
