@@ -13,8 +13,7 @@ use Rattle.literal.proofs.content.finish.Goals as goal
 pub execute_command-l-requires : goal.execute_command-l-requires
 execute_command-l-requires c =
     let a = c.args in
-    let p = (c.requires.marks_value, c.requires.closes) in
-    let closes = p.1.0 in
+    let closes = c.requires.closes.0 in
     let room = finish-room (length a.s.now) a.st.at a.end a.to a.st.len a.lead a.t.from a.t.len
     c.settle-w.result.at
     (length a.out.now) closes.name closes.from closes.inside closes.first closes.short closes.chunk closes.last
@@ -32,8 +31,8 @@ execute_command-l-requires c =
     let below = lays-below a.t.from _ a.out.now c.settle-w.result.at _ c.settle-w.ensures.lays
     (omega (arith, closes.last, small)) in record {
       marks_value = (
-        p.0.0,
-        subst Sane (sym p.0.1) (meaning-sane (part a.s.now (a.st.at + 1) a.end)),
+        c.requires.marks_value.0,
+        subst Sane (sym c.requires.marks_value.1) (meaning-sane (part a.s.now (a.st.at + 1) a.end)),
         omega (arith, closes.name),
         omega
             (arith, closes.from, closes.inside),
@@ -46,15 +45,14 @@ execute_command-l-requires c =
         omega (arith, room.2, same),
         omega (arith, room.3, same),
         part_same a.out.now _ a.st.len a.lead a.t.from below closes.chunk (omega (arith, closes.last, small))
-            (omega (arith, closes.last, small, same)) ∙ p.1.1,
+            (omega (arith, closes.last, small, same)) ∙ c.requires.closes.1,
       );
     }
 
 pub returns : goal.returns
 returns c =
     let a = c.args in
-    let p = (c.requires.marks_value, c.requires.closes) in
-    let closes = p.1.0 in
+    let closes = c.requires.closes.0 in
     let room = finish-room (length a.s.now) a.st.at a.end a.to a.st.len a.lead a.t.from a.t.len
     c.settle-w.result.at
     (length a.out.now) closes.name closes.from closes.inside closes.first closes.short closes.chunk closes.last
@@ -70,8 +68,8 @@ returns c =
     ) in
     let same = c.settle-w.auto.t in record {
       argument_finished = finished (part a.s.now (a.st.at + 1) a.end) a.m (a.end + 1) a.to a.st a.t a.out.now a.lead
-          c.settle-w.result.at _ c.execute_command-l.result _ c.further.result p.0.1
-          closes.last small closes.first closes.chunk (omega (arith, closes.chunk, closes.last, small)) p.1.1
+          c.settle-w.result.at _ c.execute_command-l.result _ c.further.result c.requires.marks_value.1
+          closes.last small closes.first closes.chunk (omega (arith, closes.chunk, closes.last, small)) c.requires.closes.1
           c.settle-w.ensures.lays (omega (arith, room.1, same)) c.execute_command-l.ensures.lays c.further.ensures;
       at_value = (
         c.further.ensures.at,

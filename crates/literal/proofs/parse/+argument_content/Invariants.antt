@@ -7,18 +7,24 @@ use Rattle.command.specs.Commands.{meaning_of}
 use Rattle.turn.specs.Content.{inside}
 use Rattle.literal.specs.Literal.{resolve_literal}
 use Rattle.literal.specs.Rows.{most_number, most_rows, Pushes}
-use Rattle.literal.specs.Inner.{from, ReadyContent, in_argument, Fits, LastChunkDone, SaysContent, SaysArgument, AheadMade, ReadTo, SaysBegun, ReadyLiteral, SaysParsed, GrowsParsed}
+use Rattle.literal.specs.Inner.{from, AheadState, ReadyContent, in_argument, Fits, LastChunkDone, SaysContent, SaysArgument, AheadMade, ReadTo, SaysBegun, ReadyLiteral, SaysParsed, GrowsParsed}
 use Rattle.turn.specs.Turns.{CommandSpans}
+use mathlib.Core.List.{List}
+use Rattle.literal.specs.declared.content.Made.{Made}
 use Rattle.literal.proofs.parse.+argument_content.Given as goal
 
 abbrev pub decreases-argument : goal.decreases-argument
-decreases-argument l = ?
+decreases-argument l = 2 * l.depth
 
 abbrev pub decreases-content : goal.decreases-content
-decreases-content l = ?
+decreases-content l = 2 * l.depth + 1
 
 abbrev pub invariant-content-loop-out : goal.invariant-content-loop-out
-invariant-content-loop-out l = ?
+invariant-content-loop-out l =
+    AheadState (length l.s) 0 l.initial.st l.st × (length l.out ≡ length l.initial.out) × (length l.numbers ≡ length l.initial.numbers)
+    × ReadyContent l.s l.place l.st l.out l.names l.marks
+    × ((r : Made) (o b : List ℕ) → SaysContent l.place (from (inside l.depth) l.verb l.s l.st) l.st l.out l.numbers r o b
+    → SaysContent l.place (from (inside l.depth) l.verb l.s l.initial.st) l.initial.st l.initial.out l.initial.numbers r o b)
 
 abbrev pub decreases-content-loop-out : goal.decreases-content-loop-out
-decreases-content-loop-out l = ?
+decreases-content-loop-out l = length l.s - l.st.at
