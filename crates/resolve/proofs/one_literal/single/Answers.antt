@@ -1,0 +1,37 @@
+-- `resolve::one_literal::single` meets its contract. Assumes nothing.
+use native.Mathlib.Omega.{arith}
+use mathlib.Core.Path.{subst}
+use Rattle.literal.specs.declared.parse.Begun.{Begun}
+use Rattle.literal.specs.Inner.{SaysBegun}
+use Rattle.resolve.proofs.ways.WriteWays.{whole-writes, answer-bounded}
+use Rattle.resolve.proofs.one_literal.single.Goals as goal
+
+pub one_chunk-requires : goal.one_chunk-requires
+one_chunk-requires c =
+    let a = c.args in
+    let one = subst (λ (r : Begun). SaysBegun a.verbatim a.s.now r c.begin.new.out) c.in-Whole.is c.begin.ensures in
+    (one.few, omega (arith, one.few, c.requires.1.scratch, c.begin.auto.out), omega (arith, c.requires.0), c.requires.0)
+
+pub write-requires : goal.write-requires
+write-requires c =
+    let a = c.args in
+    let p = c.requires in (
+      p.0,
+      record { scratch = omega (arith, p.1.scratch, c.begin.auto.out); names = p.1.names; marks = p.1.marks },
+      subst (λ (r : Begun). SaysBegun a.verbatim a.s.now r c.begin.new.out) c.in-Part.is c.begin.ensures,
+    )
+
+pub returns-in-Whole : goal.returns-in-Whole
+returns-in-Whole c =
+    let a = c.args in
+    let o = c.begin.new.out in
+    let one = subst (λ (r : Begun). SaysBegun a.verbatim a.s.now r o) c.in-Whole.is c.begin.ensures in
+    let w = whole-writes a.verbatim a.s.now c.in-Whole.n a.base o one a.chunks.now a.text.now
+    c.one_chunk.result c.one_chunk.new.chunks c.one_chunk.new.text c.one_chunk.ensures in
+    record { writes = w; bounded_answer = answer-bounded a.verbatim a.s.now a.base c.requires.0 a.chunks.now a.text.now (omega arith) _ _ w }
+
+pub returns-in-Part : goal.returns-in-Part
+returns-in-Part c =
+    let a = c.args in
+    let w = c.write.ensures in
+    record { writes = w; bounded_answer = answer-bounded a.verbatim a.s.now a.base c.requires.0 a.chunks.now a.text.now (omega arith) _ _ w }
