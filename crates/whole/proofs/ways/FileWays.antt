@@ -94,14 +94,14 @@ module _ (file rows flags months words : List ℕ) (w : ℕ) (k : Checked) (c : 
     unfolding are_filed
     filed-as = rw (le, ne)
 
-    pub all-rows : not (lent && leb n (length flags)) ≡ true → all_of file rows flags months words w ≡ none (nowhere BadRows)
+    pub all-rows : (lent && leb n (length flags)) ≡ false → all_of file rows flags months words w ≡ none (nowhere BadRows)
     all-rows h =
-        let e : are_filed file rows flags months words ≡ false = sym filed-as ∙ not-true (lent && leb n (length flags)) h in
+        let e : are_filed file rows flags months words ≡ false = sym filed-as ∙ h in
         after-file ∙ (rw e)
 
-    module _ (good : not (lent && leb n (length flags)) ≡ false) where
+    module _ (good : (lent && leb n (length flags)) ≡ true) where
       filed-good : are_filed file rows flags months words ≡ true
-      filed-good = sym filed-as ∙ not-false (lent && leb n (length flags)) good
+      filed-good = sym filed-as ∙ good
 
       pub filed-asks : (are_lent file rows months words ≡ true) × (values (rows_of rows) ≤ length flags)
       unfolding are_filed

@@ -240,13 +240,13 @@ module _ (t : Totals) (a : Answer) where
 -- ---- the rows in lent numbers
 
 module _ (file rows flags months words : List ℕ) (i : ℕ) (t : Totals) (q b x : List ℕ) (below : i < length rows / 4) (r : Bool)
-    (re : r ≡ is_value_row (row_no (rows_of rows) i)) (no : not r ≡ false)
+    (re : r ≡ is_value_row (row_no (rows_of rows) i)) (no : r ≡ true)
     (fit : fits_all (results (lent_of file rows months words) flags) q b x ≡ true) where
   abbrev l : Lent
   l = lent_of file rows months words
 
   is-value : is_value_row (row_no (rows_of rows) i) ≡ true
-  is-value = sym re ∙ not-false r no
+  is-value = sym re ∙ no
 
   pub here-row : values (rows_of rows) ≤ length flags → CountedTo l flags i t → Here t flags q b x
   here-row h s = here-by l flags i t q b x (inside rows i below) is-value fit s.vs s.so h
