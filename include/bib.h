@@ -178,30 +178,6 @@ uint32_t bib_to_biblatex_string(const uint8_t *text, size_t text_len,
                                 uint8_t *bytes, size_t bytes_len,
                                 uint64_t *count, uint64_t *start, uint64_t *end);
 
-/* Splits chunks into parts along a keyword, as a list of names along "and". The keyword counts where
- * white space stands before and behind it in one Normal chunk. Each part is trimmed: a first chunk that
- * is Normal loses the white space that it begins with, and a last one what it ends with.
- *
- * A part is two numbers of parts: the first of its chunk rows, and the one past its last. Its rows stand
- * in chunks, five numbers each as ever; their texts are ranges of the text that was lent. count is the
- * number of parts: at least 1, also without chunks, where the part is empty. The chunk rows are as many
- * as those lent, and one more for each part but the first. There are at most one part more than
- * n / (keyword_len + 1), where n is the number of bytes of the chunks' texts.
- *
- * Spans are those of the Rust. A Normal chunk's is as long as its text; the span of the next piece of
- * the same chunk begins where the one before ends, before trimming, so that the keyword is not counted.
- * The span of a part's last chunk, if that is not Normal, is empty.
- *
- * Refuses with 2 and 17 as bib_format_verbatim does; with 17 also a keyword that is empty or not UTF-8,
- * a span with a number past 16,777,215, and a Normal chunk whose start and text together pass 32 bits;
- * then with 16. */
-uint32_t bib_split_token_lists_with_kw(const uint8_t *text, size_t text_len,
-                                       const uint32_t *rows, size_t rows_len,
-                                       const uint8_t *keyword, size_t keyword_len,
-                                       uint32_t *parts, size_t parts_len,
-                                       uint32_t *chunks, size_t chunks_len,
-                                       uint64_t *count, uint64_t *start, uint64_t *end);
-
 /* Resolves the literal that stands in a file from one byte up to another: TeX's commands are
  * executed, white space becomes single blanks, and what stood in braces or between dollars becomes
  * chunks of their own. Its chunk rows stand in chunks and their text in text; the spans are bytes of

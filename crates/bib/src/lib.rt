@@ -23,7 +23,6 @@ use resolve::answer::Answer;
 use resolve::one_literal;
 use row::fault;
 use row::fault::Outcome;
-use split::lists;
 use whole::file as whole_file;
 use whole::file::Filed;
 
@@ -204,23 +203,6 @@ pub extern "C" fn bib_to_biblatex_string(
 {
     let written = biblatex::to_biblatex_string(text, rows, verbatim != 0, bytes);
     tell(written, count, start, end)
-}
-
-// Splits chunks into parts along a keyword. `parts` has two numbers for each part, the first of its chunk rows and the one past its last; the rows
-// stand in `chunks`, five numbers to a row, and their texts in `text`.
-#[unsafe(no_mangle)]
-pub extern "C" fn bib_split_token_lists_with_kw(
-    text: &[u8],
-    rows: &[u32],
-    keyword: &[u8],
-    parts: &mut [u32],
-    chunks: &mut [u32],
-    count: &mut u64,
-    start: &mut u64,
-    end: &mut u64,
-) -> u32 {
-    let split = lists::split_token_lists_with_kw(text, rows, keyword, parts, chunks);
-    tell(split, count, start, end)
 }
 
 // Resolves the literal that stands in a file from one place to another, of a verbatim field unless `verbatim` is 0. Its chunk rows stand in

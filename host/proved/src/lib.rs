@@ -4,14 +4,12 @@ mod call;
 mod filing;
 pub mod known;
 mod resolving;
-mod splitting;
 mod writing;
 
 pub use filing::{resolve_file, Filed, LentForFile, ANSWER_NUMBERS};
 pub use resolving::{
     resolve_field, resolve_literal, File, Lent, Resolved, LEAST_SCRATCH, MOST_LITERAL,
 };
-pub use splitting::{split_token_lists_with_kw, PART_NUMBERS};
 pub use writing::{format_sentence, format_verbatim, to_biblatex_string};
 
 use call::{answer, call};
