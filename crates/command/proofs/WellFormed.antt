@@ -1,6 +1,6 @@
 -- What a command writes is UTF-8, and short: `well-formed`.
 -- Assumes nothing.
-use Prim.Native.Nat.{ℕ, suc, ◌+◌, ◌-◌, ◌≤◌, ◌<◌}
+use Prim.Native.Nat.{ℕ, suc, ◌+◌, ◌≤◌, ◌<◌}
 use native.Mathlib.Omega.{arith}
 use mathlib.Core.Path.{◌≡◌, refl}
 use mathlib.Core.Bool.{Bool, true, false, cond}
@@ -11,7 +11,6 @@ use lib.Dec.{eqb}
 use borrow.Author.Tests.{eqb-false}
 use Rattle.text.specs.Range.{within}
 use Rattle.text.specs.Utf8.{tail, is_scalar, octets, Octets, none}
-use Rattle.text.specs.Shapes.{one}
 use Rattle.text.proofs.Shapes.{shapes}
 use Rattle.chunk.specs.Format.{last_from, last_at, last_code}
 use Rattle.compose.specs.declared.Composed.{Composed}

@@ -5,7 +5,7 @@
 --     Counted           what a value came to that was counted and not written
 --     ReadyTables       what the functions require
 -- Assumes nothing.
-use Rattle.std.specs.Prelude.{ℕ, ◌+◌, ◌≤◌, ◌≡◌, Bool, false, not, ◌&&◌, List, ◌++◌, length, leb}
+use Rattle.std.specs.Prelude.{ℕ, ◌≤◌, ◌≡◌, Bool, false, not, ◌&&◌, List, ◌++◌, length, leb}
 use Rattle.std.proofs.lemmas.List.Edits.{sets}
 use Rattle.text.specs.Scan.{part}
 use Rattle.row.specs.declared.fault.Fault.{Fault}

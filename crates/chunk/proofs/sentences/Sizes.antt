@@ -3,7 +3,7 @@
 --     sentence-most, surely-said     two octets for each chunk, and three times its text; so they fit where these do
 --     sentence-octets                what is written of texts that are UTF-8 is UTF-8
 -- Assumes nothing.
-use Prim.Native.Nat.{ℕ, ◌+◌, ◌-◌, ◌*◌, ◌≤◌}
+use Prim.Native.Nat.{ℕ, ◌+◌, ◌*◌, ◌≤◌}
 use native.Mathlib.Omega.{arith}
 use mathlib.Core.Path.{◌≡◌, sym, ap, subst, ◌∙◌}
 use mathlib.Core.Bool.{Bool, true, false, cond, ◌&&◌}
@@ -26,7 +26,7 @@ use Rattle.chunk.specs.Chunk.{Chunk, ChunkRow, chunk_rows, chunk_of, chunks_of}
 use Rattle.chunk.specs.Format.{before, is_line_end}
 use Rattle.chunk.specs.Sentence.{chars, unbroken, sentence_chars, sentence_one, sentence_from, format_sentence}
 use Rattle.chunk.specs.Inner.{most_of}
-use Rattle.chunk.specs.Characters.{Scalars, none, next}
+use Rattle.chunk.specs.Characters.{Scalars, next}
 use Rattle.chunk.specs.WellFormed.{TextsUtf8}
 use Rattle.chunk.specs.WellFormed as texts
 use Rattle.chunk.proofs.texts.Decoded.{decoded}

@@ -2,7 +2,7 @@
 --     begun            the state with which an argument's content begins
 --     finished         what a command makes of its argument when the content is read
 -- Assumes nothing.
-use Prim.Native.Nat.{ℕ, zero, suc, ◌+◌, ◌-◌, ◌*◌, ◌≤◌, ◌<◌, max}
+use Prim.Native.Nat.{ℕ, zero, suc, ◌+◌, ◌*◌, ◌≤◌, ◌<◌, max}
 use native.Mathlib.Omega.{arith}
 use mathlib.Core.Path.{◌≡◌, refl, sym, ap, ap₂, subst, ◌∙◌}
 use mathlib.Core.Bool.{Bool, false}
@@ -21,7 +21,7 @@ use Rattle.command.specs.Commands.{meaning_of}
 use Rattle.command.specs.Execute.{given, leading, executed, execute_command}
 use Rattle.literal.specs.declared.rows.Rows.{Rows}
 use Rattle.literal.specs.declared.making.Making.{Making}
-use Rattle.turn.specs.Content.{Part, State, beginning, steps, pushed, closed, chunks_of}
+use Rattle.turn.specs.Content.{Part, State, beginning, steps, closed, chunks_of}
 use Rattle.literal.specs.Inner.{HoldsState, ArgumentBegun, ArgumentFinished, Further, in_argument, whole_text}
 use Rattle.literal.proofs.ways.MakingWays.{held-text, held_below}
 

@@ -8,7 +8,7 @@
 use Prim.Native.Nat.{ℕ, ◌+◌, ◌*◌, ◌/◌, ◌≤◌, ◌<◌}
 use native.Mathlib.Omega.{arith}
 use mathlib.Core.Path.{◌≡◌, refl, sym, ap, ◌∙◌, subst}
-use mathlib.Core.Bool.{Bool, true, false, not}
+use mathlib.Core.Bool.{Bool, true}
 use mathlib.Core.List.{List}
 use lib.ListN.{length, take, drop}
 use lib.Seq.{take_at}
@@ -31,7 +31,7 @@ use Rattle.raw.specs.Says.{answer_of, RowsLaid, Says, Within}
 use Rattle.raw.proofs.Strict.{strict-reading}
 use Rattle.raw.proofs.Steps.{steps}
 use Rattle.row.proofs.Laid.{laid}
-use Rattle.salvage.specs.Salvage.{damaged, told}
+use Rattle.salvage.specs.Salvage.{damaged}
 use Rattle.salvage.specs.Inner.{PutsPiece, PieceToRead, DamageToWrite}
 use Rattle.salvage.specs.declared.piece.Tally.TheVariants.{Sound, Damaged}
 

@@ -2,7 +2,7 @@
 --     walk_end, walk-answer, walk-pass    at the end of the text, at a look that answers, at a look that passes
 --     walk-keeps                          where every look keeps P, and P leads to Q where the walk ends, Q holds of the answer
 -- Assumes nothing.
-use Prim.Native.Nat.{ℕ, zero, suc, ◌+◌, ◌-◌, ◌≤◌, ◌<◌}
+use Prim.Native.Nat.{ℕ, zero, suc, ◌+◌, ◌≤◌, ◌<◌}
 use mathlib.Core.Path.{◌≡◌, refl, ap, ◌∙◌}
 use mathlib.Core.List.{List, [], ◌∷◌}
 use native.Mathlib.Omega.{arith}

@@ -12,7 +12,7 @@ use mathlib.Core.Bool.{Bool, true, false, not}
 use mathlib.Core.List.{List, [], ◌∷◌, ◌++◌}
 use lib.ListN.{length, take, drop, length-append, length-drop}
 use lib.Seq.{sets}
-use borrow.Author.Tests.{le-leb, not-false}
+use borrow.Author.Tests.{le-leb}
 use borrow.Rule.Slice.PartMut.{mid_of, put_mid}
 use Rattle.chunk.specs.Chunk.{Chunk, flat_chunks}
 use Rattle.literal.specs.Rows.{most_number, most_rows, rows_from, texts_of}

@@ -1,5 +1,4 @@
 -- `chunk::biblatex::write_all` meets its contract. Assumes nothing.
-use Prim.Native.Nat.{◌-◌}
 use native.Mathlib.Omega.{arith}
 use mathlib.Core.Path.{refl, ◌∙◌}
 use Rattle.chunk.proofs.rows.RowCheck.{five}

@@ -1,5 +1,4 @@
 -- `chunk::check::are_chunks` meets its contract. Assumes nothing.
-use Prim.Native.Nat.{◌-◌}
 use mathlib.Core.Path.{sym, ◌∙◌}
 use Rattle.chunk.proofs.rows.RowCheck as laws
 use Rattle.chunk.proofs.check.are_chunks.Goals as goal

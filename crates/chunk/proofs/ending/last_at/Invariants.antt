@@ -1,5 +1,5 @@
 -- The invariants of `chunk::ending::last_at`.
-use Prim.Native.Nat.{◌-◌, ◌≤◌}
+use Prim.Native.Nat.{◌≤◌}
 use mathlib.Core.Path.{◌≡◌}
 use Rattle.text.specs.Scan.{part}
 use Rattle.chunk.specs.Format.{last_at}

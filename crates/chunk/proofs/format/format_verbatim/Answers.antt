@@ -3,7 +3,6 @@ use Prim.Native.Nat.{◌≤◌}
 use native.Mathlib.Omega.{arith}
 use mathlib.Core.Path.{sym, ◌∙◌}
 use lib.ListN.{length}
-use borrow.Author.Tests.{not-false}
 use Rattle.chunk.specs.Chunk.{chunks_of}
 use Rattle.chunk.specs.Format.{format_verbatim}
 use Rattle.chunk.proofs.rows.Answers as laws

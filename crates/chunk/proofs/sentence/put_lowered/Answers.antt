@@ -2,7 +2,6 @@
 use Prim.Native.Nat.{◌+◌, ◌-◌, ◌≤◌, ◌<◌}
 use native.Mathlib.Omega.{arith}
 use mathlib.Core.Path.{◌≡◌, refl, ◌∙◌}
-use mathlib.Core.Bool.{false}
 use lib.ListN.{length, length-set}
 use Rattle.chunk.proofs.texts.Copies as laws
 use Rattle.chunk.proofs.sentence.put_lowered.Goals.{else-room-n, then-room-n}

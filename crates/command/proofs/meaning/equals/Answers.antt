@@ -1,5 +1,5 @@
 -- `command::meaning::equals` meets its contract. Assumes nothing.
-use Prim.Native.Nat.{ℕ, ◌+◌, ◌-◌}
+use Prim.Native.Nat.{ℕ, ◌+◌}
 use mathlib.Core.Path.{sym, ap, ◌∙◌}
 use Rattle.text.specs.Scan.{part}
 use Rattle.text.specs.SameBytes.{same_bytes}

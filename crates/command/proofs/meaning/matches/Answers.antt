@@ -1,5 +1,4 @@
 -- `command::meaning::matches` meets its contract. Assumes nothing.
-use Prim.Native.Nat.{◌-◌}
 use native.Mathlib.Omega.{arith}
 use mathlib.Core.Path.{sym, ◌∙◌}
 use Rattle.command.proofs.ways.MeaningRows as laws

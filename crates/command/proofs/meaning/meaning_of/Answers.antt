@@ -1,5 +1,4 @@
 -- `command::meaning::meaning_of` meets its contract. Assumes nothing.
-use Prim.Native.Nat.{◌-◌}
 use native.Mathlib.Omega.{arith}
 use mathlib.Core.Path.{refl, ap, ◌∙◌}
 use Rattle.text.proofs.general.Parts.{length_part}

@@ -1,5 +1,4 @@
 -- `command::settle::shift` meets its contract. Assumes nothing.
-use Prim.Native.Nat.{◌-◌}
 use native.Mathlib.Omega.{arith}
 use mathlib.Core.Path.{refl}
 use Rattle.command.proofs.ways.SettleWays as laws

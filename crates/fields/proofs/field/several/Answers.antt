@@ -5,7 +5,6 @@ use mathlib.Core.Path.{refl, subst, ap, ◌∙◌}
 use mathlib.Core.Bool.{not}
 use mathlib.Core.List.{[]}
 use lib.ListN.{drop}
-use borrow.Author.Tests.{not-false}
 use Rattle.row.specs.Numbers.{rows_of}
 use Rattle.row.specs.Limits.{most_open}
 use Rattle.resolve.specs.Checks.{lent_of}

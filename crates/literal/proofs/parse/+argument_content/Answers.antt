@@ -1,20 +1,18 @@
 -- `literal::parse::content` and `literal::parse::argument`, which call each other, meet their contracts: `argument` calls `content` with a
 -- smaller depth, and `content` calls `argument` with its own. What falls is twice the depth, and one more for `content`. Assumes nothing.
-use Prim.Native.Nat.{◌+◌, ◌-◌}
+use Prim.Native.Nat.{◌+◌}
 use native.Mathlib.Omega.{arith}
 use mathlib.Core.Path.{◌≡◌, refl, sym, subst, ◌∙◌}
 use lib.ListN.{length, take, get_or}
-use borrow.Fn.PlainCycle.{is}
 use Rattle.text.specs.Scan.{part}
 use Rattle.turn.specs.Content.{inside}
-use Rattle.literal.specs.Inner.{AheadMade, from}
+use Rattle.literal.specs.Inner.{AheadMade}
 use Rattle.turn.specs.Turns.{GrowsText}
 use Rattle.literal.proofs.ways.MakingWays.{no_text}
 use Rattle.turn.proofs.Turning.{turning}
 use Rattle.literal.proofs.ways.StepWays.{text-put, ahead-further}
 use Rattle.literal.proofs.ways.ContentWays as ways
 use Rattle.literal.proofs.ways.NestedWays as nested
-use Rattle.literal.proofs.parse.argument.Reads as argument
 use Rattle.literal.proofs.parse.+argument_content.Goals as goal
 
 pub argument-returns-then-depth-eq0 : goal.argument-returns-then-depth-eq0

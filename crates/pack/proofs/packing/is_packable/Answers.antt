@@ -1,5 +1,4 @@
 -- `pack::packing::is_packable` meets its contract: each turn of the loop judges a row. Assumes nothing.
-use Prim.Native.Nat.{◌-◌}
 use native.Mathlib.Omega.{arith}
 use Rattle.row.proofs.Laid.{laid}
 use Rattle.pack.proofs.loops.Judging.{judge-row, judge-off, judge-end, four-count, four-start}

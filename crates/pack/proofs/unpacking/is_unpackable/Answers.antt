@@ -1,5 +1,4 @@
 -- `pack::unpacking::is_unpackable` meets its contract: each turn of the loop judges a row. Assumes nothing.
-use Prim.Native.Nat.{◌-◌}
 use native.Mathlib.Omega.{arith}
 use borrow.Author.Tests.{le-leb, lt-leb}
 use Rattle.row.specs.Limits.{most_bytes}

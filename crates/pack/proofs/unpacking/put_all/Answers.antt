@@ -1,5 +1,5 @@
 -- `pack::unpacking::put_all` meets its contract: each turn of the loop lays the next row over the lent numbers. Assumes nothing.
-use Prim.Native.Nat.{◌+◌, ◌/◌, ◌%◌, ◌-◌}
+use Prim.Native.Nat.{◌+◌, ◌/◌, ◌%◌}
 use mathlib.Core.Path.{refl, ◌∙◌}
 use native.Mathlib.Omega.{arith}
 use lib.ListN.{get_or}

@@ -1,5 +1,4 @@
 -- `raw::entry::spells` meets its contract: a letter of the word is one byte. Assumes nothing.
-use Prim.Native.Nat.{◌-◌}
 use mathlib.Core.Path.{sym, ap, ◌∙◌}
 use native.Mathlib.Omega.{arith}
 use Rattle.raw.specs.Grammar.{spells}

@@ -1,5 +1,4 @@
 -- `raw::field::fields` meets its contract: each turn of the loop is one of `many`. Assumes nothing.
-use Prim.Native.Nat.{◌-◌}
 use mathlib.Core.Path.{refl, ◌∙◌}
 use native.Mathlib.Omega.{arith}
 use lib.ListN.{length}

@@ -1,5 +1,4 @@
 -- `raw::file::parse` meets its contract: each turn of the loop is a turn of `file`. Assumes nothing.
-use Prim.Native.Nat.{◌-◌}
 use mathlib.Core.Path.{refl, ◌∙◌}
 use native.Mathlib.Omega.{arith}
 use lib.ListN.{length}

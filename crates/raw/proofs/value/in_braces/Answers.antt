@@ -1,6 +1,5 @@
 -- `raw::value::in_braces` meets its contract: a byte is a turn of `braced_turn`, over a character or an octet of one; a run of plain bytes
 -- is as many turns. Assumes nothing.
-use Prim.Native.Nat.{◌-◌}
 use native.Mathlib.Omega.{arith}
 use Rattle.raw.proofs.ways.ByteLoops.{reached}
 use Rattle.raw.proofs.ways.ByteTurns.{braces-end, braces-open, braces-close, braces-closed, braces-plain}

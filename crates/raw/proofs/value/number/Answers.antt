@@ -1,5 +1,4 @@
 -- `raw::value::number` meets its contract: each byte is a turn of `number_turn`. Assumes nothing.
-use Prim.Native.Nat.{◌-◌}
 use native.Mathlib.Omega.{arith}
 use Rattle.raw.proofs.ways.ByteLoops.{reached}
 use Rattle.raw.proofs.ways.ByteTurns.{number-end, number-digit, number-point, number-again, number-done}

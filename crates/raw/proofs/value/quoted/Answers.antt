@@ -1,6 +1,5 @@
 -- `raw::value::quoted` meets its contract: a byte, or a backslash with the byte after it, is a turn of `quoted_turn`; a run of bytes is as
 -- many turns. Assumes nothing.
-use Prim.Native.Nat.{◌-◌}
 use native.Mathlib.Omega.{arith}
 use Rattle.raw.proofs.ways.ByteLoops.{reached}
 use Rattle.raw.proofs.ways.ByteTurns.{quoted-closed, quoted-plain}

@@ -1,5 +1,4 @@
 -- `raw::value::quoted_end` meets its contract: a byte is a turn of `quoted_turn`, over a character or an octet of one. Assumes nothing.
-use Prim.Native.Nat.{◌-◌}
 use native.Mathlib.Omega.{arith}
 use Rattle.raw.proofs.ways.ByteLoops.{reached}
 use Rattle.raw.proofs.ways.ByteTurns.{quoted-end, quoted-closed, quoted-cut, quoted-escape, quoted-plain}

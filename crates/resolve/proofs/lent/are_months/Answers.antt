@@ -1,5 +1,4 @@
 -- `resolve::lent::are_months` meets its contract. Assumes nothing.
-use Prim.Native.Nat.{◌-◌}
 use native.Mathlib.Omega.{arith}
 use mathlib.Core.Path.{sym, ◌∙◌}
 use Rattle.resolve.proofs.lending.CheckWays.{month-pass, month-not, month-end, count-not, count-whole}

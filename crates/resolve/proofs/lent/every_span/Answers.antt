@@ -1,5 +1,4 @@
 -- `resolve::lent::every_span` meets its contract. Assumes nothing.
-use Prim.Native.Nat.{◌-◌}
 use native.Mathlib.Omega.{arith}
 use mathlib.Core.Path.{refl, sym, ◌∙◌}
 use Rattle.resolve.proofs.lending.CheckWays.{span-pass, span-not, span-end}

@@ -1,5 +1,4 @@
 -- `row::check::check` meets its contract. Assumes nothing.
-use Prim.Native.Nat.{◌-◌}
 use mathlib.Core.Path.{refl}
 use native.Mathlib.Omega.{arith}
 use Rattle.row.proofs.rules.CheckTurns.{turn, named_value, named_other, ended, bad-rows, bad-count}

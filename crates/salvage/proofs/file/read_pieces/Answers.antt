@@ -1,6 +1,5 @@
 -- `salvage::file::read_pieces` meets its contract: the rows of the pieces read so far, and then those of the pieces that are left, are the
 -- rows of the file. Assumes nothing.
-use Prim.Native.Nat.{◌-◌}
 use native.Mathlib.Omega.{arith}
 use Rattle.salvage.proofs.ways.PieceLoop.{going_start, going-asks, going-sound, going-damaged, gone-sound, gone-damaged}
 use Rattle.salvage.proofs.file.read_pieces.Goals as goal

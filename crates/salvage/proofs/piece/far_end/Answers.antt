@@ -1,5 +1,4 @@
 -- `salvage::piece::far_end` meets its contract: the bytes before `i` belong to the piece from `at` on. Assumes nothing.
-use Prim.Native.Nat.{◌-◌}
 use native.Mathlib.Omega.{arith}
 use Rattle.salvage.proofs.ways.PieceEnd.{found-last, found-head, found-on}
 use Rattle.salvage.proofs.piece.far_end.Goals as goal

@@ -1,5 +1,4 @@
 -- `text::block::find` meets its contract. Assumes nothing.
-use Prim.Native.Nat.{◌-◌}
 use native.Mathlib.Omega.{arith}
 use Rattle.text.proofs.scanning.Blocks.{clear-join, clear-as, lacking, lacking-more, found_at}
 use Rattle.text.proofs.block.find.Goals as goal

@@ -1,5 +1,4 @@
 -- `text::block::is_ascii` meets its contract. Assumes nothing.
-use Prim.Native.Nat.{◌-◌}
 use native.Mathlib.Omega.{arith}
 use borrow.Author.Tests.{ltb-true}
 use Rattle.text.proofs.scanning.Blocks.{least_more, least-done}

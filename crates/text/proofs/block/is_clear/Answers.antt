@@ -1,5 +1,5 @@
 -- `text::block::is_clear` meets its contract. Assumes nothing.
-use Prim.Native.Nat.{◌+◌, ◌-◌}
+use Prim.Native.Nat.{◌+◌}
 use native.Mathlib.Omega.{arith}
 use borrow.Author.Tests.{ltb-true}
 use Rattle.text.proofs.scanning.Blocks.{away-more, away-done}

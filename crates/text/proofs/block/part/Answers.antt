@@ -1,5 +1,5 @@
 -- `text::block::part` meets its contract. Assumes nothing.
-use Prim.Native.Nat.{◌+◌, ◌-◌}
+use Prim.Native.Nat.{◌+◌}
 use native.Mathlib.Omega.{arith}
 use Rattle.text.proofs.scanning.Blocks.{before_more, ClearAt, part-done}
 use Rattle.text.proofs.block.part.Goals as goal

@@ -1,5 +1,4 @@
 -- `text::block::past_ascii` meets its contract. Assumes nothing.
-use Prim.Native.Nat.{◌-◌}
 use native.Mathlib.Omega.{arith}
 use Rattle.text.proofs.scanning.Blocks.{clear_none, clear-join, clear-as}
 use Rattle.text.proofs.block.past_ascii.Goals as goal

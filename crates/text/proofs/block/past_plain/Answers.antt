@@ -1,5 +1,4 @@
 -- `text::block::past_plain` meets its contract. Assumes nothing.
-use Prim.Native.Nat.{◌-◌}
 use native.Mathlib.Omega.{arith}
 use Rattle.text.proofs.scanning.Blocks.{plain-none, plain-meet, plain-join, plain-block}
 use Rattle.text.proofs.block.past_plain.Goals as goal

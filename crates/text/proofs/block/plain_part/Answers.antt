@@ -1,5 +1,4 @@
 -- `text::block::plain_part` meets its contract. Assumes nothing.
-use Prim.Native.Nat.{◌-◌}
 use native.Mathlib.Omega.{arith}
 use Rattle.text.proofs.scanning.Blocks.{before_more, PlainAt, plain_done}
 use Rattle.text.proofs.block.plain_part.Goals as goal

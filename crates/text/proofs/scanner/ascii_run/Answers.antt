@@ -1,5 +1,4 @@
 -- `text::scanner::ascii_run` meets its contract. Assumes nothing.
-use Prim.Native.Nat.{◌-◌}
 use mathlib.Core.Path.{sym, ap, ◌∙◌}
 use mathlib.Core.Bool.{Bool, beq}
 use native.Mathlib.Omega.{arith}

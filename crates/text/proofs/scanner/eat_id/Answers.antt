@@ -1,5 +1,4 @@
 -- `text::scanner::eat_id` meets its contract. Assumes nothing.
-use Prim.Native.Nat.{◌-◌}
 use mathlib.Core.Path.{refl, sym, ◌∙◌}
 use native.Mathlib.Omega.{arith}
 use Rattle.text.specs.Class.{is_id_continue, holds_of}

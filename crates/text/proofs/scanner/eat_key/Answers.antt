@@ -1,5 +1,4 @@
 -- `text::scanner::eat_key` meets its contract. Assumes nothing.
-use Prim.Native.Nat.{◌-◌}
 use mathlib.Core.Path.{refl, sym, ◌∙◌}
 use native.Mathlib.Omega.{arith}
 use Rattle.text.proofs.scanning.AsciiLoops.{key-on, key-stop}

@@ -1,5 +1,4 @@
 -- `text::scanner::eat_letters` meets its contract. Assumes nothing.
-use Prim.Native.Nat.{◌-◌}
 use mathlib.Core.Path.{sym, ◌∙◌}
 use native.Mathlib.Omega.{arith}
 use Rattle.text.proofs.scanning.AsciiLoops.{letters-none, letters-more}

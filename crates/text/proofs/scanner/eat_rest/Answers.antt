@@ -1,5 +1,4 @@
 -- `text::scanner::eat_rest` meets its contract: a turn of the loop is one or more turns of `skip`. One proof serves every test. Assumes nothing.
-use Prim.Native.Nat.{◌-◌}
 use mathlib.Core.Path.{refl, sym, ◌∙◌}
 use native.Mathlib.Omega.{arith}
 use Rattle.text.specs.Inner.{wants}

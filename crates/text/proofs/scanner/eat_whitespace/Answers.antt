@@ -1,9 +1,6 @@
 -- `text::scanner::eat_whitespace` meets its contract. Assumes nothing.
-use Prim.Native.Nat.{◌-◌}
-use mathlib.Core.Logic.{⊎_elim}
 use mathlib.Core.Path.{refl, sym, ◌∙◌}
 use native.Mathlib.Omega.{arith}
-use borrow.Author.Tests.{not-false}
 use Rattle.text.proofs.scanning.AsciiLoops.{space-on, tab-on, solid-stop}
 use Rattle.text.proofs.scanning.Skip.{skip-end, ran}
 use Rattle.text.specs.Class.{is_whitespace, holds_of}

@@ -1,5 +1,5 @@
 -- `text::utf8::validate` meets its contract: a turn of the loop is one look of the walk, or one for each octet of a run of ASCII. Assumes nothing.
-use Prim.Native.Nat.{◌+◌, ◌-◌, ◌≤◌}
+use Prim.Native.Nat.{◌+◌, ◌≤◌}
 use mathlib.Core.Path.{refl, sym, ◌∙◌}
 use native.Mathlib.Omega.{arith}
 use lib.ListN.{length}

@@ -1,5 +1,4 @@
 -- `text::utf8::wide_at` meets its contract: each turn of the loop is a look of the walk, at an octet of ASCII. Assumes nothing.
-use Prim.Native.Nat.{◌-◌}
 use mathlib.Core.Path.{refl, ◌∙◌}
 use native.Mathlib.Omega.{arith}
 use Rattle.text.proofs.sequences.ValidateLoop.{valid-one}

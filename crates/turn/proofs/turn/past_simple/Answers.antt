@@ -1,5 +1,4 @@
 -- `turn::turn::past_simple` meets its contract. The invariant: the run goes up to `i`. Assumes nothing.
-use Prim.Native.Nat.{◌-◌}
 use mathlib.Core.Path.{sym, ◌∙◌}
 use Rattle.turn.proofs.ways.SimpleBytes.{plain-on}
 use Rattle.turn.proofs.turn.past_simple.Goals as goal

@@ -1,5 +1,4 @@
 -- `turn::turn::run` meets its contract. The invariant: every turn before `i` copies what stands there. Assumes nothing.
-use Prim.Native.Nat.{◌-◌}
 use native.Mathlib.Omega.{arith}
 use Rattle.turn.proofs.ways.TextTurns.{runs_none, runs_on, runs-words}
 use Rattle.turn.proofs.turn.run.Goals as goal

@@ -1,5 +1,4 @@
 -- `turn::turn::texts` meets its contract. The invariant: the turns before `i` wrote text, which ends at `l`. Assumes nothing.
-use Prim.Native.Nat.{◌-◌}
 use native.Mathlib.Omega.{arith}
 use mathlib.Core.Path.{refl, sym, ◌∙◌}
 use lib.ListN.{length}

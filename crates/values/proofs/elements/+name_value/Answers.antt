@@ -4,7 +4,6 @@ use Prim.Native.Nat.{◌-◌, ◌/◌}
 use native.Mathlib.Omega.{arith}
 use mathlib.Core.Path.{refl, sym, subst, ◌∙◌}
 use lib.ListN.{length, take, length-set}
-use borrow.Fn.PlainCycle.{is}
 use Rattle.row.specs.declared.form.Kind.TheVariants.{Name}
 use Rattle.row.specs.Row.{row}
 use Rattle.row.specs.Limits.{most_open}
@@ -15,8 +14,6 @@ use Rattle.values.specs.Field.{meaning_of}
 use Rattle.values.specs.Uses.{RowInside}
 use Rattle.values.proofs.ways.ElementWays as ways
 use Rattle.values.proofs.ways.NameWays as names
-use Rattle.values.proofs.elements.name.Reads as name
-use Rattle.values.proofs.elements.value.Reads as value
 use Rattle.values.proofs.elements.+name_value.Goals as goal
 
 pub name-meaning_of-m-requires : goal.name-meaning_of-m-requires

@@ -1,5 +1,4 @@
 -- `values::elements::on_path` meets its contract. Assumes nothing.
-use Prim.Native.Nat.{◌-◌}
 use native.Mathlib.Omega.{arith}
 use mathlib.Core.Path.{refl, sym, ◌∙◌}
 use Rattle.values.proofs.naming.OpenWays.{path-hit, path-on, path-end}

@@ -1,5 +1,4 @@
 -- `values::months::find_month` meets its contract. Assumes nothing.
-use Prim.Native.Nat.{◌-◌}
 use native.Mathlib.Omega.{arith}
 use mathlib.Core.Path.{sym, ◌∙◌}
 use Rattle.values.proofs.naming.MonthSearch.{seek-starts, seek-word, seek_hit, seek-on, seek-none}

@@ -1,5 +1,4 @@
 -- `whole::bound::most_of_months` meets its contract. Assumes nothing.
-use Prim.Native.Nat.{◌-◌}
 use native.Mathlib.Omega.{arith}
 use Rattle.whole.specs.declared.bound.Most.TheVariants as most
 use Rattle.whole.proofs.counting.NamesMost.{months-start, months-on}

@@ -1,7 +1,6 @@
 -- The invariants of `whole::bound::most_of_months`.
 use Prim.Native.Nat.{◌-◌, ◌/◌, ◌≤◌}
 use lib.ListN.{length}
-use Rattle.whole.specs.declared.bound.Most.TheVariants as most
 use Rattle.whole.specs.Bounds.{SmallMost}
 use Rattle.whole.proofs.counting.NamesMost.{MonthsTo}
 use Rattle.whole.proofs.bound.most_of_months.Given as goal

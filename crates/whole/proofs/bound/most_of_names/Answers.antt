@@ -1,5 +1,4 @@
 -- `whole::bound::most_of_names` meets its contract. Assumes nothing.
-use Prim.Native.Nat.{◌-◌}
 use native.Mathlib.Omega.{arith}
 use Rattle.row.specs.Numbers.{rows_of}
 use Rattle.whole.proofs.counting.NamesMost.{months-wider, defined-start, defined-on, defined-other, names-end}

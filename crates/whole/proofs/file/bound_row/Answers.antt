@@ -3,7 +3,6 @@ use Prim.Native.Nat.{◌+◌}
 use native.Mathlib.Omega.{arith}
 use mathlib.Core.Path.{subst}
 use lib.ListN.{drop}
-use borrow.Author.Tests.{not-true, not-false}
 use Rattle.row.specs.Numbers.{rows_of}
 use Rattle.resolve.specs.Checks.{lent_of}
 use Rattle.whole.specs.Bounds.{MostOf, SmallMost}

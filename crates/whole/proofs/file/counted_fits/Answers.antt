@@ -1,8 +1,7 @@
 -- `whole::file::counted_fits` meets its contract. Assumes nothing.
-use Prim.Native.Nat.{◌+◌, ◌-◌}
+use Prim.Native.Nat.{◌+◌}
 use native.Mathlib.Omega.{arith}
 use mathlib.Core.Path.{refl, ◌∙◌}
-use borrow.Author.Tests.{not-true}
 use Rattle.resolve.specs.Checks.{lent_of}
 use Rattle.whole.specs.WholeFile.{results}
 use Rattle.whole.proofs.counting.RowKinds.{inside, past}

@@ -1,7 +1,6 @@
 -- `whole::file::indexed` meets its contract. Assumes nothing.
 use native.Mathlib.Omega.{arith}
 use mathlib.Core.Path.{sym, ◌∙◌}
-use borrow.Author.Tests.{not-true, not-false}
 use Rattle.resolve.specs.Checks.{lent_of}
 use Rattle.whole.specs.WholeFile.{results}
 use Rattle.whole.proofs.ways.FileWays.{file-full, file-wrote}

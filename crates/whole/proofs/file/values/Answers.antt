@@ -1,5 +1,4 @@
 -- `whole::file::values` meets its contract. Assumes nothing.
-use Prim.Native.Nat.{◌-◌}
 use native.Mathlib.Omega.{arith}
 use Rattle.row.specs.Numbers.{rows_of}
 use Rattle.whole.proofs.counting.RowKinds.{inside, past, values-on, values_other, values-end}

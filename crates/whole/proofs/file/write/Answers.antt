@@ -1,5 +1,4 @@
 -- `whole::file::write` meets its contract. Assumes nothing.
-use Prim.Native.Nat.{◌-◌}
 use native.Mathlib.Omega.{arith}
 use mathlib.Core.Path.{refl, ◌∙◌}
 use Rattle.resolve.specs.Checks.{lent_of}

@@ -1,7 +1,6 @@
 -- `whole::file::write_row` meets its contract. Assumes nothing.
 use native.Mathlib.Omega.{arith}
 use mathlib.Core.Path.{sym, ◌∙◌}
-use borrow.Author.Tests.{not-true}
 use Rattle.resolve.specs.Checks.{lent_of}
 use Rattle.whole.proofs.counting.RowKinds.{inside}
 use Rattle.whole.proofs.ways.ValueWays as ways
