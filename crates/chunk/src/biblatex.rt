@@ -2,7 +2,7 @@
 ghost use Rattle.std.specs.Prelude.{◌≡◌, true, [], ◌∷◌, ◌+◌, ◌*◌, ◌≤◌, ◌<◌, length};
 ghost use Rattle.text.specs.Scan.{part};
 ghost use Rattle.chunk.specs.Chunk.{are_chunks, chunks_of};
-ghost use Rattle.chunk.specs.Format.{is_escapable, escaped as escapedOf, opening, extra_after, body_of, closing, to_biblatex_string};
+ghost use Rattle.chunk.specs.Format.{is_escapable, escaped as escaped_of, opening, extra_after, body_of, closing, to_biblatex_string};
 ghost use Rattle.chunk.specs.Put.{last_place, most_room, Puts, Fills};
 ghost use Rattle.chunk.specs.Write.{ToBiblatexString};
 
@@ -32,7 +32,7 @@ pub fn is_escapable(c: u32, verb: bool, read: bool) -> bool
 // Puts one byte, with a backslash before it where it needs one.
 fn escape(b: u8, verb: bool, out: &mut [u8], at: usize) -> usize
     requires { at + 2 ≤ last_place }
-    ensures puts { Puts out.old at (escapedOf verb (b ∷ [])) result out.new }
+    ensures puts { Puts out.old at (escaped_of verb (b ∷ [])) result out.new }
     ensures upper_bound { result ≤ at + 2 }
 {
     if is_escapable(b as u32, verb, false) {
@@ -45,7 +45,7 @@ fn escape(b: u8, verb: bool, out: &mut [u8], at: usize) -> usize
 // Puts a text, with a backslash before each character that needs one.
 fn escaped(t: &[u8], from: usize, to: usize, verb: bool, out: &mut [u8], at: usize) -> usize
     requires { (from ≤ to) × (to ≤ length t.now) × (at + 2 * to ≤ last_place) }
-    ensures puts { Puts out.old at (escapedOf verb (part t.now from to)) result out.new }
+    ensures puts { Puts out.old at (escaped_of verb (part t.now from to)) result out.new }
     ensures upper_bound { result ≤ at + 2 * to }
 {
     let mut i = from;

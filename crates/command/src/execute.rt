@@ -7,7 +7,7 @@ ghost use Rattle.compose.specs.Composites.{composites};
 ghost use Rattle.compose.specs.Lookup.{numbers};
 ghost use Rattle.command.specs.Stack.{Lays};
 ghost use Rattle.command.specs.Commands.{is_single_char_func};
-ghost use Rattle.command.specs.Execute.{dotted as dottedOf, bare as bareOf, last_char_combine, given, absent, leading, Sane, executed};
+ghost use Rattle.command.specs.Execute.{dotted as dotted_of, bare as bare_of, last_char_combine, given, absent, leading, Sane, executed};
 
 use crate::meaning::Meaning;
 use crate::stack;
@@ -40,7 +40,7 @@ pub fn is_single_char_func(c: u32, ws: bool) -> bool
 }
 
 fn dotted(c: u32) -> u32
-    ensures { result ≡ dottedOf c }
+    ensures { result ≡ dotted_of c }
 {
     match c {
         0x131 => 0x69,
@@ -50,7 +50,7 @@ fn dotted(c: u32) -> u32
 }
 
 fn bare(mark: u32) -> u32
-    ensures { result ≡ bareOf mark }
+    ensures { result ≡ bare_of mark }
 {
     match mark {
         0x302 => 0x5e,

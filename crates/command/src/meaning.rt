@@ -3,7 +3,7 @@ ghost use Rattle.std.specs.Prelude.{◌≡◌, [], ◌∷◌, ◌+◌, ◌≤◌
 ghost use Rattle.text.specs.Scan.{part};
 ghost use Rattle.text.specs.SameBytes.{same_bytes};
 ghost use Rattle.command.specs.Commands.{meaning_of};
-ghost use Rattle.command.specs.Names.{code_of, decoded, names as allNames, SpanOf};
+ghost use Rattle.command.specs.Names.{code_of, decoded, names as all_names, SpanOf};
 
 #[derive(Clone, Copy)]
 pub enum Meaning {
@@ -136,7 +136,7 @@ fn span_of(n: usize) -> Span
 
 // What the name from one place to another means.
 pub fn meaning_of(names: &[u8], s: &[u8], a: usize, e: usize) -> Meaning
-    requires { (names.now ≡ allNames) × (a ≤ e) × (e ≤ length s.now) }
+    requires { (names.now ≡ all_names) × (a ≤ e) × (e ≤ length s.now) }
     ensures { result ≡ meaning_of (part s.now a e) }
 {
     let n = e - a;

@@ -1,6 +1,6 @@
 // The list of commands as bytes, in the form of specs/Names.antt. The proof of `names` holds it to the list of specs/Commands.antt.
 ghost use Rattle.std.specs.Prelude.{◌≡◌};
-ghost use Rattle.command.specs.Names.{names as allNames};
+ghost use Rattle.command.specs.Names.{names as all_names};
 
 const NAMES: [u8; 901] = [
     5, 32, 0, 0, 76, 97, 84, 101, 88, 3, 32, 0, 0, 84, 101, 88, 10, 0, 32, 19, 116, 101, 120, 116,
@@ -50,7 +50,7 @@ const NAMES: [u8; 901] = [
 
 // The list, made once by whoever reads contents and lent to `meaning_of`.
 pub fn names() -> [u8; 901]
-    ensures { result ≡ allNames }
+    ensures { result ≡ all_names }
 {
     NAMES
 }

@@ -16,9 +16,9 @@ value_at file rows which verb months words w =
     asked file (is_right file rows which months words) w (field_of (lent_of file rows months words) verb which)
 
 -- what is required where the value of row i is counted or written
-pub record Resolving (file rows months words heads next w byName byMark : List ℕ) (i : ℕ) : Type 0 where
+pub record Resolving (file rows months words heads next w by_name by_mark : List ℕ) (i : ℕ) : Type 0 where
   pub short : length file ≤ most_bytes
   pub lent : are_lent file rows months words ≡ true
   pub index : Indexed file rows heads next
-  pub ready : ReadyTables w byName byMark
+  pub ready : ReadyTables w by_name by_mark
   pub which : i < length rows / 4

@@ -19,7 +19,7 @@ use Rattle.compose.specs.Lookup.{numbers}
 use Rattle.compose.specs.Composites.{composites}
 use Rattle.command.specs.declared.meaning.Meaning.{Meaning}
 use Rattle.command.specs.Stack.{Lays, default_chunk}
-use Rattle.command.specs.Names.{names as allNames}
+use Rattle.command.specs.Names.{names as all_names}
 use Rattle.command.specs.Execute.{given, execute_command, leading}
 use Rattle.literal.specs.declared.rows.Rows.{Rows}
 use Rattle.literal.specs.declared.making.Making.{Making}
@@ -27,7 +27,7 @@ use Rattle.literal.specs.declared.making.Place.{Place}
 use Rattle.literal.specs.declared.content.Made.{Made}
 use Rattle.literal.specs.declared.content.Made.TheVariants as made
 use Rattle.literal.specs.declared.content.SignEnd.{SignEnd}
-use Rattle.literal.specs.declared.content.SignEnd.TheVariants as signEnd
+use Rattle.literal.specs.declared.content.SignEnd.TheVariants as sign_end
 use Rattle.literal.specs.declared.parse.Begun.{Begun}
 use Rattle.literal.specs.declared.parse.Begun.TheVariants as begun
 use Rattle.literal.specs.declared.parse.Parsed.{Parsed}
@@ -124,8 +124,8 @@ pub record SignTurn (verb : Bool) (s : List ℕ) (p d q e : ℕ) : Type 0 where
 
 -- where a sign ends, or why it is refused
 abbrev pub SignEnds : Bool → List ℕ → ℕ → ℕ → SignEnd → Type 0
-SignEnds verb s p d (signEnd.At q e) = SignTurn verb s p d q e
-SignEnds verb s p d (signEnd.Refused f) = ((argument : Reader) → content_turn argument verb d s p ≡ bad f) × Placed (length s) f
+SignEnds verb s p d (sign_end.At q e) = SignTurn verb s p d q e
+SignEnds verb s p d (sign_end.Refused f) = ((argument : Reader) → content_turn argument verb d s p ≡ bad f) × Placed (length s) f
 
 -- a turn that ends a chunk
 abbrev pub SaysSign : Place → Bool → List ℕ → Making → List ℕ → List ℕ → Made → List ℕ → List ℕ → Type 0
@@ -267,9 +267,9 @@ GrowsParsed have (parsed.Chunks k len) = (len ≤ least_scratch) × (k.n ≤ hav
 GrowsParsed have (parsed.Refused f) = Placed most_bytes f
 
 -- what a function requires that reads content: a literal inside 01's limit, in a file inside 01's limit, and the tables
-pub record ReadyContent (s : List ℕ) (place : Place) (m : Making) (o byName byMark : List ℕ) : Type 0 where
+pub record ReadyContent (s : List ℕ) (place : Place) (m : Making) (o by_name by_mark : List ℕ) : Type 0 where
   pub literal : length s ≤ most_literal
-  pub text : ReadyText s m.at m.len o byName byMark
+  pub text : ReadyText s m.at m.len o by_name by_mark
   pub from : m.from ≤ m.len
   pub start : m.start ≤ m.at
   pub braces : m.braces ≤ m.at
@@ -290,10 +290,10 @@ pub record ReadySign (s : List ℕ) (place : Place) (m : Making) (o : List ℕ) 
 
 -- what `parse` requires: a literal s of a file inside 01's limit, at `base` in it; the text of the value before it no longer than a row's
 -- numbers reach; and the tables
-pub record ReadyLiteral (s : List ℕ) (base before : ℕ) (have : Rows) (o byName byMark : List ℕ) : Type 0 where
+pub record ReadyLiteral (s : List ℕ) (base before : ℕ) (have : Rows) (o by_name by_mark : List ℕ) : Type 0 where
   pub file : base + length s ≤ most_bytes
   pub scratch : least_scratch ≤ length o
   pub value : before ≤ most_number
   pub rows : have.n ≤ most_rows
-  pub names : byName ≡ allNames
-  pub marks : byMark ≡ numbers composites
+  pub names : by_name ≡ all_names
+  pub marks : by_mark ≡ numbers composites

@@ -10,8 +10,8 @@ use Rattle.resolve.specs.Asking.{Asking}
 use Rattle.resolve.proofs.lending.CheckWays as check
 use Rattle.resolve.proofs.ways.AskedWays as ways
 
-ready_on : (w byName byMark w' : List ℕ) → ReadyTables w byName byMark → length w' ≡ length w → ReadyTables w' byName byMark
-ready_on w byName byMark w' h e = record { scratch = omega (arith, h.scratch, e); names = h.names; marks = h.marks }
+ready_on : (w by_name by_mark w' : List ℕ) → ReadyTables w by_name by_mark → length w' ≡ length w → ReadyTables w' by_name by_mark
+ready_on w by_name by_mark w' h e = record { scratch = omega (arith, h.scratch, e); names = h.names; marks = h.marks }
 
 pub asking : Asking
 asking = record {

@@ -27,7 +27,7 @@ pub record Asking : Type 0 where
   -- a row that is not there is no value
   pub value_none : (rows : List ℕ) (which : ℕ) → length rows / 4 ≤ which → false ≡ is_value (drop which (rows_of rows))
   -- a scratch as long as one that is ready is ready
-  pub ready_on : (w byName byMark w' : List ℕ) → ReadyTables w byName byMark → length w' ≡ length w → ReadyTables w' byName byMark
+  pub ready_on : (w by_name by_mark w' : List ℕ) → ReadyTables w by_name by_mark → length w' ≡ length w → ReadyTables w' by_name by_mark
   -- the refusals of a call in their order, where `good` says whether its places or rows are right; and what it writes where none is given
   pub asked-file : (file : List ℕ) (good : Bool) (w : ℕ) (value : Value) (b t : List ℕ) (r : Checked) → r ≡ checked_file file → (f : Fault)
       → r ≡ checked.Refused f → Writes (asked file good w value) b t (answer.Refused f) b t

@@ -14,7 +14,7 @@ use Rattle.turn.specs.Content.{flatten}
 use Rattle.chunk.specs.Chunk.{Chunk}
 use Rattle.compose.specs.Lookup.{numbers}
 use Rattle.compose.specs.Composites.{composites}
-use Rattle.command.specs.Names.{names as allNames}
+use Rattle.command.specs.Names.{names as all_names}
 use Rattle.literal.specs.declared.rows.Rows.{Rows}
 use Rattle.literal.specs.Rows.{most_number, most_rows, RowsHold, texts_of}
 use Rattle.resolve.specs.declared.answer.Answer.{Answer}
@@ -86,7 +86,7 @@ Counted (refused g) (went.Done st) = ⊥
 Counted (refused g) (went.Refused f) = f ≡ g
 
 -- what the functions require: a scratch that is long enough, and the tables
-pub record ReadyTables (w byName byMark : List ℕ) : Type 0 where
+pub record ReadyTables (w by_name by_mark : List ℕ) : Type 0 where
   pub scratch : least_scratch ≤ length w
-  pub names : byName ≡ allNames
-  pub marks : byMark ≡ numbers composites
+  pub names : by_name ≡ all_names
+  pub marks : by_mark ≡ numbers composites

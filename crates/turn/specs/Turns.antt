@@ -19,7 +19,7 @@ use Rattle.compose.specs.Lookup.{numbers}
 use Rattle.compose.specs.Composites.{composites}
 use Rattle.command.specs.Stack.{Lays}
 use Rattle.command.specs.Commands.{meaning_of}
-use Rattle.command.specs.Names.{names as allNames}
+use Rattle.command.specs.Names.{names as all_names}
 use Rattle.command.specs.Execute.{Argument, execute_command}
 use Rattle.turn.specs.declared.turn.Text.{Text}
 use Rattle.turn.specs.declared.turn.Text.TheVariants as text
@@ -157,8 +157,8 @@ GrowsText len p n (text.Refused f) = Placed len f
 GrowsText len p n (text.Argument k end a e) = CommandSpans len p end a e
 
 -- what a function requires that writes text from p on: room for twice what is left to read, and the two tables
-pub record ReadyText (s : List ℕ) (p n : ℕ) (o byName byMark : List ℕ) : Type 0 where
+pub record ReadyText (s : List ℕ) (p n : ℕ) (o by_name by_mark : List ℕ) : Type 0 where
   pub place : p ≤ length s
   pub room : n + 2 * length s ≤ length o + 2 * p
-  pub names : byName ≡ allNames
-  pub marks : byMark ≡ numbers composites
+  pub names : by_name ≡ all_names
+  pub marks : by_mark ≡ numbers composites

@@ -88,9 +88,9 @@ allowed_of meaning.Unknown path left n = allowed.No UnknownAbbreviation
 
 -- what value and name require: rows and months are right, the index belongs to these rows, and the definitions that are being resolved stand
 -- in a list with a place for each name that may be opened
-pub record ReadyValue (file rows months words heads next w byName byMark held : List ℕ) (left : ℕ) : Type 0 where
+pub record ReadyValue (file rows months words heads next w by_name by_mark held : List ℕ) (left : ℕ) : Type 0 where
   pub short : length file ≤ most_bytes
   pub lent : are_lent file rows months words ≡ true
   pub index : Indexed file rows heads next
-  pub ready : ReadyTables w byName byMark
+  pub ready : ReadyTables w by_name by_mark
   pub path : (length held ≡ most_open) × (left ≤ most_open)

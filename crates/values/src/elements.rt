@@ -10,7 +10,7 @@ ghost use Rattle.resolve.specs.Checks.{are_months, lent_of};
 ghost use Rattle.resolve.specs.Progress.{Bounded, SaysRun, BoundedWent};
 ghost use Rattle.values.specs.Field as field;
 ghost use Rattle.values.specs.Field.{meaning_of, on_path};
-ghost use Rattle.values.specs.Uses.{Means, RowInside, limits as limitsOf, allowed_of, first_element, only_at, value_from, ReadyValue};
+ghost use Rattle.values.specs.Uses.{Means, RowInside, limits as limits_of, allowed_of, first_element, only_at, value_from, ReadyValue};
 
 use crate::months;
 use crate::months::Month;
@@ -98,7 +98,7 @@ fn on_path(path: &[usize], used: usize, i: usize) -> bool
 
 // Whether one more name may be opened: there is one left to open, and the number of names is below 01's limit.
 fn limits(left: usize, names: usize) -> Allowed
-    ensures { result ≡ limitsOf left names }
+    ensures { result ≡ limits_of left names }
 {
     if left == 0 {
         return Allowed::No(Reason::TooDeep);

@@ -20,11 +20,11 @@ use Rattle.resolve.specs.Progress.{small, ReadyTables}
 use Rattle.whole.specs.declared.file.Totals.{Totals}
 use Rattle.whole.specs.WholeFile.{results_from, results, values, chunks_in, texts, chunk_numbers, count_rows, answer_numbers, small_all}
 
-pub record Filing (file rows flags months words heads next w byName byMark : List ℕ) : Type 0 where
+pub record Filing (file rows flags months words heads next w by_name by_mark : List ℕ) : Type 0 where
   pub short : length file ≤ most_bytes
   pub lent : are_lent file rows months words ≡ true
   pub index : Indexed file rows heads next
-  pub ready : ReadyTables w byName byMark
+  pub ready : ReadyTables w by_name by_mark
   pub flagged : values (rows_of rows) ≤ length flags
 
 -- the counts are small, so that none overflows

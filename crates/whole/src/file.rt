@@ -4,7 +4,7 @@
 // little work where much room is lent. Only where it does not, the values are counted before they are written.
 ghost use Rattle.std.specs.Prelude.{◌≡◌, true, false, List, [], ◌∷◌, ℕ, ◌+◌, ◌*◌, ◌/◌, ◌≤◌, ◌<◌, length, drop};
 ghost use Rattle.std.proofs.lemmas.List.Edits.{sets};
-ghost use Rattle.row.specs.Fault.{nowhere as nowhereOf};
+ghost use Rattle.row.specs.Fault.{nowhere as nowhere_of};
 ghost use Rattle.row.specs.Numbers.{rows_of};
 ghost use Rattle.row.specs.Limits.{most_bytes, least_scratch};
 ghost use Rattle.literal.specs.Rows.{most_number, most_rows};
@@ -531,7 +531,7 @@ fn indexed(
 }
 
 fn nowhere(reason: Reason) -> Filed
-    ensures { result ≡ filed.Refused (nowhereOf reason) }
+    ensures { result ≡ filed.Refused (nowhere_of reason) }
 {
     Filed::Refused(Fault {
         reason,

@@ -14,7 +14,7 @@ use lib.Seq.{length-take-le, get_or-take}
 use native.Mathlib.Nat.{add-zero}
 use lib.Dec.{ltb}
 use borrow.Author.Tests.{ne_eqb, ltb-true, ltb-false, not-true}
-use Rattle.text.specs.Block.{in_set, lines as lineBytes, Clear}
+use Rattle.text.specs.Block.{in_set, lines as line_bytes, Clear}
 use Rattle.text.proofs.general.Tests.{told-apart, both_true}
 use Rattle.text.specs.Scan.{part}
 use Rattle.chunk.specs.Format.{Written, written, before, ends_white, is_line_end, lines}
@@ -39,16 +39,16 @@ unfolding plain
 plain-start t a = ap plain (part_none t a)
 
 -- a byte that is not below 0x0E is no line end
-high-bytes : (b : ℕ) → in_set lineBytes b ≡ false → is_line_end b ≡ false
+high-bytes : (b : ℕ) → in_set line_bytes b ≡ false → is_line_end b ≡ false
 unfolding in_set
-high-bytes b h = rw (ne_eqb b 0x0A (told-apart (in_set lineBytes) 0x0A refl h), ne_eqb b 0x0D (told-apart (in_set lineBytes) 0x0D refl h))
+high-bytes b h = rw (ne_eqb b 0x0A (told-apart (in_set line_bytes) 0x0A refl h), ne_eqb b 0x0D (told-apart (in_set line_bytes) 0x0D refl h))
 
 pub plain-on : (t : List ℕ) (a i : ℕ) → a ≤ i → i < length t → plain (part t a i) ≡ true → is_line_end (get_or t i 0) ≡ false →
     plain (part t a (i + 1)) ≡ true
 plain-on t a i l n h e = ap plain (part-more t a i l n) ∙ plain-snoc (part t a i) (get_or t i 0) h e
 
 -- a stretch of the text that ends at e, without a byte below 0x0E
-pub plain-clear : (t : List ℕ) (a e : ℕ) {r : ℕ} → a ≤ e → e ≤ length t → Clear lineBytes (take e t) a r →
+pub plain-clear : (t : List ℕ) (a e : ℕ) {r : ℕ} → a ≤ e → e ≤ length t → Clear line_bytes (take e t) a r →
     (a ≤ r) × (r ≤ e) × (plain (part t a r) ≡ true)
 plain-clear t a e {r} h l x =
     (x.from, end, subst (λ (k : ℕ). plain (part t a k) ≡ true) (back x.from) (on (r - a) (omega (arith, end, x.from)) (λ k p q. (x.clear k p (omega arith)).1)))
@@ -62,7 +62,7 @@ plain-clear t a e {r} h l x =
     next : (n : ℕ) → a + n + 1 ≡ a + suc n
     next n = omega arith
 
-    on : (n : ℕ) → a + n ≤ e → ((k : ℕ) → a ≤ k → k < a + n → in_set lineBytes (get_or (take e t) k 0) ≡ false) → plain (part t a (a + n)) ≡ true
+    on : (n : ℕ) → a + n ≤ e → ((k : ℕ) → a ≤ k → k < a + n → in_set line_bytes (get_or (take e t) k 0) ≡ false) → plain (part t a (a + n)) ≡ true
     on zero h c = subst (λ (k : ℕ). plain (part t a k) ≡ true) (sym (add-zero a)) (plain-start t a)
     on (suc n) h c =
         let other = high-bytes (get_or (take e t) (a + n) 0) (c (a + n) (omega arith) (omega arith)) in

@@ -132,14 +132,14 @@ pub says-count : (g : ℕ → Run) (n m : ℕ) → n ≡ m → (st : Progress) (
 says-count g n m e st b t r b' t' h = subst (λ (k : ℕ). SaysRun (g k) st b t r b' t') e h
 
 -- what `value` requires at the beginning, where no name is open
-pub ready-value-first : (file rows months words heads next w byName byMark : List ℕ) (i : ℕ) (w' held : List ℕ)
-    → Resolving file rows months words heads next w byName byMark i → length w' ≡ length w → length held ≡ most_open
-    → ReadyValue file rows months words heads next w' byName byMark held most_open
-ready-value-first file rows months words heads next w byName byMark i w' held h k e = record {
+pub ready-value-first : (file rows months words heads next w by_name by_mark : List ℕ) (i : ℕ) (w' held : List ℕ)
+    → Resolving file rows months words heads next w by_name by_mark i → length w' ≡ length w → length held ≡ most_open
+    → ReadyValue file rows months words heads next w' by_name by_mark held most_open
+ready-value-first file rows months words heads next w by_name by_mark i w' held h k e = record {
   short = h.short;
   lent = h.lent;
   index = h.index;
-  ready = asking.ready_on w byName byMark w' h.ready k;
+  ready = asking.ready_on w by_name by_mark w' h.ready k;
   path = (e, omega arith);
 }
 

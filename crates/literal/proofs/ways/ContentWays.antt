@@ -148,8 +148,8 @@ module _ (place : Place) (argument : Reader) (verb : Bool) (s : List ℕ) (m : M
 
 -- ---- bounds
 
-pub ahead_none : (s : List ℕ) (place : Place) (m : Making) (o byName byMark : List ℕ) → ReadyContent s place m o byName byMark → AheadState (length s) 0 m m
-ahead_none s place m o byName byMark h = record {
+pub ahead_none : (s : List ℕ) (place : Place) (m : Making) (o by_name by_mark : List ℕ) → ReadyContent s place m o by_name by_mark → AheadState (length s) 0 m m
+ahead_none s place m o by_name by_mark h = record {
   grows = record { at = omega arith; inside = h.text.place; text = omega arith };
   rows = omega arith;
   braces = omega arith;
@@ -170,9 +170,9 @@ ahead-on len v m m₁ m₂ h k = record {
   start = k.start;
 }
 
-pub ready_on : (s : List ℕ) (place : Place) (v : ℕ) (m m₁ : Making) (o o₁ byName byMark : List ℕ) → ReadyContent s place m o byName byMark
-    → AheadState (length s) v m m₁ → length o₁ ≡ length o → ReadyContent s place m₁ o₁ byName byMark
-ready_on s place v m m₁ o o₁ byName byMark h k e = record {
+pub ready_on : (s : List ℕ) (place : Place) (v : ℕ) (m m₁ : Making) (o o₁ by_name by_mark : List ℕ) → ReadyContent s place m o by_name by_mark
+    → AheadState (length s) v m m₁ → length o₁ ≡ length o → ReadyContent s place m₁ o₁ by_name by_mark
+ready_on s place v m m₁ o o₁ by_name by_mark h k e = record {
   literal = h.literal;
   text = record {
     place = k.grows.inside;
@@ -189,8 +189,8 @@ ready_on s place v m m₁ o o₁ byName byMark h k e = record {
 }
 
 -- what `sign` requires
-pub ready-within : (s : List ℕ) (place : Place) (m : Making) (o byName byMark : List ℕ) → ReadyContent s place m o byName byMark → ReadySign s place m o
-ready-within s place m o byName byMark h = record {
+pub ready-within : (s : List ℕ) (place : Place) (m : Making) (o by_name by_mark : List ℕ) → ReadyContent s place m o by_name by_mark → ReadySign s place m o
+ready-within s place m o by_name by_mark h = record {
   literal = h.literal;
   room = h.text.room;
   from = h.from;
@@ -202,9 +202,9 @@ ready-within s place m o byName byMark h = record {
 }
 
 -- what `argument` requires, wherever its command stands
-pub ready-argument : (s : List ℕ) (place : Place) (m : Making) (o o₁ byName byMark : List ℕ) → ReadyContent s place m o byName byMark
-    → length o₁ ≡ length o → ReadyContent s in_argument m o₁ byName byMark
-ready-argument s place m o o₁ byName byMark h e = record {
+pub ready-argument : (s : List ℕ) (place : Place) (m : Making) (o o₁ by_name by_mark : List ℕ) → ReadyContent s place m o by_name by_mark
+    → length o₁ ≡ length o → ReadyContent s in_argument m o₁ by_name by_mark
+ready-argument s place m o o₁ by_name by_mark h e = record {
   literal = h.literal;
   text = record {
     place = h.text.place;

@@ -309,9 +309,9 @@ module _ (base before : ℕ) (have : Rows) (b : List ℕ) where
 
 -- ---- bounds
 
-module _ (s : List ℕ) (base before : ℕ) (have : Rows) (o byName byMark : List ℕ) (h : ReadyLiteral s base before have o byName byMark)
+module _ (s : List ℕ) (base before : ℕ) (have : Rows) (o by_name by_mark : List ℕ) (h : ReadyLiteral s base before have o by_name by_mark)
     (l : length s ≤ most_literal) (p n : ℕ) (g : Grows (length s) 0 0 0 p n) where
-  pub rest-ready : ReadyContent s (in_literal base before) (first have p n) o byName byMark
+  pub rest-ready : ReadyContent s (in_literal base before) (first have p n) o by_name by_mark
   rest-ready = record {
     literal = l;
     text = record {

@@ -129,18 +129,18 @@ module _ (s name : List ℕ) (k : Meaning) (d p e : ℕ) (some : d ≡ 0 → ⊥
 
 -- ---- bounds
 
-pub room-now : {s : List ℕ} {place : Place} {m : Making} {o byName byMark : List ℕ} → ReadyContent s place m o byName byMark → m.len ≤ length o
+pub room-now : {s : List ℕ} {place : Place} {m : Making} {o by_name by_mark : List ℕ} → ReadyContent s place m o by_name by_mark → m.len ≤ length o
 room-now h = omega (arith, h.text.room, h.text.place)
 
-pub room-lead : {s : List ℕ} {place : Place} {m : Making} {o byName byMark : List ℕ} {end p to l n : ℕ} → ReadyContent s place m o byName byMark
+pub room-lead : {s : List ℕ} {place : Place} {m : Making} {o by_name by_mark : List ℕ} {end p to l n : ℕ} → ReadyContent s place m o by_name by_mark
     → CommandSpans (length s) m.at end p to → l + (m.at + 1) ≤ m.len + end + 2 → n ≡ length o → l ≤ n
 room-lead h x a e = omega (arith, h.text.room, x.0, x.1, x.2, x.3, a, e)
 
 -- what `content` requires
-pub ready-in : (s : List ℕ) (m i : Making) (o o₁ byName byMark name : List ℕ) (k : Meaning) (end p to : ℕ) → ReadyContent s in_argument m o byName byMark
+pub ready-in : (s : List ℕ) (m i : Making) (o o₁ by_name by_mark name : List ℕ) (k : Meaning) (end p to : ℕ) → ReadyContent s in_argument m o by_name by_mark
     → CommandSpans (length s) m.at end p to → ArgumentBegun name k p m o i o₁ → i.len + (m.at + 1) ≤ m.len + end + 2 → i.rows.n ≡ 0
-    → length o₁ ≡ length o → ReadyContent (take to s) in_argument i o₁ byName byMark
-ready-in s m i o o₁ byName byMark name k end p to h x begun a n e =
+    → length o₁ ≡ length o → ReadyContent (take to s) in_argument i o₁ by_name by_mark
+ready-in s m i o o₁ by_name by_mark name k end p to h x begun a n e =
     let c = cut-length s to x.3 in
     record {
       literal = omega (arith, h.literal, c, x.3);
@@ -166,10 +166,10 @@ placed-in s to m r f l e h =
     subst (AheadMade (length s) 1 m) (sym e) (omega (arith, h.0, c, l), omega (arith, h.1, c, l))
 
 -- what `finish` requires
-pub closes : (s : List ℕ) (m i t : Making) (o o₂ byName byMark : List ℕ) (end p to : ℕ) → ReadyContent s in_argument m o byName byMark
+pub closes : (s : List ℕ) (m i t : Making) (o o₂ by_name by_mark : List ℕ) (end p to : ℕ) → ReadyContent s in_argument m o by_name by_mark
     → CommandSpans (length s) m.at end p to → i.at ≡ p → i.len + (m.at + 1) ≤ m.len + end + 2 → m.len ≤ i.len → i.len ≤ t.from
     → t.from ≤ t.len → AheadState (length (take to s)) 0 i t → length o₂ ≡ length o → Closes s end to i.len m t o₂
-closes s m i t o o₂ byName byMark end p to h x a b f g l k e = record {
+closes s m i t o o₂ by_name by_mark end p to h x a b f g l k e = record {
   name = x.0;
   from = omega (arith, x.1, x.2);
   inside = x.3;

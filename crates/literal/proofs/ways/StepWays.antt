@@ -31,7 +31,7 @@ use Rattle.turn.specs.declared.turn.Text.{Text}
 use Rattle.turn.specs.declared.turn.Text.TheVariants as text
 use Rattle.literal.specs.declared.content.Made.TheVariants as made
 use Rattle.literal.specs.declared.content.SignEnd.{SignEnd}
-use Rattle.literal.specs.declared.content.SignEnd.TheVariants as signEnd
+use Rattle.literal.specs.declared.content.SignEnd.TheVariants as sign_end
 use Rattle.turn.specs.Content.{Part, put, cut, math, Reader, State, refused_byte, step, steps, maths, closing, content_turn}
 use Rattle.literal.specs.Rows.{most_number}
 use Rattle.literal.specs.Inner.{HoldsState, Goes, RowsHeld, standing, formula, SignTurn, SignEnds, SaysSign, ReadySign, Fits, Onto, ChunkDone, MathDone, Further, AheadState}
@@ -92,10 +92,10 @@ module _ (verb : Bool) (s : List ℕ) (p d : ℕ) (l : p < length s) where
 
 -- ---- what the answer says of a sign
 
-pub ends_at : {verb : Bool} {s : List ℕ} {p d : ℕ} {r : SignEnd} {q e : ℕ} → r ≡ signEnd.At q e → SignEnds verb s p d r → SignTurn verb s p d q e
+pub ends_at : {verb : Bool} {s : List ℕ} {p d : ℕ} {r : SignEnd} {q e : ℕ} → r ≡ sign_end.At q e → SignEnds verb s p d r → SignTurn verb s p d q e
 ends_at e h = rw e at h
 
-pub ends-not : (verb : Bool) (s : List ℕ) (p d : ℕ) {r : SignEnd} {f : Fault} → r ≡ signEnd.Refused f → SignEnds verb s p d r
+pub ends-not : (verb : Bool) (s : List ℕ) (p d : ℕ) {r : SignEnd} {f : Fault} → r ≡ sign_end.Refused f → SignEnds verb s p d r
     → ((argument : Reader) → content_turn argument verb d s p ≡ bad f) × Placed (length s) f
 ends-not verb s p d e h = rw e at h
 

@@ -89,13 +89,13 @@ first_step : (a : List Range) (others : List (List Range)) (u : List ℕ) (n : �
 first_step a others u n ih true e h = let k = begins-take a u e in (here k.0, k.1)
 first_step a others u n ih false e h = let k = ih h in (there k.0, k.1)
 
-widthBy-first : (alts : List (List Range)) (u : List ℕ) → 0 < width_by alts u → FirstOctets alts u (width_by alts u)
+width_by-first : (alts : List (List Range)) (u : List ℕ) → 0 < width_by alts u → FirstOctets alts u (width_by alts u)
 unfolding width_by
-widthBy-first [] u h = absurd (omega arith)
-widthBy-first (a ∷ others) u h = first_step a others u (width_by others u) (widthBy-first others u) (begins a u) refl h
+width_by-first [] u h = absurd (omega arith)
+width_by-first (a ∷ others) u h = first_step a others u (width_by others u) (width_by-first others u) (begins a u) refl h
 
 pub width-char : (u : List ℕ) → 0 < width u → (is_char (take (width u) u) ≡ true) × (width u ≤ length u)
-width-char u h = let k = widthBy-first alternatives u h in (of-any k.0, k.1)
+width-char u h = let k = width_by-first alternatives u h in (of-any k.0, k.1)
 
 -- ---- the first octet tells the alternatives apart
 
@@ -139,11 +139,11 @@ begins-other : (r : Range) (rs : List Range) {w : List ℕ} (t : List ℕ) → F
 unfolding begins
 begins-other r rs t (from {b} h) = rw (lt-leb b r.last h, and-false (leb r.first b))
 
-widthBy-of : {n : ℕ} {alts : List (List Range)} {w : List ℕ} (t : List ℕ) → FirstRising n alts → Any alts w → width_by alts (w ++ t) ≡ length w
+width_by-of : {n : ℕ} {alts : List (List Range)} {w : List ℕ} (t : List ℕ) → FirstRising n alts → Any alts w → width_by alts (w ++ t) ≡ length w
 unfolding width_by
-widthBy-of t r (here m) = rw (match-begins t m) (of-match m).1
-widthBy-of t (step {r = r} {rs = rs} f l k) (there m) = rw (begins-other r rs t (rising-from k m)) (widthBy-of t k m)
+width_by-of t r (here m) = rw (match-begins t m) (of-match m).1
+width_by-of t (step {r = r} {rs = rs} f l k) (there m) = rw (begins-other r rs t (rising-from k m)) (width_by-of t k m)
 
 pub char-width : (w t : List ℕ) → is_char w ≡ true → width (w ++ t) ≡ length w
 unfolding alternatives
-char-width w t e = widthBy-of t (rises 0 alternatives refl) (any_of alternatives w e)
+char-width w t e = width_by-of t (rises 0 alternatives refl) (any_of alternatives w e)

@@ -246,13 +246,13 @@ module _ (l : Lent) (verb : Bool) (left : ℕ) (path rows : List ℕ) (i : ℕ) 
 
 -- ---- what `value` requires holds further on
 
-pub ready-value-on : (file rows months words heads next w byName byMark held : List ℕ) (left : ℕ) (w' held' : List ℕ)
-    → ReadyValue file rows months words heads next w byName byMark held left → length w' ≡ length w → length held' ≡ length held
-    → ReadyValue file rows months words heads next w' byName byMark held' left
-ready-value-on file rows months words heads next w byName byMark held left w' held' h e f = record {
+pub ready-value-on : (file rows months words heads next w by_name by_mark held : List ℕ) (left : ℕ) (w' held' : List ℕ)
+    → ReadyValue file rows months words heads next w by_name by_mark held left → length w' ≡ length w → length held' ≡ length held
+    → ReadyValue file rows months words heads next w' by_name by_mark held' left
+ready-value-on file rows months words heads next w by_name by_mark held left w' held' h e f = record {
   short = h.short;
   lent = h.lent;
   index = h.index;
-  ready = asking.ready_on w byName byMark w' h.ready e;
+  ready = asking.ready_on w by_name by_mark w' h.ready e;
   path = (f ∙ h.path.0, h.path.1);
 }

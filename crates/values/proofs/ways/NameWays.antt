@@ -201,10 +201,10 @@ path-back held held' left i l m e =
     sym (take-take (most_open - left) (most_open - (left - 1)) held' (omega arith)) ∙ ap (take (most_open - left)) e
     ∙ take-take (most_open - left) (most_open - (left - 1)) (set held (most_open - left) i) (omega arith) ∙ take-set-le (most_open - left) held (most_open - left) i (omega arith)
 
-pub ready-value-down : (file rows months words heads next w byName byMark held : List ℕ) (left : ℕ) (held' : List ℕ)
-    → ReadyValue file rows months words heads next w byName byMark held left → length held' ≡ length held
-    → ReadyValue file rows months words heads next w byName byMark held' (left - 1)
-ready-value-down file rows months words heads next w byName byMark held left held' h e = record {
+pub ready-value-down : (file rows months words heads next w by_name by_mark held : List ℕ) (left : ℕ) (held' : List ℕ)
+    → ReadyValue file rows months words heads next w by_name by_mark held left → length held' ≡ length held
+    → ReadyValue file rows months words heads next w by_name by_mark held' (left - 1)
+ready-value-down file rows months words heads next w by_name by_mark held left held' h e = record {
   short = h.short;
   lent = h.lent;
   index = h.index;

@@ -124,9 +124,9 @@ counted-on (refused g) (went.Refused f) k t r a vs c = a vs (refused g) c (refl,
 -- ---- all of them
 
 -- what counting or writing the value of row i requires
-pub resolving : (file rows flags months words heads next w byName byMark : List ℕ) → Filing file rows flags months words heads next w byName byMark
-    → (w' : List ℕ) → length w' ≡ length w → (i : ℕ) → i < length rows / 4 → Resolving file rows months words heads next w' byName byMark i
-resolving file rows flags months words heads next w byName byMark p w' e i h = record {
+pub resolving : (file rows flags months words heads next w by_name by_mark : List ℕ) → Filing file rows flags months words heads next w by_name by_mark
+    → (w' : List ℕ) → length w' ≡ length w → (i : ℕ) → i < length rows / 4 → Resolving file rows months words heads next w' by_name by_mark i
+resolving file rows flags months words heads next w by_name by_mark p w' e i h = record {
   short = p.short;
   lent = p.lent;
   index = p.index;

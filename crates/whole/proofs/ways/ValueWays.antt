@@ -269,9 +269,9 @@ module _ (file rows flags months words : List ℕ) (i : ℕ) (t : Totals) (q b x
 
 -- ---- the loop
 
-pub filing-on : (file rows flags months words heads next w byName byMark w' : List ℕ) → Filing file rows flags months words heads next w byName byMark
-    → length w' ≡ length w → Filing file rows flags months words heads next w' byName byMark
-filing-on file rows flags months words heads next w byName byMark w' f e =
+pub filing-on : (file rows flags months words heads next w by_name by_mark w' : List ℕ) → Filing file rows flags months words heads next w by_name by_mark
+    → length w' ≡ length w → Filing file rows flags months words heads next w' by_name by_mark
+filing-on file rows flags months words heads next w by_name by_mark w' f e =
     record {
       short = f.short;
       lent = f.lent;
