@@ -9,6 +9,7 @@ ghost use Rattle.casing.specs.Mapping.{numbers};
 ghost use Rattle.casing.specs.Lowers.{lowers};
 
 use casing::Image;
+use std::io;
 
 // How many characters were asked for, and how many of them change.
 #[derive(Clone, Copy)]
@@ -22,25 +23,25 @@ fn up(n: u64) -> u64 {
     if n < 0xffff_ffff { n + 1 } else { n }
 }
 
-fn say(s: &[u8]) {
-    io::write_all(1, s);
+fn say(rt: &impl Print, s: &str) -> io::Result<()> {
+    rt.print(s)
 }
 
 // A character behind a blank; nothing for 0, where an image has none.
-fn hex(c: u32) {
+fn hex(rt: &impl Print, c: u32) -> io::Result<()> {
     if c != 0 {
-        say(b" ");
-        io::print_hex(1, c as u64, 4);
+        print!(rt; " {c:04x}")?;
     }
+    Ok(())
 }
 
-fn show(what: &[u8], c: u32, i: Image) {
-    say(what);
-    hex(c);
-    hex(i.one);
-    hex(i.two);
-    hex(i.three);
-    say(b"\n");
+fn show(rt: &impl Print, what: &str, c: u32, i: Image) -> io::Result<()> {
+    say(rt, what)?;
+    hex(rt, c)?;
+    hex(rt, i.one)?;
+    hex(rt, i.two)?;
+    hex(rt, i.three)?;
+    say(rt, "\n")
 }
 
 fn is_same(a: Image, b: Image) -> bool {
@@ -59,47 +60,54 @@ fn is_itself(c: u32, i: Image) -> bool {
 }
 
 // One more, if the character changes.
-fn raise(c: u32, n: u64) -> u64 {
+fn raise(rt: &impl Print, c: u32, n: u64) -> io::Result<u64> {
     let i = casing::to_uppercase(c);
     if is_itself(c, i) {
-        return n;
+        return Ok(n);
     }
-    show(b"upper", c, i);
-    up(n)
+    show(rt, "upper", c, i)?;
+    Ok(up(n))
 }
 
-fn lower(table: &[u32], c: u32, n: u64) -> u64
+fn lower(rt: &impl Print, table: &[u32], c: u32, n: u64) -> io::Result<u64>
     requires { table.now ≡ numbers lowers }
 {
     let i = casing::lowered(table, c);
     if is_itself(c, i) {
-        return n;
+        return Ok(n);
     }
-    show(b"lower", c, i);
+    show(rt, "lower", c, i)?;
     if !is_same(i, casing::to_lowercase(c)) {
-        say(b"but not by to_lowercase\n");
+        say(rt, "but not by to_lowercase\n")?;
     }
-    up(n)
+    Ok(up(n))
 }
 
 // The characters from first on, up to but not including end.
-fn characters(table: &[u32], first: u32, end: u32, tally: Tally) -> Tally
+fn characters(
+    rt: &impl Print,
+    table: &[u32],
+    first: u32,
+    end: u32,
+    tally: Tally,
+) -> io::Result<Tally>
     requires { table.now ≡ numbers lowers }
 {
     let mut t = tally;
     for c in first..end {
         t = Tally {
             asked: up(t.asked),
-            raised: raise(c, t.raised),
-            lowered: lower(table, c, t.lowered),
+            raised: raise(rt, c, t.raised)?,
+            lowered: lower(rt, table, c, t.lowered)?,
         };
     }
-    t
+    Ok(t)
 }
 
-fn main() {
+fn main(rt: HostRuntime) -> io::Result<()> {
     let table = casing::lower_table();
     let low = characters(
+        &rt,
         &table,
         0,
         0xd800,
@@ -108,12 +116,10 @@ fn main() {
             raised: 0,
             lowered: 0,
         },
-    );
-    let all = characters(&table, 0xe000, 0x110000, low);
-    io::print_decimal(1, all.raised);
-    say(b" of ");
-    io::print_decimal(1, all.asked);
-    say(b" characters change when raised, ");
-    io::print_decimal(1, all.lowered);
-    say(b" when lowered\n");
+    )?;
+    let all = characters(&rt, &table, 0xe000, 0x110000, low)?;
+    println!(rt;
+        "{} of {} characters change when raised, {} when lowered",
+        all.raised, all.asked, all.lowered
+    )
 }

@@ -5,6 +5,7 @@
 #![tactic(auto)]
 
 use compose::Composed;
+use std::io;
 
 const MARKS: [u32; 16] = [
     0x0300, 0x0301, 0x0302, 0x0303, 0x0304, 0x0306, 0x0307, 0x0308, 0x030a, 0x030b, 0x030c, 0x0323,
@@ -22,12 +23,12 @@ fn up(n: u64) -> u64 {
     if n < 0xffff_ffff { n + 1 } else { n }
 }
 
-fn say(s: &[u8]) {
-    io::write_all(1, s);
+fn say(rt: &impl Print, s: &str) -> io::Result<()> {
+    rt.print(s)
 }
 
-fn hex(n: u32) {
-    io::print_hex(1, n as u64, 4);
+fn hex(rt: &impl Print, n: u32) -> io::Result<()> {
+    print!(rt; "{n:04x}")
 }
 
 // Whether `compose` answers c too.
@@ -38,56 +39,69 @@ fn is_composed(letter: u32, mark: u32, c: u32) -> bool {
     }
 }
 
-fn show(letter: u32, mark: u32, c: u32) {
-    hex(letter);
-    say(b" ");
-    hex(mark);
-    say(b" ");
-    hex(c);
+fn show(rt: &impl Print, letter: u32, mark: u32, c: u32) -> io::Result<()> {
+    hex(rt, letter)?;
+    say(rt, " ")?;
+    hex(rt, mark)?;
+    say(rt, " ")?;
+    hex(rt, c)?;
     if !is_composed(letter, mark, c) {
-        say(b" but not by compose");
+        say(rt, " but not by compose")?;
     }
-    say(b"\n");
+    say(rt, "\n")
 }
 
 // One letter with one mark.
-fn pair(table: &[u32], letter: u32, mark: u32, t: Tally) -> Tally {
+fn pair(rt: &impl Print, table: &[u32], letter: u32, mark: u32, t: Tally) -> io::Result<Tally> {
     let asked = up(t.asked);
     let composed = t.composed;
     match compose::find(table, letter, mark) {
         Composed::Char(c) => {
-            show(letter, mark, c);
-            Tally {
+            show(rt, letter, mark, c)?;
+            Ok(Tally {
                 asked,
                 composed: up(composed),
-            }
+            })
         }
-        Composed::Nothing => Tally { asked, composed },
+        Composed::Nothing => Ok(Tally { asked, composed }),
     }
 }
 
 // One letter with every mark.
-fn with_marks(table: &[u32], marks: &[u32; 16], letter: u32, tally: Tally) -> Tally {
+fn with_marks(
+    rt: &impl Print,
+    table: &[u32],
+    marks: &[u32; 16],
+    letter: u32,
+    tally: Tally,
+) -> io::Result<Tally> {
     let mut t = tally;
     for i in 0..16 {
-        t = pair(table, letter, marks[i], t);
+        t = pair(rt, table, letter, marks[i], t)?;
     }
-    t
+    Ok(t)
 }
 
 // The letters from first on, up to but not including end.
-fn letters(table: &[u32], first: u32, end: u32, tally: Tally) -> Tally {
+fn letters(
+    rt: &impl Print,
+    table: &[u32],
+    first: u32,
+    end: u32,
+    tally: Tally,
+) -> io::Result<Tally> {
     let marks = MARKS;
     let mut t = tally;
     for c in first..end {
-        t = with_marks(table, &marks, c, t);
+        t = with_marks(rt, table, &marks, c, t)?;
     }
-    t
+    Ok(t)
 }
 
-fn main() {
+fn main(rt: HostRuntime) -> io::Result<()> {
     let table = compose::table();
     let low = letters(
+        &rt,
         &table,
         0,
         0xd800,
@@ -95,10 +109,7 @@ fn main() {
             asked: 0,
             composed: 0,
         },
-    );
-    let all = letters(&table, 0xe000, 0x110000, low);
-    io::print_decimal(1, all.composed);
-    say(b" of ");
-    io::print_decimal(1, all.asked);
-    say(b" pairs compose\n");
+    )?;
+    let all = letters(&rt, &table, 0xe000, 0x110000, low)?;
+    println!(rt; "{} of {} pairs compose", all.composed, all.asked)
 }

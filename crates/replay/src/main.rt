@@ -9,7 +9,8 @@
 // each. A file has no text.
 #![tactic(auto)]
 
-ghost use Rattle.std.specs.Prelude.{◌<◌, ◌≤◌};
+ghost use Rattle.std.specs.Prelude.{◌<◌, ◌≤◌, length, take, IfOk};
+ghost use Rattle.std.specs.Io.KnownBytes.{Consumes, IsAtEnd};
 
 use raw::answer::Reading;
 use raw::file;
@@ -17,6 +18,8 @@ use resolve::answer::Answer;
 use resolve::one_literal;
 use row::fault;
 use row::fault::Fault;
+use std::io;
+use std::io::Read;
 use text::scanner;
 
 // Where a case ends, and whether it was answered as the list has it.
@@ -24,10 +27,6 @@ use text::scanner;
 struct Case {
     next: usize,
     same: bool,
-}
-
-fn say(s: &[u8]) {
-    io::write_all(1, s);
 }
 
 fn wide(b: u8) -> u32
@@ -59,12 +58,10 @@ fn number(numbers: &[u32], i: usize) -> u32 {
 fn are_numbers(list: &[u8], at: usize, numbers: &[u32], n: usize) -> bool
     requires { (at < 700000) × (n < 65536) }
 {
-    let mut i = 0;
-    while i < n {
+    for i in 0..n {
         if number(numbers, i) != two(list, at + i * 2) {
             return false;
         }
-        i += 1;
     }
     true
 }
@@ -73,12 +70,10 @@ fn are_numbers(list: &[u8], at: usize, numbers: &[u32], n: usize) -> bool
 fn is_text(list: &[u8], at: usize, text: &[u8], n: usize) -> bool
     requires { (at < 700000) × (n < 65536) }
 {
-    let mut i = 0;
-    while i < n {
+    for i in 0..n {
         if one(text, i) != one(list, at + i) {
             return false;
         }
-        i += 1;
     }
     true
 }
@@ -239,12 +234,27 @@ fn replay_all(list: &[u8]) -> Tally {
     }
 }
 
-fn main() {
+// Reads until buf is full or the input ends, and answers how many bytes it put at the start of buf. A read that fails, or that a signal
+// interrupts, ends it with that error.
+fn read_full<R: Read>(input: &mut R, buf: &mut [u8]) -> io::Result<usize>
+    ensures within { IfOk result (λ n. n ≤ length buf.new) }
+    ensures bytes { IfOk result (λ n. Consumes (R.remaining input.old) (R.remaining input.new) (take n buf.new)) }
+    ensures end { IfOk result (λ n. n < length buf.new → IsAtEnd (R.remaining input.new)) }
+{
+    let mut done = 0;
+    while done < buf.len() {
+        let n = input.read(&mut buf[done..])?;
+        if n == 0 {
+            return Ok(done);
+        }
+        done += n;
+    }
+    Ok(done)
+}
+
+fn main(rt: HostRuntime) -> io::Result<()> {
     let mut list = [0u8; 400000];
-    let n = io::read_full(0, &mut list);
+    let n = read_full(&mut rt.stdin(), &mut list)?;
     let tally = replay_all(&list[..n]);
-    io::print_decimal(1, tally.cases);
-    say(b" cases, ");
-    io::print_decimal(1, tally.differ);
-    say(b" differ\n");
+    println!(rt; "{} cases, {} differ", tally.cases, tally.differ)
 }

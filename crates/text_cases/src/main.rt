@@ -6,9 +6,11 @@
 mod points;
 mod samples;
 
-fn main() {
-    points::all();
-    points::classes();
-    samples::rfc();
-    samples::unicode();
+use std::io;
+
+fn main(rt: HostRuntime) -> io::Result<()> {
+    points::all(&rt)?;
+    points::classes(&rt)?;
+    samples::rfc(&rt)?;
+    samples::unicode(&rt)
 }

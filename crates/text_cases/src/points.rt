@@ -1,5 +1,6 @@
 // Every code point: through `encode`, `validate` and `decode`, and through the classes.
 use crate::samples::say;
+use std::io;
 use text::utf8::{Decoded, Encoded, Validity};
 use text::{class, scanner, utf8};
 
@@ -74,10 +75,8 @@ fn counted(t: Tally, n: usize) -> Tally {
     next
 }
 
-fn line(name: &[u8], n: u64) {
-    say(name);
-    io::print_decimal(1, n);
-    say(b"\n");
+fn line(rt: &impl Print, name: &str, n: u64) -> io::Result<()> {
+    println!(rt; "{name}{n}")
 }
 
 fn tallied() -> Tally {
@@ -89,24 +88,22 @@ fn tallied() -> Tally {
         four: 0,
         wrong: 0,
     };
-    let mut c: u32 = 0;
-    while c <= 0x10ffff {
+    for c in 0..0x110000u32 {
         t = counted(t, round(c));
-        c += 1;
     }
     t
 }
 
-pub fn all() {
+pub fn all(rt: &impl Print) -> io::Result<()> {
     let t = tallied();
-    line(b"one octet ", t.one as u64);
-    line(b"two octets ", t.two as u64);
-    line(b"three octets ", t.three as u64);
-    line(b"four octets ", t.four as u64);
-    line(b"no scalar value ", t.none as u64);
-    line(b"wrong ", t.wrong as u64);
-    line(b"octets of 110000: ", round(0x110000) as u64);
-    line(b"octets of ffffffff: ", round(0xffff_ffff) as u64);
+    line(rt, "one octet ", t.one as u64)?;
+    line(rt, "two octets ", t.two as u64)?;
+    line(rt, "three octets ", t.three as u64)?;
+    line(rt, "four octets ", t.four as u64)?;
+    line(rt, "no scalar value ", t.none as u64)?;
+    line(rt, "wrong ", t.wrong as u64)?;
+    line(rt, "octets of 110000: ", round(0x110000) as u64)?;
+    line(rt, "octets of ffffffff: ", round(0xffff_ffff) as u64)
 }
 
 fn is_listed(white: bool, c: u32) -> bool {
@@ -118,27 +115,24 @@ fn is_listed(white: bool, c: u32) -> bool {
 }
 
 // Prints the code points that are white space, or control characters, and answers how many there are.
-fn list(white: bool) -> u32 {
+fn list(rt: &impl Print, white: bool) -> io::Result<u32> {
     let mut n: u32 = 0;
-    let mut c: u32 = 0;
-    while c <= 0x10ffff {
+    for c in 0..0x110000u32 {
         if is_listed(white, c) {
-            say(b" ");
-            io::print_hex(1, c as u64, 4);
+            print!(rt; " {c:04x}")?;
             n = up(n);
         }
-        c += 1;
     }
-    n
+    Ok(n)
 }
 
-fn listed(name: &[u8], white: bool) {
-    say(name);
-    let n = list(white);
-    line(b"\nin all ", n as u64);
+fn listed(rt: &impl Print, name: &str, white: bool) -> io::Result<()> {
+    say(rt, name)?;
+    let n = list(rt, white)?;
+    line(rt, "\nin all ", n as u64)
 }
 
-pub fn classes() {
-    listed(b"white space:", true);
-    listed(b"control:", false);
+pub fn classes(rt: &impl Print) -> io::Result<()> {
+    listed(rt, "white space:", true)?;
+    listed(rt, "control:", false)
 }
