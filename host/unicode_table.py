@@ -20,9 +20,11 @@ import argparse
 import os
 import subprocess
 import sys
+import textwrap
 
 VERSION = "17.0"
 INSTALLED = "/usr/share/unicode"
+WIDTH = 100
 ROOT = os.path.dirname(os.path.dirname(os.path.abspath(__file__)))
 
 
@@ -59,6 +61,11 @@ def node(program):
 def numbers_of_icu(program):
     """The lines that a program of node prints, each as its numbers."""
     return [tuple(map(int, line.split())) for line in node(program).splitlines()]
+
+
+def laid_out(numbers):
+    """The numbers of a constant, as many to a line as `rt fmt` puts there."""
+    return textwrap.fill(" ".join(f"0x{number:04x}," for number in numbers), WIDTH, initial_indent="    ", subsequent_indent="    ") + "\n"
 
 
 class Table:

@@ -1,4 +1,4 @@
--- The laws and proofs of `bib`. The proof of a function is FUNCTION/Proof.antt.
+-- The laws and proofs of `bib`. The proof of a function is in FUNCTION/.
 
 -- how exported calls tell what they come to
 pub mod telling

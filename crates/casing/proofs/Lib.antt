@@ -1,4 +1,4 @@
--- The laws and proofs of `casing`, lowest first. The proof of a function is FUNCTION/Proof.antt.
+-- The laws and proofs of `casing`, lowest first. The proof of a function is in FUNCTION/.
 
 -- lists of rows: the search in them, and what they map
 pub mod lists

@@ -1,4 +1,4 @@
--- The laws and proofs of `chunk`, lowest first. The proof of a function is MODULE/FUNCTION/Proof.antt.
+-- The laws and proofs of `chunk`, lowest first. The proof of a function is in MODULE/FUNCTION/.
 
 -- chunk rows in lent numbers
 pub mod rows

@@ -1,4 +1,4 @@
--- The laws and proofs of `command`, lowest first. The proof of a function is MODULE/FUNCTION/Proof.antt.
+-- The laws and proofs of `command`, lowest first. The proof of a function is in MODULE/FUNCTION/.
 
 -- text under construction
 pub mod stacks

@@ -1,4 +1,4 @@
--- The laws and proofs of `compose`, lowest first. The proof of a function is FUNCTION/Proof.antt.
+-- The laws and proofs of `compose`, lowest first. The proof of a function is in FUNCTION/.
 
 -- lists of compositions: their order, and the search in them
 pub mod lists

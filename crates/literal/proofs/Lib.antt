@@ -1,4 +1,4 @@
--- The laws and proofs of `literal`, lowest first. The proof of a function is MODULE/FUNCTION/Proof.antt.
+-- The laws and proofs of `literal`, lowest first. The proof of a function is in MODULE/FUNCTION/.
 
 -- the ways through each function
 pub mod ways

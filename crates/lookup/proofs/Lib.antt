@@ -1,5 +1,4 @@
--- The laws and proofs of `lookup`, lowest first. The proof of a function is in MODULE/FUNCTION/: what holds at each turn of its loops in
--- Invariants.antt, and what it comes to in Answers.antt; what the tactics prove alone has no file. A function that calls itself has a `+` before its name.
+-- The laws and proofs of `lookup`, lowest first. The proof of a function is in MODULE/FUNCTION/.
 
 -- bytes: the hash, and texts compared
 pub mod bytes

@@ -1,4 +1,4 @@
--- The laws and proofs of `pack`, lowest first. The proof of a function is MODULE/FUNCTION/Proof.antt.
+-- The laws and proofs of `pack`, lowest first. The proof of a function is in MODULE/FUNCTION/.
 
 -- rows as bytes: numbers as digits, seven bytes to a row, what is accepted, and that packing and unpacking are inverse
 pub mod bytes

@@ -1,4 +1,4 @@
--- The laws and proofs of `raw`, lowest first. The proof of a function is MODULE/FUNCTION/Proof.antt.
+-- The laws and proofs of `raw`, lowest first. The proof of a function is in MODULE/FUNCTION/.
 
 -- readers and the ways to make them
 pub mod readers

@@ -1,4 +1,4 @@
--- The laws and proofs of `reader`. The proof of a function is FUNCTION/Proof.antt: each is a walk by hand.
+-- The laws and proofs of `reader`. Its functions need no proof files: the tactics find each proof.
 
 -- any two outcomes that a public contract allows are the same
 pub mod Unique

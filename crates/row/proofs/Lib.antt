@@ -1,4 +1,4 @@
--- The laws and proofs of `row`, lowest first. The proof of a function is MODULE/FUNCTION/Proof.antt.
+-- The laws and proofs of `row`, lowest first. The proof of a function is in MODULE/FUNCTION/.
 
 -- rows as numbers: laid over lent numbers, taken back from numbers, their spans
 pub mod numbers

@@ -1,4 +1,4 @@
--- The laws and proofs of `salvage`, lowest first. The proof of a function is MODULE/FUNCTION/Proof.antt.
+-- The laws and proofs of `salvage`, lowest first. The proof of a function is in MODULE/FUNCTION/.
 
 -- where a file is cut, and what a cut does to strict reading
 pub mod cutting

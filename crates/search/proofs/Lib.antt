@@ -1,4 +1,4 @@
--- The laws and proofs of `search`, lowest first. The proof of a function is FUNCTION/Proof.antt.
+-- The laws and proofs of `search`, lowest first. The proof of a function is in FUNCTION/.
 
 -- the order of keys, and the turns of the search
 pub mod halving

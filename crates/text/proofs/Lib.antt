@@ -1,4 +1,4 @@
--- The laws and proofs of `text`, lowest first. The proof of a function is MODULE/FUNCTION/Proof.antt.
+-- The laws and proofs of `text`, lowest first. The proof of a function is in MODULE/FUNCTION/.
 
 -- laws that every crate may cite
 pub mod general

@@ -1,4 +1,4 @@
--- The laws and proofs of `turn`, lowest first. The proof of a function is MODULE/FUNCTION/Proof.antt.
+-- The laws and proofs of `turn`, lowest first. The proof of a function is in MODULE/FUNCTION/.
 
 -- what content comes to
 pub mod contents

@@ -1,4 +1,4 @@
--- The laws and proofs of `values`, lowest first. The proof of a function is MODULE/FUNCTION/Proof.antt.
+-- The laws and proofs of `values`, lowest first. The proof of a function is in MODULE/FUNCTION/.
 
 -- names and their uses
 pub mod naming

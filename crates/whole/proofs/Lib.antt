@@ -1,4 +1,4 @@
--- The laws and proofs of `whole`, lowest first. The proof of a function is MODULE/FUNCTION/Proof.antt.
+-- The laws and proofs of `whole`, lowest first. The proof of a function is in MODULE/FUNCTION/.
 
 -- the values of a file, one behind the other
 pub mod values
