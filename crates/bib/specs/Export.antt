@@ -1,8 +1,8 @@
 -- What the exported calls leave in their lent numbers.
 --     of_reading     what a reading comes to
 --     is_set         a flag of C
---     Told          an outcome in lent numbers
---     Exported      the contract of every exported call that writes one thing: an outcome, and all that is left in the lent rows or bytes
+--     Told           an outcome in lent numbers
+--     Exported       the contract of every exported call that writes one thing: an outcome, and all that is left in the lent rows or bytes
 --     ToldResolving, ExportedResolving
 --                   what the calls that resolve tell, and their contract: they write rows and text, and are lent scratch
 --     ToldFiling, ExportedFile

@@ -1,8 +1,8 @@
 -- [02:1] "Full upper and lower mappings come from Unicode's UnicodeData and the unconditional part of SpecialCasing, in the version the Rust's
 -- compiler uses; each table's rule is proved once over all its rows."
 --     to_uppercase, to_lowercase      the mappings. For src/lib.rt.
---     is_settled                     characters that are lowered to themselves, by a few ranges. For src/lib.rt.
---     Casing                        what holds of them. The proof is `casing` of proofs/Casing.antt
+--     is_settled                      characters that are lowered to themselves, by a few ranges. For src/lib.rt.
+--     Casing                          what holds of them. The proof is `casing` of proofs/Casing.antt
 -- Assumes nothing.
 use Rattle.std.specs.Prelude.{ℕ, ◌+◌, ◌-◌, ◌*◌, ◌≤◌, ◌<◌, ◌≡◌, Bool, true, false, cond, length}
 use mathlib.Core.List.{List, [], ◌∷◌, Memᴰ}

@@ -1,9 +1,9 @@
 -- What a list of case mappings says of a character.
 --     Stride, _to_by_is_then_then_   a row of the list: characters at one distance from each other, whose images are at the same distance
---     image_of, Spells                the characters of an image, and three numbers for them
+--     image_of, Spells               the characters of an image, and three numbers for them
 --     mapped                         the image of a character
 --     numbers                        the rows as plain numbers, six to a row. For src/lib.rt.
---     rises, is_right, characters     the rule of the rows, and how many characters they have
+--     rises, is_right, characters    the rule of the rows, and how many characters they have
 --     Rule, Table, Maps              a list that keeps the rule, the numbers of one, and what these say of a character. For src/lib.rt.
 -- Assumes nothing.
 use Rattle.std.specs.Prelude.{ℕ, zero, suc, ◌+◌, ◌-◌, ◌*◌, ◌/◌, ◌%◌, ◌≡◌, Bool, true, cond, not, ◌&&◌, ◌||◌, List, [], ◌∷◌, ltb, leb, eqb, length}

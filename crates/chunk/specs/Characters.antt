@@ -1,9 +1,9 @@
 -- chunk.rs goes through a text character by character, and the definitions of specs/Format.antt octet by octet. On a text that is UTF-8 both
 -- give the same result. The proof is `characters` of proofs/Characters.antt.
---     Scalars             characters that are scalar values; their octets are `utf8_of` of text/specs/Utf8.antt
---     char_lines           [chunk.rs:format_verbatim] of a Normal text
+--     Scalars               characters that are scalar values; their octets are `utf8_of` of text/specs/Utf8.antt
+--     char_lines            [chunk.rs:format_verbatim] of a Normal text
 --     char_ends_white       [chunk.rs:format_verbatim] of a Verbatim text: whether its last character is white space
---     char_escaped         [chunk.rs:Chunk::to_biblatex_string]
+--     char_escaped          [chunk.rs:Chunk::to_biblatex_string]
 -- Assumes nothing.
 use Rattle.std.specs.Prelude.{ℕ, ◌≡◌, Bool, true, false, cond, List, [], ◌∷◌, ◌++◌, length}
 use Rattle.text.specs.Utf8.{is_scalar, octets, utf8_of, Octets}

@@ -1,9 +1,9 @@
 -- Chunks, and rows of them in lent numbers [01:Resolving and writing]: "A chunk row is kind (0 Normal, 1 Verbatim, 2 Math), text start and
 -- end, span start and end." A text is its octets.
---     Chunk                                a kind, a text and a span
+--     Chunk                                  a kind, a text and a span
 --     kind_of, kind_from                     01's numbers of the kinds
 --     ChunkRow, flat_chunks, put_chunk       a chunk row; the numbers of rows; a row that is written into lent numbers
---     chunk_rows, chunk_of, chunks_of         the rows of lent numbers, and their chunks over a text
+--     chunk_rows, chunk_of, chunks_of        the rows of lent numbers, and their chunks over a text
 --     is_chunk, are_chunks                   the check of lent rows
 -- Assumes nothing.
 use Rattle.std.specs.Prelude.{ℕ, zero, suc, ◌+◌, ◌%◌, ◌≤◌, ◌≡◌, Bool, ◌&&◌, List, [], ◌∷◌, map, length, get_or, eqb, leb}

@@ -1,7 +1,7 @@
 -- What chunks are written as [chunk.rs]. A text is its octets.
---     last_at, last_code, ends_white                  the last character of a text
---     format_one, format_from, format_verbatim        [chunk.rs:format_verbatim]
---     is_escapable, escaped                         [resolve.rs:is_escapable] and [chunk.rs:Chunk::to_biblatex_string]
+--     last_at, last_code, ends_white                   the last character of a text
+--     format_one, format_from, format_verbatim         [chunk.rs:format_verbatim]
+--     is_escapable, escaped                            [resolve.rs:is_escapable] and [chunk.rs:Chunk::to_biblatex_string]
 --     biblatex_one, biblatex_from, to_biblatex_string  [chunk.rs:to_biblatex_string]
 -- Assumes nothing.
 use Rattle.std.specs.Prelude.{ℕ, suc, Bool, true, false, cond, not, ◌&&◌, ◌||◌, List, [], ◌∷◌, ◌++◌, drop, eqb}

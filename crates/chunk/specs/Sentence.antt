@@ -1,6 +1,6 @@
 -- What chunks are written as in sentence case [chunk.rs:format_sentence].
---     chars                                             the characters of a text
---     sentence_chars                                     a Normal text, character by character
+--     chars                                                the characters of a text
+--     sentence_chars                                       a Normal text, character by character
 --     sentence_one, sentence_from, format_sentence         chunks
 -- Assumes nothing.
 use Rattle.std.specs.Prelude.{ℕ, Bool, true, false, cond, ◌&&◌, List, [], ◌∷◌, ◌++◌}

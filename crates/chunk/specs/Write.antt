@@ -2,7 +2,7 @@
 -- if an answer exists and needs more rows or bytes than a lent output has. .. All output stays as it was on refusal; on success the room
 -- past the answer stays as it was". 2 is at the first byte of the text's first ill-formed sequence, 17 and 16 at 0..0.
 --     checked_of         the check: 2, then 17
---     Write             a writer's answer and what it leaves in the lent bytes
+--     Write              a writer's answer and what it leaves in the lent bytes
 -- Assumes nothing.
 use Rattle.std.specs.Prelude.{ℕ, ◌≡◌, Bool, cond, List, ◌++◌, length, drop, leb}
 use Rattle.text.specs.Utf8.{validity_of}

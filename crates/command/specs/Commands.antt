@@ -1,5 +1,5 @@
 -- The names of commands and what each means, after [resolve.rs:execute_command] and [resolve.rs:is_single_char_func].
---     is_single_char_func       whether a character is the whole name of a command. For src/execute.rt.
+--     is_single_char_func     whether a character is the whole name of a command. For src/execute.rt.
 --     commands, meaning_of    the Rust's list in its order; what a name means. For src/meaning.rt.
 -- Assumes nothing.
 use Rattle.std.specs.Prelude.{ℕ, Bool, cond, ◌&&◌, ◌||◌, List, [], ◌∷◌}

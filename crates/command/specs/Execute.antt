@@ -1,7 +1,7 @@
 -- What a command writes, after [resolve.rs:execute_command] and [resolve.rs:last_char_combine].
 --     last_char_combine       a mark put onto the last character of an argument. For src/execute.rt.
---     execute_command        what a command writes. For src/execute.rt.
---     leading, Sane         what is written before an argument, and what is required of a meaning: for the contracts of src/execute.rt.
+--     execute_command         what a command writes. For src/execute.rt.
+--     leading, Sane           what is written before an argument, and what is required of a meaning: for the contracts of src/execute.rt.
 -- Assumes nothing.
 use Rattle.std.specs.Prelude.{ℕ, ◌≤◌, ◌≡◌, true, cond, List, [], ◌∷◌, ◌++◌, take, eqb}
 use Rattle.text.specs.Utf8.{octets, is_scalar}

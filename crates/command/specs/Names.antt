@@ -1,8 +1,8 @@
 -- The list of commands as the constant of src/names.rt has it: for each row the length of its name, three bytes for its meaning, and the name.
 -- Names of one octet are left out: `meaning_one` of src/meaning.rt knows them.
---     names               the bytes of the constant. For src/names.rt.
+--     names                the bytes of the constant. For src/names.rt.
 --     code_of, decoded     the number of a row's three bytes, and the meaning that it stands for. For src/meaning.rt.
---     SpanOf              between which bytes a name of so many octets is to be looked for. For src/meaning.rt.
+--     SpanOf               between which bytes a name of so many octets is to be looked for. For src/meaning.rt.
 -- Assumes nothing.
 use Rattle.std.specs.Prelude.{ℕ, ◌+◌, ◌*◌, ◌/◌, ◌%◌, ◌≤◌, ◌≡◌, cond, List, [], ◌∷◌, ◌++◌, length, drop, eqb}
 use Rattle.command.specs.declared.meaning.Meaning.{Meaning}

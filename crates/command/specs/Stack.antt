@@ -1,5 +1,5 @@
 -- Text under construction in lent bytes.
---     Lays               what a function adds to such a text. For all of src/.
+--     Lays                what a function adds to such a text. For all of src/.
 --     default_chunk       the kind of chunk that the text is for. For src/settle.rt.
 -- Assumes nothing.
 use Rattle.std.specs.Prelude.{ℕ, zero, suc, ◌+◌, ◌≡◌, List, ◌++◌, length, take}

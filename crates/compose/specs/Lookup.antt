@@ -1,6 +1,6 @@
 -- What a list of compositions says of a letter and a mark.
---     Composite, numbers      a row of the list; a list of rows as plain numbers, three to a row
---     lookup                  the row with a letter and a mark. For src/lib.rt.
+--     Composite, numbers       a row of the list; a list of rows as plain numbers, three to a row
+--     lookup                   the row with a letter and a mark. For src/lib.rt.
 --     comes_before, rises      the order of the rows
 -- Assumes nothing.
 use Rattle.std.specs.Prelude.{ℕ, Bool, true, cond, ◌&&◌, List, [], ◌∷◌, eqb}

@@ -1,5 +1,5 @@
 -- The value whose row is number `which`: the call `resolve_field`.
---     value_at        what the call comes to
+--     value_at       what the call comes to
 --     Resolving      what is required where a value is counted or written
 -- Assumes nothing.
 use Rattle.std.specs.Prelude.{ℕ, ◌/◌, ◌≤◌, ◌<◌, ◌≡◌, Bool, true, List, length}

@@ -1,7 +1,7 @@
 -- Rows of chunks in lent numbers, joined as they are appended.
 --     most_number, most_rows    what a number of 32 bits holds; how far rows are counted
---     RowsHold                what the numbers hold of a list of chunks
---     onto, Pushes            one chunk more. For src/rows.rt.
+--     RowsHold                  what the numbers hold of a list of chunks
+--     onto, Pushes              one chunk more. For src/rows.rt.
 -- Assumes nothing.
 use Rattle.std.specs.Prelude.{ℕ, suc, ◌+◌, ◌≤◌, ◌≡◌, cond, List, [], ◌∷◌, ◌++◌, length}
 use Rattle.chunk.specs.declared.form.Kind.{Kind}

@@ -1,7 +1,7 @@
 -- An index over numbered things that fall into buckets, in lent numbers. The things alone determine it, however it was made.
 --     first_from   one more than the first number from i on, and below n, that passes a test, or 0
---     Linked      heads and next hold the index of the things from i on, of n; `q b j` says that thing j is in bucket b
---     Chain       what a chain goes through; `rising` is what it has to go through
+--     Linked       heads and next hold the index of the things from i on, of n; `q b j` says that thing j is in bucket b
+--     Chain        what a chain goes through; `rising` is what it has to go through
 -- Assumes nothing.
 use Rattle.std.specs.Prelude.{ℕ, zero, suc, ◌-◌, ◌≤◌, ◌<◌, ◌≡◌, Bool, true, cond, List, [], ◌∷◌, length, get_or}
 

@@ -1,10 +1,10 @@
 -- Definition rows in the order of their names. The order of names is that of their bytes: the first byte in which two names differ decides,
 -- and a name comes before longer names that begin with it. Of two definitions of one name the one with the lesser number comes first.
---     order_of         how two texts stand in the order of bytes
+--     order_of        how two texts stand in the order of bytes
 --     comes           row i comes before row j, or is row j
 --     merged, sorted  two lists of numbers merged; a list sorted, by sorting its halves and merging them
 --     definitions     the numbers of the definition rows
---     in_order         the numbers of the definition rows in order
+--     in_order        the numbers of the definition rows in order
 --     Ordered         the lent numbers hold the definitions in order
 -- For `merge` inside:
 --     left_first       the first number of two merged lists is that of the left one

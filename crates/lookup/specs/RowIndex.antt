@@ -1,12 +1,12 @@
 -- The index of a file's definition rows, by the hashes of their names.
 --     counts          row i is a definition, and no later row defines its name
---     row_in           row i counts, and its name falls into bucket b
+--     row_in          row i counts, and its name falls into bucket b
 --     fits            the lent numbers have room: there is a bucket, a number for each row, and the numbers fit
 --     Indexed         where they have room, they hold the chains of all rows, or the definitions in order
 --     Built           what `build` leaves
 -- For `build` and `find` inside:
 --     IndexedFrom     the lent numbers have room, and hold the chains of the rows from row i on
---     last_from        the number of the last definition of a name among the rows from row i on
+--     last_from       the number of the last definition of a name among the rows from row i on
 --     Follows, Links  what following a chain comes to, and making the chains, where at most `most` rows of a chain are looked at
 -- Assumes nothing.
 use Rattle.std.specs.Prelude.{ℕ, suc, ◌+◌, ◌/◌, ◌%◌, ◌≤◌, ◌≡◌, Bool, true, false, ◌&&◌, List, ◌⊎◌, length, drop, eqb, ltb, leb}

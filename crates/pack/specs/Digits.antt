@@ -1,8 +1,8 @@
 -- Numbers as digits in a base, most significant first [01:Rows and their packing]: "most significant bit first". Bytes are digits in
 -- base 256.
---     digits         the w digits of n in a base
+--     digits          the w digits of n in a base
 --     of_digits       the number whose digits are those of a, and then l
---     AllBelow       numbers that are digits in a base
+--     AllBelow        numbers that are digits in a base
 -- Assumes nothing.
 use Rattle.std.specs.Prelude.{ℕ, zero, suc, ◌+◌, ◌*◌, ◌/◌, ◌%◌, ◌<◌, List, [], ◌∷◌, ◌++◌}
 

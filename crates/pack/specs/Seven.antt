@@ -2,9 +2,9 @@
 -- start 24, length 24."
 --     pack_row, packing          the bytes of a row, and of rows
 --     unpack_row, unpacking      the row of seven bytes, and bytes taken as rows, seven by seven
---     three_at, unpack_at         the number, and the row, from a byte on
---     end_fits, span_fits         the tests of spans
---     InSeven                   a row that seven bytes hold
+--     three_at, unpack_at        the number, and the row, from a byte on
+--     end_fits, span_fits        the tests of spans
+--     InSeven                    a row that seven bytes hold
 -- Assumes nothing.
 use Rattle.std.specs.Prelude.{ℕ, ◌+◌, ◌-◌, ◌*◌, ◌/◌, ◌%◌, ◌≤◌, Bool, ◌&&◌, List, [], ◌∷◌, ◌++◌, get_or, leb}
 use Rattle.row.specs.Row.{Row, row_of}

@@ -1,7 +1,7 @@
 -- What is lent with a file, and what resolving refuses with 17 [01:Rows and their packing].
 --     Month, Lent             what is lent: the file, its rows, and the month words with their texts
---     months_of                month words with their texts in lent numbers and bytes, four numbers to a word
---     is_right                 rows, chosen row and months are as resolving requires
+--     months_of               month words with their texts in lent numbers and bytes, four numbers to a word
+--     is_right                rows, chosen row and months are as resolving requires
 -- Assumes nothing.
 use Rattle.std.specs.Prelude.{ℕ, ◌%◌, Bool, true, false, ◌&&◌, List, [], ◌∷◌, map, length, drop, eqb, leb}
 use Rattle.text.specs.Utf8.{validity_of}

@@ -1,8 +1,8 @@
 -- Refusals [01:Numbers a caller can get]: what every call says of them.
 --     number_of        01's table
 --     fault_at         a refusal at an empty place
---     nowhere         a refusal without a place of its own, which is at 0..0
---     Answered        the call gives an answer over some lent output
+--     nowhere          a refusal without a place of its own, which is at 0..0
+--     Answered         the call gives an answer over some lent output
 -- Which of them a call can answer is a theorem beside the call's contract: `Refusals` of the crates above.
 -- Assumes nothing.
 use Rattle.std.specs.Prelude.{ℕ, List}

@@ -1,5 +1,5 @@
 -- The row rules by masks: a mask is a number with a bit for each kind that may come next. And what the functions of `mask` answer.
---     may_of, more_of, masks_of                 the masks of what is awaited by `Rules`
+--     may_of, more_of, masks_of                  the masks of what is awaited by `Rules`
 --     taken_of, after_of, step_of, ends_of       whether a row may come; the masks after it; whether the sequence may end
 -- That the second follow the first is `masks-step` and `masks-whole` of specs/Ruled.antt.
 -- Assumes nothing.

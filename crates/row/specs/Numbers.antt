@@ -1,6 +1,6 @@
 -- Numbers as rows, four to a row, and the contract of the row check [01:Rows and their packing]: "The row check, after a field name,
 -- takes the next row as a value row, or refuses with 17"; "rows whose numbers are no whole count of rows are refused with 17 too".
---     rows_of              numbers taken as rows, four by four
+--     rows_of               numbers taken as rows, four by four
 --     are_rows, check_of    what `check` answers
 --     await_of, state_of    the code's words for what may come next, and `Rules`' words
 -- Assumes nothing.

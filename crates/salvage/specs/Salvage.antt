@@ -1,9 +1,9 @@
 -- Salvage [01:Salvage]: "Boundaries: each "@" at byte 0 or after byte 0x0A. The bytes before the first, if any, form a piece.
 -- Each piece is checked for UTF-8 and read alone. Of a refused piece only kinds 9 (the piece) and 10 remain."
---     cut             the pieces of a file
---     told            the rows that a piece gives
+--     cut              the pieces of a file
+--     told             the rows that a piece gives
 --     salvage_of       the rows that a file gives, each piece at its place
---     Salvage         the contract of `salvage`
+--     Salvage          the contract of `salvage`
 -- Assumes nothing.
 use Rattle.std.specs.Prelude.{ℕ, ◌+◌, ◌≡◌, Bool, false, cond, ◌&&◌, List, [], ◌∷◌, ◌++◌, length, eqb, leb}
 use Rattle.row.specs.declared.form.Kind.TheVariants as kind

@@ -1,7 +1,7 @@
 -- Search by halving in numbers that are taken for rows, w to a row, whose first two numbers are the row's key. It is defined for any numbers,
 -- whether they rise or not; where the rows before some place come before a key and the others do not, it finds that place (`finds` of
 -- Search.antt).
---     before       the order of keys
+--     before        the order of keys
 --     place_of      the search among all rows. For src/lib.rt.
 -- Assumes nothing.
 use Rattle.std.specs.Prelude.{ℕ, zero, suc, ◌+◌, ◌*◌, ◌-◌, ◌/◌, Bool, cond, ◌&&◌, ◌||◌, List, ltb, eqb, length, get_or}

@@ -1,9 +1,9 @@
 -- Content [resolve.rs:ContentParser], in the Rust's order: readers that emit parts, and the chunks that come of the parts.
 --     Part, State, steps, chunks_of       parts, and [resolve.rs:turnaround]
---     backslash, command, maths          the Rust's functions of the same names
+--     backslash, command, maths           the Rust's functions of the same names
 --     content_turn                        one turn of the loop of [resolve.rs:parse_impl]
---     inside, content                    content, with so many arguments left to open
---     flatten                            [resolve.rs:flatten]
+--     inside, content                     content, with so many arguments left to open
+--     flatten                             [resolve.rs:flatten]
 -- Assumes nothing.
 use Rattle.std.specs.Prelude.{ℕ, zero, suc, ◌+◌, ◌-◌, Bool, true, false, cond, not, ◌&&◌, List, [], ◌∷◌, ◌++◌, length, take, eqb, ltb}
 use Rattle.text.specs.Class.{is_whitespace, is_control, is_id_continue, mark}

@@ -1,9 +1,9 @@
 -- Definitions for the contracts of src/turn.rt: turns that write text, as specs/Content.antt has them.
---     is_sign, ends_text, Ordinary               bytes, and what a turn does at them
+--     is_sign, ends_text, Ordinary             bytes, and what a turn does at them
 --     turns, CopiesOne, CopiesAll, Wrote       content from a place on; turns that copy, and turns that write text
 --     WordRun                                  bytes that turns copy one by one
 --     Behind, Command, Took                    what stands behind a backslash; a command that is written
---     end_of, ArgumentEnds, EndInside           where an argument ends
+--     end_of, ArgumentEnds, EndInside          where an argument ends
 --     SaysText                                 what a function answers whose turns write text
 --     Grows, GrowsText, ReadyText              bounds: the text grows by at most two bytes for each byte read
 -- Assumes nothing.

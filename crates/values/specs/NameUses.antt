@@ -2,7 +2,7 @@
 -- proofs/NameUses.antt.
 --     Defines, Known, BeingResolved   the definitions and month words with the name that is used
 --     UseFault                        with what a use is refused, and when
---     use_of, or_refused                what the use itself answers, before anything is opened
+--     use_of, or_refused              what the use itself answers, before anything is opened
 --     Reached, Met                    the elements that are met while a value is resolved
 --     Counts, Counting                a definition is the one of its name that counts
 --     NameUses                        the theorems

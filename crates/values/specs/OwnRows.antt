@@ -2,9 +2,9 @@
 -- in the file or among the rows, such as the entries of other authors, changes nothing of it. The proof is `own-rows` of proofs/OwnRows.antt.
 --     SpeltElement, value_in             the elements of a value, with their bytes
 --     Definition, definitions_of         the definitions in the order of their rows, with their names' bytes and their elements
---     as_they_are, left_out                two ways to give a place: as it is, or left out
+--     as_they_are, left_out              two ways to give a place: as it is, or left out
 --     with_places                        what a value resolves to, with its places given in one of these ways
---     OwnRows                           the theorem, with places and without
+--     OwnRows                            the theorem, with places and without
 -- Assumes nothing.
 use Rattle.std.specs.Prelude.{ℕ, suc, ◌≡◌, Bool, cond, List, [], ◌∷◌, map, drop}
 use Rattle.row.specs.declared.form.Kind.TheVariants.{DefinitionName}

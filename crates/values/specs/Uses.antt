@@ -1,7 +1,7 @@
 -- Definitions for the contracts of src/months.rt and src/elements.rt: names, and value and name, which call each other.
---     MonthFound, Means, allowed_of     what a name means in lent numbers and bytes, and whether its use is allowed
+--     MonthFound, Means, allowed_of       what a name means in lent numbers and bytes, and whether its use is allowed
 --     first_element, only_at, value_from  the elements of a value
---     ReadyValue                       what value and name require
+--     ReadyValue                          what value and name require
 -- Assumes nothing.
 use Rattle.std.specs.Prelude.{ℕ, zero, suc, ◌+◌, ◌≤◌, ◌<◌, ◌≡◌, Bool, true, cond, List, [], ◌∷◌, length, drop, ltb}
 use Rattle.text.specs.Scan.{part}

@@ -1,6 +1,6 @@
 -- The call over a whole file answers for each value what `resolve_field` answers for it. The proof is `each-value` of proofs/EachValue.antt.
 --     value_rows         the numbers of the rows that are values, in their order
---     EachValue         value k of the file is the one of value row k, with flag k
+--     EachValue          value k of the file is the one of value row k, with flag k
 -- Assumes nothing.
 use Rattle.std.specs.Prelude.{ℕ, suc, ◌<◌, ◌≡◌, cond, List, [], ◌∷◌, length, get_or, drop}
 use Rattle.row.specs.declared.fault.Reason.TheVariants.{BadRows}

@@ -1,7 +1,7 @@
 -- The call `resolve_file`: every value of a file in one call.
---     results_from                           what each value resolves to, in the order of the rows
+--     results_from                            what each value resolves to, in the order of the rows
 --     answer_numbers, chunk_numbers, texts    what is written: an answer row for each value, the rows of their chunks, their texts
---     ResolvesFile                          the contract
+--     ResolvesFile                            the contract
 -- Assumes nothing.
 use Rattle.std.specs.Prelude.{ℕ, suc, ◌+◌, ◌*◌, ◌/◌, ◌≡◌, Bool, false, cond, not, ◌&&◌, List, [], ◌∷◌, ◌++◌, length, drop, replicate, eqb, leb}
 use Rattle.row.specs.declared.form.Kind.TheVariants as kind

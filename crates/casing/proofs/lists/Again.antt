@@ -1,6 +1,6 @@
 -- A list that maps no character of an image: mapping twice is mapping once. That no row has a character of another one's images is tested
 -- row by row, and not character by character.
---     is_final       the test of a row, against all rows
+--     is_final      the test of a row, against all rows
 --     again-of      what follows
 -- Assumes nothing.
 use Prim.Native.Nat.{ℕ, ◌+◌, ◌-◌, ◌%◌}

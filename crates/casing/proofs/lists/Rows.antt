@@ -2,7 +2,7 @@
 --     Sound, sound         a row that is right, in numbers
 --     scalar-most          scalar values are at most 10FFFF
 --     Covered, covered     a row has a character, in numbers
---     row_at                the row at a place, read off the list's numbers
+--     row_at               the row at a place, read off the list's numbers
 --     count, row_next      how many numbers there are; the row at the next place
 --     sound-at             each row of a list that keeps the rule is right
 -- Assumes nothing.

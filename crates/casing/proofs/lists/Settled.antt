@@ -1,5 +1,5 @@
 -- Ranges of characters that no row of a list has: a character in one of them is its own image.
---     is_clear       the test of a range, against all rows
+--     is_clear      the test of a range, against all rows
 --     clear_of      what follows
 -- Assumes nothing.
 use Prim.Native.Nat.{ℕ}

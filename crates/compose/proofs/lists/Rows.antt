@@ -1,5 +1,5 @@
 -- The rows of a list: by their places, as a search meets them, and in a list that rises.
---     row_of                  the row at a place, read off the list's numbers
+--     row_of                 the row at a place, read off the list's numbers
 --     count, row_next        how many numbers there are; the row at the next place
 --     not-has, not-has-low   a row that a test tells from a letter and a mark does not have them; so one that comes before them
 --     before_on              a row that comes before another comes before all that the other comes before

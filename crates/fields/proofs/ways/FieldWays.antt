@@ -6,7 +6,7 @@
 --     several-copied, several-again           the value is copied from the small room, or resolved again
 --     count-as                                the value is counted only
 --     right-as, lent-right, which-inside      what `field` checks
---     field_at, count_at, only_at_lem             the value of a row, and one that is a literal
+--     field_at, count_at, only_at_lem         the value of a row, and one that is a literal
 --     only-inside                             where that literal stands
 -- Assumes nothing.
 use Prim.Native.Nat.{ℕ, suc, ◌+◌, ◌*◌, ◌/◌, ◌%◌, ◌≤◌, ◌<◌}

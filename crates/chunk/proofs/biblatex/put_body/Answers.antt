@@ -23,4 +23,7 @@ pub returns-in-Math : goal.returns-in-Math
 returns-in-Math c =
     let a = c.args in
     let e = sym (ap (λ (k : Kind). body_of a.verb k (part a.t.now a.from a.to)) c.in-Math.is) in
-    record { puts = puts-as e (puts-on c.copy-last.ensures.puts c.put.ensures.puts); upper_bound = omega (arith, c.copy-last.ensures.from_value, c.put.ensures.value, c.requires.0) }
+    record {
+      puts = puts-as e (puts-on c.copy-last.ensures.puts c.put.ensures.puts);
+      upper_bound = omega (arith, c.copy-last.ensures.from_value, c.put.ensures.value, c.requires.0);
+    }

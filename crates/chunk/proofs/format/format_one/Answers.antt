@@ -36,4 +36,7 @@ returns-in-Math c =
     let a = c.args in
     let e = sym (ap (λ (k : Kind). format_one a.white k (part a.t.now a.from a.to)) c.in-Math.is) in
     let put = puts-as (ap (λ (w : Written). w.text) e) (puts-on (puts-on c.put-first.ensures.puts c.copy-last.ensures.puts) c.put-end.ensures.puts) in
-    record { puts = put; white_value = (ap (λ (w : Written). w.white) e, omega (arith, c.put-first.ensures.value, c.copy-last.ensures.from_value, c.put-end.ensures.value, c.requires.0)) }
+    record {
+      puts = put;
+      white_value = (ap (λ (w : Written). w.white) e, omega (arith, c.put-first.ensures.value, c.copy-last.ensures.from_value, c.put-end.ensures.value, c.requires.0));
+    }

@@ -41,5 +41,8 @@ returns c =
     let a = c.args in
     let passed = sym c.check.ensures ∙ c.in-Passed.is in
     let fits : length (format_verbatim (chunks_of a.t.now a.rows.now)) ≤ length a.out.now =
-    (elim c.if-not-surely_fits.branch [ then-not-surely_fits+else-room-end w ↦ laws.all-fits w.format_all-end.ensures w.if-room-end.false | else-not-surely_fits w ↦ surely a.t.now a.rows.now (sym c.surely_fits.ensures ∙ w.if-not-surely_fits.false) ]) in
+    (elim c.if-not-surely_fits.branch [
+      | then-not-surely_fits+else-room-end w ↦ laws.all-fits w.format_all-end.ensures w.if-room-end.false
+      | else-not-surely_fits w ↦ surely a.t.now a.rows.now (sym c.surely_fits.ensures ∙ w.if-not-surely_fits.false)
+    ]) in
     laws.wrote passed fits c.format_all.ensures

@@ -20,10 +20,14 @@ overflow_sub-n c =
     (row_here g.checks g.chunks c.loop-i-test.true c.row_at-row.ensures).0
 
 pub overflow_mul-n : goal.overflow_mul-n
-overflow_mul-n c = record { fits = omega (arith, laws.times-small c.args.times (c.row_at-row.result.to - c.row_at-row.result.from) c.requires.2 (omega (arith, c.row_at-row.ensures.small))) }
+overflow_mul-n c = record {
+  fits = omega (arith, laws.times-small c.args.times (c.row_at-row.result.to - c.row_at-row.result.from) c.requires.2 (omega (arith, c.row_at-row.ensures.small)));
+}
 
 pub overflow_add-n : goal.overflow_add-n
-overflow_add-n c = record { fits = omega (arith, laws.times-small c.args.times (c.row_at-row.result.to - c.row_at-row.result.from) c.requires.2 (omega (arith, c.row_at-row.ensures.small))) }
+overflow_add-n c = record {
+  fits = omega (arith, laws.times-small c.args.times (c.row_at-row.result.to - c.row_at-row.result.from) c.requires.2 (omega (arith, c.row_at-row.ensures.small)));
+}
 
 pub overflow_add-n-in-loop-i : goal.overflow_add-n-in-loop-i
 overflow_add-n-in-loop-i c =

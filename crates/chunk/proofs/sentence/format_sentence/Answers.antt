@@ -42,5 +42,8 @@ returns c =
     let a = c.args in
     let passed = sym c.check.ensures ∙ c.in-Passed.is in
     let fits : length (format_sentence (chunks_of a.t.now a.rows.now)) ≤ length a.out.now =
-    (elim c.if-not-surely_fits.branch [ then-not-surely_fits+else-room-end w ↦ laws.all-fits w.sentence_all-end.ensures w.if-room-end.false | else-not-surely_fits w ↦ surely-said a.t.now a.rows.now (well-formed.checked a.t.now a.rows.now passed) (sym c.surely_fits.ensures ∙ w.if-not-surely_fits.false) ]) in
+    (elim c.if-not-surely_fits.branch [
+      | then-not-surely_fits+else-room-end w ↦ laws.all-fits w.sentence_all-end.ensures w.if-room-end.false
+      | else-not-surely_fits w ↦ surely-said a.t.now a.rows.now (well-formed.checked a.t.now a.rows.now passed) (sym c.surely_fits.ensures ∙ w.if-not-surely_fits.false)
+    ]) in
     laws.wrote passed fits c.sentence_all.ensures

@@ -30,7 +30,10 @@ pub put_image-requires : goal.put_image-requires
 put_image-requires c = (all-scalar c.args.c true c.if-up.true c.to_uppercase.ensures.same c.requires.0, omega (arith, c.requires.1))
 
 pub returns-then-up : goal.returns-then-up
-returns-then-up c = record { puts = puts-as (same-octets c.args.c true c.if-up.true c.to_uppercase.ensures.same) c.put_image.ensures.puts; upper_bound = omega (arith, c.put_image.ensures.upper_bound) }
+returns-then-up c = record {
+  puts = puts-as (same-octets c.args.c true c.if-up.true c.to_uppercase.ensures.same) c.put_image.ensures.puts;
+  upper_bound = omega (arith, c.put_image.ensures.upper_bound);
+}
 
 pub lowered-requires : goal.lowered-requires
 lowered-requires c = c.requires.2 c.if-c-lt128.false
@@ -39,4 +42,7 @@ pub put_image-requires-2 : goal.put_image-requires-2
 put_image-requires-2 c = (all-scalar c.args.c false c.if-up.false c.lowered.ensures.same c.requires.0, omega (arith, c.requires.1))
 
 pub returns : goal.returns
-returns c = record { puts = puts-as (same-octets c.args.c false c.if-up.false c.lowered.ensures.same) c.put_image-2.ensures.puts; upper_bound = omega (arith, c.put_image-2.ensures.upper_bound) }
+returns c = record {
+  puts = puts-as (same-octets c.args.c false c.if-up.false c.lowered.ensures.same) c.put_image-2.ensures.puts;
+  upper_bound = omega (arith, c.put_image-2.ensures.upper_bound);
+}

@@ -16,7 +16,13 @@ returns-in-Wrote c =
     record { puts = puts-as part c.copy.ensures.puts; upper_bound = omega (arith, c.copy.ensures.from_value, size.1) }
 
 pub returns-in-NotScalar : goal.returns-in-NotScalar
-returns-in-NotScalar c = record { puts = absurd (laws.encoded-scalar c.args.c c.requires.0 (omega arith) c.encode.ensures c.in-NotScalar.is); upper_bound = absurd (laws.encoded-scalar c.args.c c.requires.0 (omega arith) c.encode.ensures c.in-NotScalar.is) }
+returns-in-NotScalar c = record {
+  puts = absurd (laws.encoded-scalar c.args.c c.requires.0 (omega arith) c.encode.ensures c.in-NotScalar.is);
+  upper_bound = absurd (laws.encoded-scalar c.args.c c.requires.0 (omega arith) c.encode.ensures c.in-NotScalar.is);
+}
 
 pub returns-in-NoRoom : goal.returns-in-NoRoom
-returns-in-NoRoom c = record { puts = absurd (laws.encoded-room c.args.c c.requires.0 (omega arith) c.encode.ensures c.in-NoRoom.is); upper_bound = absurd (laws.encoded-room c.args.c c.requires.0 (omega arith) c.encode.ensures c.in-NoRoom.is) }
+returns-in-NoRoom c = record {
+  puts = absurd (laws.encoded-room c.args.c c.requires.0 (omega arith) c.encode.ensures c.in-NoRoom.is);
+  upper_bound = absurd (laws.encoded-room c.args.c c.requires.0 (omega arith) c.encode.ensures c.in-NoRoom.is);
+}

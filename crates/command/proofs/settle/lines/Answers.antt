@@ -113,4 +113,7 @@ returns c =
     let p = c.requires in
     let b = c.loop-i in
     let g = b.invariant in
-    let h = c.loop-i-test.false in record { lays = laws.finished a.t.now a.from a.to a.white b.t b.w b.i b.j g p.1 h; white_value = (laws.finished-white a.t.now a.from a.to a.white b.t b.w b.i b.j g p.1 h, omega (arith, g.behind, g.inside)) }
+    let h = c.loop-i-test.false in record {
+      lays = laws.finished a.t.now a.from a.to a.white b.t b.w b.i b.j g p.1 h;
+      white_value = (laws.finished-white a.t.now a.from a.to a.white b.t b.w b.i b.j g p.1 h, omega (arith, g.behind, g.inside));
+    }

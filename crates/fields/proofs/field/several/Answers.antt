@@ -120,6 +120,7 @@ returns-else-fits c =
       writes = ways.field_at (lent_of a.file.now a.rows.now a.months.now a.words.now) a.verbatim a.rows.now a.which refl a.chunks.now a.text.now _ _ _
           (ways.several-again (run 0) c.begin-first.result c.begin-first.ensures.0 _ _ c.value.result _ _ said a.chunks.now a.text.now
           c.in-Done.st c.in-Done.is c.fits.result c.fits.ensures c.if-not-fits.false c.answer-in-Done.result
-          c.answer-in-Done.ensures c.value-in-Done.result _ _ (says-count run c.begin-first.result.names 0 c.begin-first.ensures.2 c.begin-first.result _ _ c.value-in-Done.result _ _ c.value-in-Done.ensures.says_run));
+          c.answer-in-Done.ensures c.value-in-Done.result _ _
+          (says-count run c.begin-first.result.names 0 c.begin-first.ensures.2 c.begin-first.result _ _ c.value-in-Done.result _ _ c.value-in-Done.ensures.says_run));
       bounded_answer = ways.answer-bounded c.in-Done.st (subst BoundedWent c.in-Done.is c.value.ensures.bounded_went.0) c.answer-in-Done.result c.answer-in-Done.ensures;
     }

@@ -29,7 +29,10 @@ returns-then-s-at-eq36 c =
 pub returns-else-s-at-eq36 : goal.returns-else-s-at-eq36
 returns-else-s-at-eq36 c =
     let a = c.args in
-    let ends = ends_at c.in-At.is c.sign_end.ensures in record { says_sign = sign-again a.place a.verb a.s.now a.st a.out.now a.numbers.now _ _ ends _ _ _ c.turnaround-t.ensures c.if-s-at-eq36.false; ahead_made = ahead-sign a.place a.verb a.s.now a.st a.out.now a.numbers.now _ _ ends _ _ _ c.turnaround-t.ensures }
+    let ends = ends_at c.in-At.is c.sign_end.ensures in record {
+      says_sign = sign-again a.place a.verb a.s.now a.st a.out.now a.numbers.now _ _ ends _ _ _ c.turnaround-t.ensures c.if-s-at-eq36.false;
+      ahead_made = ahead-sign a.place a.verb a.s.now a.st a.out.now a.numbers.now _ _ ends _ _ _ c.turnaround-t.ensures;
+    }
 
 pub returns-in-Refused : goal.returns-in-Refused
 returns-in-Refused c =

@@ -32,7 +32,8 @@ returns c =
           a.to _ c.copy-l-2.result c.if-place.false
           c.copy-l-2.ensures.lays c.narrow-begins.result c.narrow-ends.result c.narrow-first.result c.narrow-last.result
           c.push-more.result _ c.narrow-begins.ensures
-          c.narrow-ends.ensures (c.narrow-first.ensures (omega (arith, c.requires.from_le_to.0, c.requires.fits.1))) (c.narrow-last.ensures c.requires.fits.1) c.push-more.ensures.pushes;
+          c.narrow-ends.ensures (c.narrow-first.ensures (omega (arith, c.requires.from_le_to.0, c.requires.fits.1))) (c.narrow-last.ensures c.requires.fits.1)
+          c.push-more.ensures.pushes;
       at = refl;
       braces = refl;
       start = refl;

@@ -61,7 +61,8 @@ argument-finish-requires t c =
     let ahead = subst (AheadMade (length (take a.to a.s.now)) 0 c.begin-i.result) is c.content-r.ensures.ahead_made in
     let kept = nested.kept (take a.to a.s.now) (part a.s.now (a.st.at + 1) a.end) a.m a.depth a.from a.to
     c.if-depth-eq0.false
-    a.st a.out.now c.begin-i.result _ c.begin-i.ensures.argument_begun c.content-r.result _ _ c.content-r.ensures.says_content m is (nested.room-now c.requires.ready_content) in record {
+    a.st a.out.now c.begin-i.result _ c.begin-i.ensures.argument_begun c.content-r.result _ _ c.content-r.ensures.says_content m is
+    (nested.room-now c.requires.ready_content) in record {
       marks_value = (c.requires.ready_content.text.marks, c.requires.m_value.0);
       closes = (
         nested.closes a.s.now a.st c.begin-i.result m a.out.now _ a.names.now a.marks.now a.end a.from a.to c.requires.ready_content c.requires.m_value.1
@@ -227,7 +228,8 @@ content-loop-out-preserved t c =
       ways.ready_on a.s.now a.place 1 l.st m l.out _ a.names.now a.marks.now l.invariant.3 k n,
       λ r₂ o₂ b₂ h. l.invariant.4 r₂ o₂ b₂
           (ways.turn-argument a.place (inside a.depth) a.verb a.s.now l.st l.out l.numbers c.text_at.result _ c.text_at.ensures.says_text
-          c.in-Argument.m c.in-Argument.end c.in-Argument.from c.in-Argument.to c.in-Argument.is c.argument.result _ c.argument.ensures.says_argument m r₂ o₂ b₂ h c.in-Done-argument.is),
+          c.in-Argument.m c.in-Argument.end c.in-Argument.from c.in-Argument.to c.in-Argument.is c.argument.result _ c.argument.ensures.says_argument m r₂ o₂ b₂ h
+          c.in-Done-argument.is),
     )
 
 pub content-returns-in-Refused-argument : goal.content-returns-in-Refused-argument

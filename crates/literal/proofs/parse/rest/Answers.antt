@@ -9,7 +9,10 @@ use Rattle.literal.proofs.ways.LiteralWays.{rest-long, rest-refused, rest-chunks
 use Rattle.literal.proofs.parse.rest.Goals as goal
 
 pub returns-then-s-gt-MOST_LITERAL : goal.returns-then-s-gt-MOST_LITERAL
-returns-then-s-gt-MOST_LITERAL c = let a = c.args in record { says_parsed = rest-long a.verb a.s.now a.base a.before a.have a.numbers.now _ _ c.if-s-gt-MOST_LITERAL.true; grows_parsed = (omega (arith, c.requires.0.file), omega (arith, c.requires.0.file)) }
+returns-then-s-gt-MOST_LITERAL c = let a = c.args in record {
+  says_parsed = rest-long a.verb a.s.now a.base a.before a.have a.numbers.now _ _ c.if-s-gt-MOST_LITERAL.true;
+  grows_parsed = (omega (arith, c.requires.0.file), omega (arith, c.requires.0.file));
+}
 
 pub content-requires : goal.content-requires
 content-requires c =

@@ -8,7 +8,10 @@ use Rattle.raw.proofs.field.field_end.Goals as goal
 pub returns-then-s-at-eq44 : goal.returns-then-s-at-eq44
 returns-then-s-at-eq44 c =
     let a = c.args in
-    record { says = λ base b. turn-again (end-here a.s.now a.at c.if-at-s.true c.if-s-at-eq44.true c.eat_whitespace-p2.ensures.0 c.comment-p3.ensures.0); within = (omega arith, omega arith, omega arith) }
+    record {
+      says = λ base b. turn-again (end-here a.s.now a.at c.if-at-s.true c.if-s-at-eq44.true c.eat_whitespace-p2.ensures.0 c.comment-p3.ensures.0);
+      within = (omega arith, omega arith, omega arith);
+    }
 
 pub returns-then-b-eq44 : goal.returns-then-b-eq44
 returns-then-b-eq44 c =
@@ -23,7 +26,10 @@ returns-then-b-eq44 c =
 pub returns-then-b-eq125 : goal.returns-then-b-eq125
 returns-then-b-eq125 c =
     let a = c.args in
-    record { says = λ base b. turn-done (end-brace a.s.now a.at c.eat_whitespace-p1.ensures.0 c.if-p1-s.true c.if-b-eq44.false c.if-b-eq125.true); within = (omega arith, omega arith, omega arith) }
+    record {
+      says = λ base b. turn-done (end-brace a.s.now a.at c.eat_whitespace-p1.ensures.0 c.if-p1-s.true c.if-b-eq44.false c.if-b-eq125.true);
+      within = (omega arith, omega arith, omega arith);
+    }
 
 pub returns : goal.returns
 returns c =

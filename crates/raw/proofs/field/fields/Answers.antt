@@ -44,7 +44,10 @@ pub returns-in-Done : goal.returns-in-Done
 unfolding fields
 returns-in-Done c =
     let a = c.args in
-    let k = done-place (length a.s.now) 0 c.loop-q.p c.loop-q.m 1 c.in-Done.is c.fields_turn.ensures.within c.loop-q.invariant.1 in record { says = loop-done (fields_turn a.kind) a.s.now c.loop-q.p c.loop-q.invariant.4 (turn_at c.in-Done.is c.fields_turn.ensures.says); within = (omega arith, omega arith, omega arith) }
+    let k = done-place (length a.s.now) 0 c.loop-q.p c.loop-q.m 1 c.in-Done.is c.fields_turn.ensures.within c.loop-q.invariant.1 in record {
+      says = loop-done (fields_turn a.kind) a.s.now c.loop-q.p c.loop-q.invariant.4 (turn_at c.in-Done.is c.fields_turn.ensures.says);
+      within = (omega arith, omega arith, omega arith);
+    }
 
 pub shape_of-rows-in-Refused : goal.shape_of-rows-in-Refused
 shape_of-rows-in-Refused c = c.fields_turn.auto.rows ∙ c.loop-q.invariant.3

@@ -15,7 +15,10 @@ returns-then-s-at c =
 pub returns-then-s-p1-eq125 : goal.returns-then-s-p1-eq125
 returns-then-s-p1-eq125 c =
     let a = c.args in
-    record { says = turn-done (fields-brace a.kind a.s.now a.at c.if-s-at.false c.eat_whitespace-p1.ensures.0 c.if-p1-s.true c.if-s-p1-eq125.true); within = (omega arith, omega arith, omega arith) }
+    record {
+      says = turn-done (fields-brace a.kind a.s.now a.at c.if-s-at.false c.eat_whitespace-p1.ensures.0 c.if-p1-s.true c.if-s-p1-eq125.true);
+      within = (omega arith, omega arith, omega arith);
+    }
 
 pub returns-in-Refused : goal.returns-in-Refused
 returns-in-Refused c =
@@ -36,7 +39,10 @@ returns-in-Next c =
     let len = length a.s.now in
     let k = answer-place len 3 _ a.n c.in-Next.is c.field.ensures.within (omega (arith, c.eat_whitespace-p1.ensures.1.to, c.requires.place)) in record {
       says = fields-on a.kind a.s.now a.at c.eat_whitespace-p1.result
-          ((elim c.if-p1-s.branch [ then-p1-s+else-s-p1-eq125 w ↦ fields-other a.kind a.s.now a.at c.if-s-at.false c.eat_whitespace-p1.ensures.0 w.if-p1-s.true w.if-s-p1-eq125.false | else-p1-s w ↦ fields-end a.kind a.s.now a.at c.if-s-at.false c.eat_whitespace-p1.ensures.0 w.if-p1-s.false ]))
+          ((elim c.if-p1-s.branch [
+            | then-p1-s+else-s-p1-eq125 w ↦ fields-other a.kind a.s.now a.at c.if-s-at.false c.eat_whitespace-p1.ensures.0 w.if-p1-s.true w.if-s-p1-eq125.false
+            | else-p1-s w ↦ fields-end a.kind a.s.now a.at c.if-s-at.false c.eat_whitespace-p1.ensures.0 w.if-p1-s.false
+          ]))
           (says_at c.in-Next.is c.field.ensures.says) (c.field_end.ensures.says a.base _);
       within = turn-later len 1 0 _ _ 1 0 a.at a.n c.field_end.result (omega arith) (omega arith) (omega arith) (omega arith)
           c.field_end.ensures.within;

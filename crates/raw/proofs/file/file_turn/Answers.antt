@@ -29,7 +29,10 @@ returns-in-Refused c =
 pub returns-then-b-eq37 : goal.returns-then-b-eq37
 returns-then-b-eq37 c =
     let a = c.args in
-    let k = comment-further a.s.now c.eat_gap-p1.result c.if-s-p1.false c.if-b-eq37.true c.comment.ensures.0 in record { says = turn-again (file-comment a.s.now a.at c.eat_gap-p1.ensures.0 c.if-s-p1.false c.if-b-eq37.true c.comment.ensures.0); within = (omega arith, omega arith, omega arith) }
+    let k = comment-further a.s.now c.eat_gap-p1.result c.if-s-p1.false c.if-b-eq37.true c.comment.ensures.0 in record {
+      says = turn-again (file-comment a.s.now a.at c.eat_gap-p1.ensures.0 c.if-s-p1.false c.if-b-eq37.true c.comment.ensures.0);
+      within = (omega arith, omega arith, omega arith);
+    }
 
 pub returns : goal.returns
 returns c =

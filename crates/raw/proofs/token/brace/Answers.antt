@@ -21,4 +21,7 @@ returns c =
     let delimiter : ℕ → Bool = λ x. is a.byte x || is 0x22 x in
     let narrow = narrow-or (is a.byte) (is 0x22) (narrow-is a.byte c.requires) (narrow-is 0x22 (omega arith)) in
     rw c.fault_at.ensures
-    ((elim c.if-at-s.branch [ then-at-s+else-b-byte w ↦ need-other delimiter a.reason a.s.now a.at narrow w.if-at-s.true w.if-b-byte.false | else-at-s w ↦ need-end delimiter a.reason a.s.now a.at w.if-at-s.false ]))
+    ((elim c.if-at-s.branch [
+      | then-at-s+else-b-byte w ↦ need-other delimiter a.reason a.s.now a.at narrow w.if-at-s.true w.if-b-byte.false
+      | else-at-s w ↦ need-end delimiter a.reason a.s.now a.at w.if-at-s.false
+    ]))

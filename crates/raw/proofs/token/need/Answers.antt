@@ -16,4 +16,7 @@ pub returns : goal.returns
 returns c =
     let a = c.args in
     rw c.fault_at.ensures
-    ((elim c.if-at-s.branch [ then-at-s+else-s-at w ↦ need-other (is a.byte) a.reason a.s.now a.at (narrow-is a.byte c.requires) w.if-at-s.true (ne_eqb _ _ w.if-s-at.false) | else-at-s w ↦ need-end (is a.byte) a.reason a.s.now a.at w.if-at-s.false ]))
+    ((elim c.if-at-s.branch [
+      | then-at-s+else-s-at w ↦ need-other (is a.byte) a.reason a.s.now a.at (narrow-is a.byte c.requires) w.if-at-s.true (ne_eqb _ _ w.if-s-at.false)
+      | else-at-s w ↦ need-end (is a.byte) a.reason a.s.now a.at w.if-at-s.false
+    ]))

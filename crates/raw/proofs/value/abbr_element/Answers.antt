@@ -28,5 +28,11 @@ returns-then-b-eq34 c =
 pub bare_element-requires : goal.bare_element-requires
 bare_element-requires c = (
   c.requires,
-  (elim c.if-at-s.branch [ then-at-s+else-b-eq123+else-b-eq34 w ↦ record { no-brace = λ h. w.if-b-eq123.false; no-quote = λ h. w.if-b-eq34.false } | else-at-s w ↦ record { no-brace = λ h. absurd (omega (arith, w.if-at-s.false)); no-quote = λ h. absurd (omega (arith, w.if-at-s.false)) } ]),
+  (elim c.if-at-s.branch [
+    | then-at-s+else-b-eq123+else-b-eq34 w ↦ record {
+      no-brace = λ h. w.if-b-eq123.false;
+      no-quote = λ h. w.if-b-eq34.false;
+    }
+    | else-at-s w ↦ record { no-brace = λ h. absurd (omega (arith, w.if-at-s.false)); no-quote = λ h. absurd (omega (arith, w.if-at-s.false)) }
+  ]),
 )

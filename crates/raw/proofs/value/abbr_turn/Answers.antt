@@ -16,7 +16,10 @@ pub returns-then-b-eq44 : goal.returns-then-b-eq44
 returns-then-b-eq44 c =
     let a = c.args in
     let len = length a.s.now in
-    let k = answer-place len 1 a.at a.n c.in-Next.is c.abbr_element-r1.ensures.within c.requires.place in record { says = turn-comma a.s.now a.at (says_at c.in-Next.is c.abbr_element-r1.ensures.says) c.if-p1-s.true c.if-b-eq44.true; within = (omega arith, omega arith, omega arith) }
+    let k = answer-place len 1 a.at a.n c.in-Next.is c.abbr_element-r1.ensures.within c.requires.place in record {
+      says = turn-comma a.s.now a.at (says_at c.in-Next.is c.abbr_element-r1.ensures.says) c.if-p1-s.true c.if-b-eq44.true;
+      within = (omega arith, omega arith, omega arith);
+    }
 
 pub returns-then-b-eq35 : goal.returns-then-b-eq35
 returns-then-b-eq35 c =

@@ -23,21 +23,30 @@ pub write_damage-requires-then-rows-ge8 : goal.write_damage-requires-then-rows-g
 write_damage-requires-then-rows-ge8 c =
     let w = c.args.w.now in
     let rows = c.args.rows.now in
-    let o : Octets w = (elim c.if-not-valid.branch [ then-not-valid+in-Valid y ↦ valid-checked w c.requires rows y.validate_short.ensures y.in-Valid.is | else-not-valid y ↦ valid-known w c.requires rows y.if-not-valid.false ]) in
+    let o : Octets w = (elim c.if-not-valid.branch [
+      | then-not-valid+in-Valid y ↦ valid-checked w c.requires rows y.validate_short.ensures y.in-Valid.is
+      | else-not-valid y ↦ valid-known w c.requires rows y.if-not-valid.false
+    ]) in
     off-damage w c.requires rows (off-strict w c.requires rows o c.parse.ensures.says c.in-Refused.is c.culprit.ensures)
 
 pub returns-in-Next : goal.returns-in-Next
 returns-in-Next c =
     let w = c.args.w.now in
     let rows = c.args.rows.now in
-    let o : Octets w = (elim c.if-not-valid.branch [ then-not-valid+in-Valid y ↦ valid-checked w c.requires rows y.validate_short.ensures y.in-Valid.is | else-not-valid y ↦ valid-known w c.requires rows y.if-not-valid.false ]) in
+    let o : Octets w = (elim c.if-not-valid.branch [
+      | then-not-valid+in-Valid y ↦ valid-checked w c.requires rows y.validate_short.ensures y.in-Valid.is
+      | else-not-valid y ↦ valid-known w c.requires rows y.if-not-valid.false
+    ]) in
     piece-sound w c.requires rows o c.parse.ensures.says c.in-Next.is c.parse.ensures.within
 
 pub returns-then-rows-ge8 : goal.returns-then-rows-ge8
 returns-then-rows-ge8 c =
     let w = c.args.w.now in
     let rows = c.args.rows.now in
-    let o : Octets w = (elim c.if-not-valid.branch [ then-not-valid+in-Valid y ↦ valid-checked w c.requires rows y.validate_short.ensures y.in-Valid.is | else-not-valid y ↦ valid-known w c.requires rows y.if-not-valid.false ]) in
+    let o : Octets w = (elim c.if-not-valid.branch [
+      | then-not-valid+in-Valid y ↦ valid-checked w c.requires rows y.validate_short.ensures y.in-Valid.is
+      | else-not-valid y ↦ valid-known w c.requires rows y.if-not-valid.false
+    ]) in
     let x = off-strict w c.requires rows o c.parse.ensures.says c.in-Refused.is c.culprit.ensures in
     piece-damaged w c.requires rows x c.parse.new.rows c.parse.auto.rows c.write_damage-then-rows-ge8.ensures
 
@@ -45,6 +54,9 @@ pub returns-else-rows-ge8 : goal.returns-else-rows-ge8
 returns-else-rows-ge8 c =
     let w = c.args.w.now in
     let rows = c.args.rows.now in
-    let o : Octets w = (elim c.if-not-valid.branch [ then-not-valid+in-Valid y ↦ valid-checked w c.requires rows y.validate_short.ensures y.in-Valid.is | else-not-valid y ↦ valid-known w c.requires rows y.if-not-valid.false ]) in
+    let o : Octets w = (elim c.if-not-valid.branch [
+      | then-not-valid+in-Valid y ↦ valid-checked w c.requires rows y.validate_short.ensures y.in-Valid.is
+      | else-not-valid y ↦ valid-known w c.requires rows y.if-not-valid.false
+    ]) in
     let x = off-strict w c.requires rows o c.parse.ensures.says c.in-Refused.is refl in
     piece-unwritten w c.requires rows x (omega (arith, c.if-rows-ge8.false, c.parse.auto.rows))

@@ -34,8 +34,10 @@ pub loop-i-preserved : goal.loop-i-preserved
 loop-i-preserved c =
     let a = c.args in
     c.loop-i.invariant
-    ∙ elim c.if-b-ne32.branch
-    [ then-b-ne32+else-b+else-not-b w ↦ tab-on a.s.now c.loop-i.i c.loop-i-test.true w.if-not-b.false | else-b-ne32 w ↦ space-on a.s.now c.loop-i.i c.loop-i-test.true w.if-b-ne32.false ]
+    ∙ elim c.if-b-ne32.branch [
+      | then-b-ne32+else-b+else-not-b w ↦ tab-on a.s.now c.loop-i.i c.loop-i-test.true w.if-not-b.false
+      | else-b-ne32 w ↦ space-on a.s.now c.loop-i.i c.loop-i-test.true w.if-b-ne32.false
+    ]
 
 pub returns : goal.returns
 returns c =

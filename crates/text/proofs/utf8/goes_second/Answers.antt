@@ -21,4 +21,9 @@ returns-in-244 c = rw c.in-244.is
 
 pub returns-in_default : goal.returns-in_default
 unfolding goes_second seconds
-returns-in_default c = rw (ne_eqb _ 0xE0 c.in_default.in_default-own.rest.0.0.0.1, ne_eqb _ 0xED c.in_default.in_default-own.rest.0.0.1, ne_eqb _ 0xF0 c.in_default.in_default-own.rest.0.1, ne_eqb _ 0xF4 c.in_default.in_default-own.rest.1)
+returns-in_default c = rw (
+  ne_eqb _ 0xE0 c.in_default.in_default-own.rest.0.0.0.1,
+  ne_eqb _ 0xED c.in_default.in_default-own.rest.0.0.1,
+  ne_eqb _ 0xF0 c.in_default.in_default-own.rest.0.1,
+  ne_eqb _ 0xF4 c.in_default.in_default-own.rest.1,
+)

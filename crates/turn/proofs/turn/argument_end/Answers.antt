@@ -19,7 +19,10 @@ returns-then-s-j c =
     let loop = c.loop-at in
     let s = c.args.s.now in
     let off = end-off loop.depth s loop.i c.eat_until-j.result c.eat_until-j.ensures.0 c.if-s-j.true in
-    record { value = off ∙ sym loop.invariant.3; end_inside = (omega (arith, c.eat_until-j.ensures.1.to, loop.invariant.1), omega (arith, c.eat_until-j.ensures.1.to, loop.invariant.1)) }
+    record {
+      value = off ∙ sym loop.invariant.3;
+      end_inside = (omega (arith, c.eat_until-j.ensures.1.to, loop.invariant.1), omega (arith, c.eat_until-j.ensures.1.to, loop.invariant.1));
+    }
 
 pub loop-at-preserved-then-s-j-eq123 : goal.loop-at-preserved-then-s-j-eq123
 loop-at-preserved-then-s-j-eq123 c = (

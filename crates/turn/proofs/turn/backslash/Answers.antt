@@ -100,4 +100,7 @@ returns-else-verb c =
     }
 
 pub returns-else-is_control : goal.returns-else-is_control
-returns-else-is_control c = let a = c.args in record { says_text = says-as false a.verb a.s.now a.at a.len a.out.now c.command.result _ (sym c.if-verb-2.false) c.command.ensures.says_text; grows_text = c.command.ensures.grows_text }
+returns-else-is_control c = let a = c.args in record {
+  says_text = says-as false a.verb a.s.now a.at a.len a.out.now c.command.result _ (sym c.if-verb-2.false) c.command.ensures.says_text;
+  grows_text = c.command.ensures.grows_text;
+}

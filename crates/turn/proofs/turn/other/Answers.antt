@@ -29,7 +29,10 @@ copy-l-requires c =
     (omega (arith, in-text.0), in-text.1, omega (arith, p.4, in-text.0, in-text.1))
 
 pub returns-in-End : goal.returns-in-End
-returns-in-End c = record { wrote = absurd (answers.not_end c.args.s.now c.args.at c.peek.ensures.0 c.in-End.is c.requires.0); grows = absurd (answers.not_end c.args.s.now c.args.at c.peek.ensures.0 c.in-End.is c.requires.0) }
+returns-in-End c = record {
+  wrote = absurd (answers.not_end c.args.s.now c.args.at c.peek.ensures.0 c.in-End.is c.requires.0);
+  grows = absurd (answers.not_end c.args.s.now c.args.at c.peek.ensures.0 c.in-End.is c.requires.0);
+}
 
 pub returns-else-is_whitespace : goal.returns-else-is_whitespace
 returns-else-is_whitespace c =

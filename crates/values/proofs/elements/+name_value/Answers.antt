@@ -171,7 +171,10 @@ value-returns-in-Nothing t c =
     let a = c.args in
     let l = c.loop-start in
     let lent = lent_of a.file.now a.rows.now a.months.now a.words.now in
-    let path = take (most_open - a.left) a.path.now in record { says_run = l.invariant.8 _ _ _ (ways.value-end lent a.verb a.left path a.rows.now l.i l.st l.chunks l.text c.element_at-e.result c.element_at-e.ensures c.in-Nothing.is); bounded_went = (l.invariant.5, l.invariant.7) }
+    let path = take (most_open - a.left) a.path.now in record {
+      says_run = l.invariant.8 _ _ _ (ways.value-end lent a.verb a.left path a.rows.now l.i l.st l.chunks l.text c.element_at-e.result c.element_at-e.ensures c.in-Nothing.is);
+      bounded_went = (l.invariant.5, l.invariant.7);
+    }
 
 pub value-slice_bounds-literal-count : goal.value-slice_bounds-literal-count
 value-slice_bounds-literal-count t c =

@@ -3,7 +3,10 @@ use Rattle.values.proofs.naming.MeaningWays.{means-definition, means-inside, mea
 use Rattle.values.proofs.elements.meaning_of.Goals as goal
 
 pub returns-in-Row : goal.returns-in-Row
-returns-in-Row c = let a = c.args in record { means = means-definition a.file.now a.rows.now a.months.now a.words.now a.start a.end _ c.find.ensures _ c.in-Row.is; row_inside = means-inside a.file.now a.rows.now a.months.now a.words.now a.start a.end _ c.find.ensures _ c.in-Row.is }
+returns-in-Row c = let a = c.args in record {
+  means = means-definition a.file.now a.rows.now a.months.now a.words.now a.start a.end _ c.find.ensures _ c.in-Row.is;
+  row_inside = means-inside a.file.now a.rows.now a.months.now a.words.now a.start a.end _ c.find.ensures _ c.in-Row.is;
+}
 
 pub returns-in-Text : goal.returns-in-Text
 returns-in-Text c =

@@ -23,7 +23,8 @@ returns-then-scratch-lt-LEAST_SCRATCH c =
     let a = c.args in
     ways.refuse-as _ c.nowhere-then-scratch-lt-LEAST_SCRATCH.ensures a.answers.now a.chunks.now a.text.now
     (ways.all-scratch a.file.now a.rows.now a.flags.now a.months.now a.words.now (length a.scratch.now)
-    c.check_file.result c.check_file.ensures c.in-Passed.is c.are_lent.result c.values.result c.are_lent.ensures c.values.ensures c.if-not-are_lent-values.false c.if-scratch-lt-LEAST_SCRATCH.true)
+    c.check_file.result c.check_file.ensures c.in-Passed.is c.are_lent.result c.values.result c.are_lent.ensures c.values.ensures c.if-not-are_lent-values.false
+    c.if-scratch-lt-LEAST_SCRATCH.true)
 
 pub indexed-requires : goal.indexed-requires
 indexed-requires c =
@@ -36,4 +37,5 @@ pub returns : goal.returns
 returns c =
     let a = c.args in
     ways.writes_as (sym (ways.all-good a.file.now a.rows.now a.flags.now a.months.now a.words.now (length a.scratch.now)
-    c.check_file.result c.check_file.ensures c.in-Passed.is c.are_lent.result c.values.result c.are_lent.ensures c.values.ensures c.if-not-are_lent-values.false c.if-scratch-lt-LEAST_SCRATCH.false)) c.indexed.ensures
+    c.check_file.result c.check_file.ensures c.in-Passed.is c.are_lent.result c.values.result c.are_lent.ensures c.values.ensures c.if-not-are_lent-values.false
+    c.if-scratch-lt-LEAST_SCRATCH.false)) c.indexed.ensures
