@@ -1,5 +1,5 @@
 -- What a list of case mappings says of a character.
---     Stride, _to_by_is_then_then_   a row of the list: characters at one distance from each other, whose images are at the same distance
+--     Stride, ◌to◌by◌is◌then◌then◌   a row of the list: characters at one distance from each other, whose images are at the same distance
 --     image_of, Spells               the characters of an image, and three numbers for them
 --     mapped                         the image of a character
 --     numbers                        the rows as plain numbers, six to a row. For src/lib.rt.
