@@ -1,7 +1,7 @@
 // The reader of 01, which keeps the lent file together with its place [01:Matching forms to places], after `Scanner` of the Rust.
 //
-// The functions over the struct are few and thin, since each is proved by hand: it takes the struct apart and calls one of `text::scanner` on
-// the slice and the number. What other crates call has plain parameters.
+// The functions over the struct are few and thin: each takes the struct apart and calls one of `text::scanner` on the slice and the number. What
+// other crates call has plain parameters.
 #![tactic(auto)]
 
 ghost use Rattle.std.specs.Prelude.{◌≡◌};

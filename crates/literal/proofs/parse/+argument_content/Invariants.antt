@@ -1,3 +1,4 @@
+-- What falls in `literal::parse::content` and `argument` is twice the depth, and one more for `content`.
 use Rattle.std.proofs.Common.{◌≡◌, ◌+◌, length, ℕ, ◌-◌, ◌*◌}
 use Rattle.turn.specs.Content.{inside}
 use Rattle.literal.specs.Inner.{from, AheadState, ReadyContent, SaysContent}
@@ -11,6 +12,7 @@ decreases-argument l = 2 * l.depth
 abbrev pub decreases-content : goal.decreases-content
 decreases-content l = 2 * l.depth + 1
 
+-- an answer that is right for the content from here on is right for the whole content
 abbrev pub invariant-content-loop-out : goal.invariant-content-loop-out
 invariant-content-loop-out l =
     AheadState (length l.s) 0 l.initial.st l.st × (length l.out ≡ length l.initial.out) × (length l.numbers ≡ length l.initial.numbers)

@@ -1,4 +1,4 @@
--- What falls is twice the names left to open, and one more for `value`. The loop of `value` answers the same from each row on as from the first.
+-- What falls in `values::elements::value` and `name` is twice the names left to open, and one more for `value`.
 use Prim.Native.Nat.{ℕ, ◌+◌, ◌-◌, ◌*◌, ◌≤◌}
 use mathlib.Core.Path.{◌≡◌}
 use mathlib.Core.Bool.{true}
@@ -18,6 +18,7 @@ decreases-name l = 2 * l.left
 abbrev pub decreases-value : goal.decreases-value
 decreases-value l = 2 * l.left + 1
 
+-- an answer that is right for the elements from here on is right for all of them
 abbrev pub invariant-value-loop-start : goal.invariant-value-loop-start
 invariant-value-loop-start l =
     (length l.path ≡ length l.initial.path) × (length l.scratch ≡ length l.initial.scratch) × (length l.chunks ≡ length l.initial.chunks)
