@@ -1,5 +1,7 @@
 -- The proof of specs/EnoughRoom.antt: a row for each byte of the file, and one more, is always enough room.
 -- Assumes nothing.
+use Rattle.std.specs.Prelude.{Result, Err}
+use Rattle.row.specs.declared.fault.Fault.{Fault}
 use Prim.Native.Nat.{ℕ, ◌/◌, ◌≤◌}
 use native.Mathlib.Omega.{arith}
 use mathlib.Core.Path.{◌≡◌, refl, ap}
@@ -10,8 +12,6 @@ use lib.Dec.{leb}
 use borrow.Author.Tests.{le-leb}
 use Rattle.row.specs.declared.fault.Reason.TheVariants.{TooLong, NoRoom}
 use Rattle.row.specs.Fault.{nowhere}
-use Rattle.raw.specs.declared.answer.Reading.{Reading}
-use Rattle.raw.specs.declared.answer.Reading.TheVariants.{Refused}
 use Rattle.row.specs.Row.{Row}
 use Rattle.raw.specs.Reader.{Out, ok, again, bad}
 use Rattle.row.specs.Limits.{most_bytes}
@@ -19,12 +19,12 @@ use Rattle.raw.specs.Read.{strict, reading_out}
 use Rattle.raw.proofs.Strict.{strict-reading}
 use Rattle.salvage.specs.Salvage.{salvage_of, salvaged}
 use Rattle.salvage.proofs.Demand3.{demand3}
-use Rattle.bib.specs.Export.{of_reading, status_of}
+use Rattle.bib.specs.Export.{status_of}
 use Rattle.bib.specs.EnoughRoom.{Enough, EnoughRoom}
 
 -- the status of a reading that finds o, over n lent numbers
 abbrev status : Out → ℕ → ℕ
-status o n = status_of (of_reading (reading_out o n))
+status o n = status_of (reading_out o n)
 
 -- rows that fit are answered
 rows-status : (q : ℕ) (rs : List Row) (n : ℕ) → length rs ≤ n / 4 → status (ok q rs) n ≤ 10
@@ -47,8 +47,8 @@ module _ (s b : List ℕ) (h : Enough s b) where
       by true = let k = demand3.few s in rows-status (length s) (salvage_of s) (length b) (omega arith)
       by false = omega arith
 
-not-room : (r : Reading) → status_of (of_reading r) ≤ 10 → r ≡ Refused (nowhere NoRoom) → ⊥
-not-room r h e = let z : status_of (of_reading r) ≡ 16 = ap (λ (r : Reading). status_of (of_reading r)) e in omega arith
+not-room : (r : Result ℕ Fault) → status_of r ≤ 10 → r ≡ Err (nowhere NoRoom) → ⊥
+not-room r h e = let z : status_of r ≡ 16 = ap status_of e in omega arith
 
 pub enough-room : EnoughRoom
 enough-room =

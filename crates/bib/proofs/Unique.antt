@@ -1,12 +1,13 @@
 -- Each exported contract allows one outcome only: one status, and one content of all that was lent. This is said of the contract as the
 -- check reads it off the source, so that a contract which said less would fail here.
 -- Assumes nothing.
+use Rattle.std.specs.Prelude.{Result}
+use Rattle.row.specs.declared.fault.Fault.{Fault}
 use Prim.Native.Nat.{ℕ}
 use mathlib.Core.Path.{◌≡◌, sym, ◌∙◌}
 use mathlib.Core.List.{List}
 use borrow.Fn.Kinds.{Out}
 use Rattle.text.proofs.general.Outcomes.{Both}
-use Rattle.row.specs.declared.fault.Outcome.{Outcome}
 use Rattle.resolve.specs.Resolves.{Value}
 use Rattle.whole.specs.WholeFile.{All}
 use Rattle.bib.specs.Export.{Exported, ExportedResolving, ExportedFile}
@@ -37,7 +38,7 @@ pub record SameCall (r r' n n' x x' y y' : ℕ) (b b' : List ℕ) : Type 0 where
   pub end : y ≡ y'
   pub left : b ≡ b'
 
-same-call : {o : Outcome} {l b b' : List ℕ} {r r' n n' x x' y y' : ℕ}
+same-call : {o : Result ℕ Fault} {l b b' : List ℕ} {r r' n n' x x' y y' : ℕ}
     → Exported o l r n x y b → Exported o l r' n' x' y' b' → SameCall r r' n n' x x' y y' b b'
 same-call p q =
     record {

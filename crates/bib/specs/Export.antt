@@ -1,5 +1,4 @@
 -- What the exported calls leave in their lent numbers.
---     of_reading     what a reading comes to
 --     is_set         a flag of C
 --     Told           an outcome in lent numbers
 --     Exported       the contract of every exported call that writes one thing: an outcome, and all that is left in the lent rows or bytes
@@ -8,14 +7,13 @@
 --     ToldFiling, ExportedFile
 --                   what the call tells that resolves every value of a file, and its contract: it is also lent numbers for answers and an index
 -- Assumes nothing.
-use Rattle.std.specs.Prelude.{ℕ, ◌≡◌, Bool, not, List, length, replicate, eqb}
-use Rattle.row.specs.declared.fault.Outcome.{Outcome}
-use Rattle.row.specs.declared.fault.Outcome.TheVariants.{Count, Refused}
+use Rattle.row.specs.declared.fault.Fault.{Fault}
+use Rattle.whole.specs.declared.file.Filed.{Filed}
+use Rattle.resolve.specs.declared.answer.Chunks.{Chunks}
+use Rattle.std.specs.Prelude.{ℕ, ◌≡◌, Bool, not, List, length, replicate, eqb, Result, Ok, Err}
 use Rattle.row.specs.Fault.{number_of}
 use Rattle.raw.specs.Reader.{Out}
 use Rattle.raw.specs.Read.{reading_out, left_out}
-use Rattle.raw.specs.declared.answer.Reading.{Reading}
-use Rattle.raw.specs.declared.answer.Reading.TheVariants as reading
 use Rattle.chunk.specs.Chunk.{chunks_of}
 use Rattle.chunk.specs.Format.{format_verbatim, to_biblatex_string}
 use Rattle.chunk.specs.Sentence.{format_sentence}
@@ -24,37 +22,29 @@ use Rattle.pack.specs.Pack.{packed_of, packed_into}
 use Rattle.pack.specs.Unpack.{unpacked_of, unpacked_into}
 use Rattle.resolve.specs.Resolves.{Value, told, rows_left, text_left}
 use Rattle.resolve.specs.OneLiteral.{literal_of}
-use Rattle.resolve.specs.declared.answer.Answer.{Answer}
-use Rattle.resolve.specs.declared.answer.Answer.TheVariants as answer
 use Rattle.fields.specs.OneField.{value_at}
 use Rattle.whole.specs.WholeFile.{All, tell_all, answers_left, chunks_left, texts_left}
-use Rattle.whole.specs.declared.file.Filed.{Filed}
-use Rattle.whole.specs.declared.file.Filed.TheVariants as filed
 
 -- ---- outcomes
 
-abbrev pub of_reading : Reading → Outcome
-of_reading (reading.Rows n) = Count n
-of_reading (reading.Refused f) = Refused f
-
 -- the status, the count and the place: 0, the count and 0..0; or the refusal's number, 0 and its place
-abbrev pub status_of : Outcome → ℕ
-status_of (Count n) = 0
-status_of (Refused f) = number_of f.reason
+abbrev pub status_of : Result ℕ Fault → ℕ
+status_of (Ok n) = 0
+status_of (Err f) = number_of f.reason
 
-abbrev pub count_of : Outcome → ℕ
-count_of (Count n) = n
-count_of (Refused f) = 0
+abbrev pub count_of : Result ℕ Fault → ℕ
+count_of (Ok n) = n
+count_of (Err f) = 0
 
-abbrev pub place_start : Outcome → ℕ
-place_start (Count n) = 0
-place_start (Refused f) = f.start
+abbrev pub place_start : Result ℕ Fault → ℕ
+place_start (Ok n) = 0
+place_start (Err f) = f.start
 
-abbrev pub place_end : Outcome → ℕ
-place_end (Count n) = 0
-place_end (Refused f) = f.end
+abbrev pub place_end : Result ℕ Fault → ℕ
+place_end (Ok n) = 0
+place_end (Err f) = f.end
 
-pub record Told (o : Outcome) (r count start end : ℕ) : Type 0 where
+pub record Told (o : Result ℕ Fault) (r count start end : ℕ) : Type 0 where
   pub status : r ≡ status_of o
   pub number : count ≡ count_of o
   pub from : start ≡ place_start o
@@ -63,13 +53,13 @@ pub record Told (o : Outcome) (r count start end : ℕ) : Type 0 where
 -- ---- calls
 
 -- a call that comes to o and leaves l in what was lent for rows or bytes answers r, tells the count and the place, and leaves b'
-pub record Exported (o : Outcome) (l : List ℕ) (r count start end : ℕ) (b' : List ℕ) : Type 0 where
+pub record Exported (o : Result ℕ Fault) (l : List ℕ) (r count start end : ℕ) (b' : List ℕ) : Type 0 where
   pub told : Told o r count start end
   pub left : b' ≡ l
 
 -- a reading that finds o, over the lent numbers b: `bib_read` finds `strict`, and `bib_salvage` finds `salvaged`
 abbrev pub ExportedReading : Out → List ℕ → ℕ → ℕ → ℕ → ℕ → List ℕ → Type 0
-ExportedReading o b = Exported (of_reading (reading_out o (length b))) (left_out o b)
+ExportedReading o b = Exported (reading_out o (length b)) (left_out o b)
 
 -- `bib_pack` of the rows l over the lent bytes b. The place of each refusal is 0..0, as `packed_of` has it
 abbrev pub ExportedPack : List ℕ → List ℕ → ℕ → ℕ → ℕ → ℕ → List ℕ → Type 0
@@ -102,19 +92,19 @@ ExportedToBiblatexString verb t l = ExportedWriting (to_biblatex_string verb (ch
 -- ---- calls that resolve
 
 -- the number of chunk rows, or the refusal; beside it the bytes of text, and the names resolved, or 0
-abbrev pub of_answer : Answer → Outcome
-of_answer (answer.Chunks k n m) = Count k
-of_answer (answer.Refused f) = Refused f
+abbrev pub of_answer : Result Chunks Fault → Result ℕ Fault
+of_answer (Ok a) = Ok a.rows
+of_answer (Err f) = Err f
 
-abbrev pub bytes_of : Answer → ℕ
-bytes_of (answer.Chunks k n m) = n
-bytes_of (answer.Refused f) = 0
+abbrev pub bytes_of : Result Chunks Fault → ℕ
+bytes_of (Ok a) = a.bytes
+bytes_of (Err f) = 0
 
-abbrev pub names_of : Answer → ℕ
-names_of (answer.Chunks k n m) = m
-names_of (answer.Refused f) = 0
+abbrev pub names_of : Result Chunks Fault → ℕ
+names_of (Ok a) = a.names
+names_of (Err f) = 0
 
-pub record ToldResolving (a : Answer) (r count bytes names start end : ℕ) : Type 0 where
+pub record ToldResolving (a : Result Chunks Fault) (r count bytes names start end : ℕ) : Type 0 where
   pub told : Told (of_answer a) r count start end
   pub text : bytes ≡ bytes_of a
   pub resolved : names ≡ names_of a
@@ -138,19 +128,19 @@ ExportedField file rows which verb months words w = ExportedResolving (value_at 
 -- ---- the call that resolves every value of a file
 
 -- the number of values, or the refusal; beside it the chunk rows and the bytes of text, or 0
-abbrev pub of_filed : Filed → Outcome
-of_filed (filed.Values k n m) = Count k
-of_filed (filed.Refused f) = Refused f
+abbrev pub of_filed : Result Filed Fault → Result ℕ Fault
+of_filed (Ok a) = Ok a.values
+of_filed (Err f) = Err f
 
-abbrev pub rows_in : Filed → ℕ
-rows_in (filed.Values k n m) = n
-rows_in (filed.Refused f) = 0
+abbrev pub rows_in : Result Filed Fault → ℕ
+rows_in (Ok a) = a.rows
+rows_in (Err f) = 0
 
-abbrev pub bytes_in : Filed → ℕ
-bytes_in (filed.Values k n m) = m
-bytes_in (filed.Refused f) = 0
+abbrev pub bytes_in : Result Filed Fault → ℕ
+bytes_in (Ok a) = a.bytes
+bytes_in (Err f) = 0
 
-pub record ToldFiling (a : Filed) (r count rows bytes start end : ℕ) : Type 0 where
+pub record ToldFiling (a : Result Filed Fault) (r count rows bytes start end : ℕ) : Type 0 where
   pub told : Told (of_filed a) r count start end
   pub rows_told : rows ≡ rows_in a
   pub text-told : bytes ≡ bytes_in a

@@ -6,10 +6,10 @@
 // Scratch holds zeros after the call, whatever it held. include/bib.h says all this to C.
 #![tactic(auto)]
 
-ghost use Rattle.std.specs.Prelude.{◌≡◌, length};
+ghost use Rattle.std.specs.Prelude.{length};
 ghost use Rattle.raw.specs.Read.{strict};
 ghost use Rattle.salvage.specs.Salvage.{salvaged};
-ghost use Rattle.bib.specs.Export.{of_reading, is_set, Told, ExportedReading, ExportedPack, ExportedUnpack};
+ghost use Rattle.bib.specs.Export.{is_set, Told, ExportedReading, ExportedPack, ExportedUnpack};
 ghost use Rattle.bib.specs.Export.{ExportedFormatVerbatim, ExportedFormatSentence, ExportedToBiblatexString};
 ghost use Rattle.whole.specs.WholeFile.{all_of};
 ghost use Rattle.bib.specs.Export.{ToldResolving, ExportedLiteral, ExportedField, ToldFiling, ExportedFile};
@@ -17,51 +17,37 @@ ghost use Rattle.bib.specs.Export.{ToldResolving, ExportedLiteral, ExportedField
 use chunk::{biblatex, format, sentence};
 use fields::field;
 use pack::{packing, unpacking};
-use raw::answer::Reading;
 use raw::file;
-use resolve::answer::Answer;
+use resolve::answer::Chunks;
 use resolve::one_literal;
 use row::fault;
-use row::fault::Outcome;
+use row::fault::Fault;
 use whole::file as whole_file;
 use whole::file::Filed;
 
-// What a reading comes to.
-fn of_reading(reading: Reading) -> Outcome
-    ensures { result ≡ of_reading reading }
-{
-    match reading {
-        Reading::Rows(n) => Outcome::Count(n),
-        Reading::Refused(f) => Outcome::Refused(f),
-    }
-}
-
 // An outcome in lent numbers.
-fn tell(outcome: Outcome, count: &mut u64, start: &mut u64, end: &mut u64) -> u32
+fn tell(outcome: Result<usize, Fault>, count: &mut u64, start: &mut u64, end: &mut u64) -> u32
     ensures { Told outcome result count.new start.new end.new }
 {
     match outcome {
-        Outcome::Count(n) => {
+        Ok(n) => {
             *count = n as u64;
             *start = 0;
             *end = 0;
             return 0;
         }
-        Outcome::Refused(f) => {
-            let from = f.start;
-            let to = f.end;
-            let reason = f.reason;
+        Err(f) => {
             *count = 0;
-            *start = from as u64;
-            *end = to as u64;
-            return fault::number(reason);
+            *start = f.start as u64;
+            *end = f.end as u64;
+            return fault::number(f.reason);
         }
     }
 }
 
 // What resolving comes to, in lent numbers.
 fn tell_resolving(
-    answer: Answer,
+    answer: Result<Chunks, Fault>,
     count: &mut u64,
     bytes: &mut u64,
     names: &mut u64,
@@ -71,19 +57,15 @@ fn tell_resolving(
     ensures { ToldResolving answer result count.new bytes.new names.new start.new end.new }
 {
     match answer {
-        Answer::Chunks {
-            rows,
-            bytes: written,
-            names: resolved,
-        } => {
-            *bytes = written as u64;
-            *names = resolved as u64;
-            return tell(Outcome::Count(rows), count, start, end);
+        Ok(chunks) => {
+            *bytes = chunks.bytes as u64;
+            *names = chunks.names as u64;
+            return tell(Ok(chunks.rows), count, start, end);
         }
-        Answer::Refused(f) => {
+        Err(f) => {
             *bytes = 0;
             *names = 0;
-            return tell(Outcome::Refused(f), count, start, end);
+            return tell(Err(f), count, start, end);
         }
     }
 }
@@ -101,7 +83,7 @@ pub extern "C" fn bib_read(
         count.new start.new end.new rows.new }
 {
     let reading = file::read(file, rows);
-    tell(of_reading(reading), count, start, end)
+    tell(reading, count, start, end)
 }
 
 // Salvages a file: each piece is read alone, and of a damaged one the damage and its cause remain.
@@ -117,7 +99,7 @@ pub extern "C" fn bib_salvage(
         count.new start.new end.new rows.new }
 {
     let salvaged = salvage::file::salvage(file, rows);
-    tell(of_reading(salvaged), count, start, end)
+    tell(salvaged, count, start, end)
 }
 
 // Packs rows, seven bytes to a row, which stand in `bytes`. A refusal has no place here: 0..0.
@@ -278,7 +260,7 @@ pub extern "C" fn bib_resolve_field(
 
 // What resolving a whole file comes to, in lent numbers.
 fn tell_filing(
-    filed: Filed,
+    filed: Result<Filed, Fault>,
     count: &mut u64,
     chunk_rows: &mut u64,
     bytes: &mut u64,
@@ -288,19 +270,15 @@ fn tell_filing(
     ensures { ToldFiling filed result count.new chunk_rows.new bytes.new start.new end.new }
 {
     match filed {
-        Filed::Values {
-            values,
-            rows,
-            bytes: size,
-        } => {
-            *chunk_rows = rows as u64;
-            *bytes = size as u64;
-            return tell(Outcome::Count(values), count, start, end);
+        Ok(all) => {
+            *chunk_rows = all.rows as u64;
+            *bytes = all.bytes as u64;
+            return tell(Ok(all.values), count, start, end);
         }
-        Filed::Refused(f) => {
+        Err(f) => {
             *chunk_rows = 0;
             *bytes = 0;
-            return tell(Outcome::Refused(f), count, start, end);
+            return tell(Err(f), count, start, end);
         }
     }
 }

@@ -1,14 +1,9 @@
 -- The proof of specs/Casing.antt: `casing`. What is computed over a whole table stands first.
 -- Assumes nothing.
-use Prim.Native.Nat.{ℕ, ◌+◌, ◌-◌, ◌*◌, ◌%◌, ◌≤◌, ◌<◌}
-use native.Mathlib.Omega.{arith}
+use Rattle.std.proofs.Common.{ℕ, ◌+◌, ◌-◌, ◌*◌, ◌%◌, ◌≤◌, ◌<◌, arith, ◌≡◌, refl, ◌∙◌, Bool, true, false, cond, ◌&&◌, List, [], ◌∷◌, ltb, leb, eqb, length, ltb-true}
+use Rattle.std.proofs.Common.{leb-true}
 use native.Mathlib.Nat.{mod-one}
-use mathlib.Core.Path.{◌≡◌, refl, ◌∙◌}
-use mathlib.Core.Bool.{Bool, true, false, cond, ◌&&◌}
-use mathlib.Core.List.{List, [], ◌∷◌, Memᴰ}
-use lib.Dec.{ltb, leb, eqb}
-use lib.ListN.{length}
-use borrow.Author.Tests.{ltb-true, leb-true}
+use mathlib.Core.List.{Memᴰ}
 use Rattle.text.proofs.general.Tests.{both_true, within-true}
 use Rattle.text.specs.Range.{Range, ◌–◌, within}
 use Rattle.text.specs.Every.{every}

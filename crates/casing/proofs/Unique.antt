@@ -1,10 +1,7 @@
 -- Each public contract allows one outcome only: one table, one answer, and one image. This is said of the contract as the check reads it off the
 -- source, so that a contract which said less would fail here.
 -- Assumes nothing.
-use Prim.Native.Nat.{ℕ, zero, suc}
-use mathlib.Core.List.{List}
-use lib.ListN.{get_or}
-use mathlib.Core.Path.{◌≡◌, refl, sym, ap, ◌∙◌}
+use Rattle.std.proofs.Common.{ℕ, zero, suc, List, get_or, ◌≡◌, refl, sym, ap, ◌∙◌}
 use contract.Lifetimes.{Lfts}
 use Rattle.casing.specs.Mapping.{image_of, Spells}
 use Rattle.casing.proofs.is_settled.Reads as is-settled

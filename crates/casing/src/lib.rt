@@ -11,11 +11,10 @@ ghost use Rattle.std.specs.Prelude.{◌≡◌};
 ghost use Rattle.casing.specs.Mapping.{Table, Maps, Spells, numbers};
 ghost use Rattle.casing.specs.Lowers.{lowers};
 ghost use Rattle.casing.specs.Uppers.{uppers};
-ghost use Rattle.text.specs.Range.{◌–◌, within};
 ghost use Rattle.casing.specs.Casing.{to_lowercase, to_uppercase, is_settled};
 
 // The characters that one character is mapped to: 0 where there is none, as in most images for the second and third.
-#[derive(Clone, Copy)]
+#[derive(Clone, Copy, PartialEq, Eq)]
 pub struct Image {
     pub one: u32,
     pub two: u32,
@@ -36,7 +35,8 @@ fn upper_table() -> [u32; 1566]
 }
 
 // The image of a character by a table t. Of the rows that do not end before c, the first is the only one that can have it: it has c if it
-// begins at c or before, and c is whole steps behind its first character.
+// begins at c or before, and c is whole steps behind its first character. The table is flat numbers and not rows, because callers are lent it
+// so: `lower_table` and `lowered` promise `numbers lowers`.
 fn find(t: &[u32], c: u32) -> Image
     requires { Table t.now }
     ensures { Maps t.now c result.one result.two result.three }
@@ -47,21 +47,21 @@ fn find(t: &[u32], c: u32) -> Image
         three: 0,
     };
     let i = search::place(t, 6, c, 0) * 6;
-    if t.len() - i < 6 {
+    let Some(&[_, first, step, one, two, three]) = t[i..].first_chunk::<6>() else {
         return itself;
-    }
-    let first = t[i + 1];
+    };
     if c < first {
         return itself;
     }
     let far = c - first;
-    if far % t[i + 2] != 0 {
+    let over = far % step;
+    if over != 0 {
         return itself;
     }
     Image {
-        one: t[i + 3] + far,
-        two: t[i + 4],
-        three: t[i + 5],
+        one: one + far,
+        two,
+        three,
     }
 }
 
@@ -89,24 +89,21 @@ pub fn to_uppercase(c: u32) -> Image
     find(&t, c)
 }
 
-// From first to last, both included.
-fn is_within(first: u32, last: u32, c: u32) -> bool
-    ensures { result ≡ within (first – last) c }
-{
-    (first <= c) & (c <= last)
-}
-
 // Whether a character beyond ASCII surely is lowered to itself. Most are, and this is quicker than a search.
+#[tactic(auto, using(std::proofs::lemmas::Bool::Decides::nat_tests), unfolding(crate::specs::Casing::is_settled, crate::specs::Casing::settled))]
 pub fn is_settled(c: u32) -> bool
     ensures { result ≡ is_settled c }
 {
-    is_within(0x0080, 0x00bf, c)
-        | is_within(0x00df, 0x00ff, c)
-        | is_within(0x0250, 0x036f, c)
-        | is_within(0x03ac, 0x03ce, c)
-        | is_within(0x0430, 0x045f, c)
-        | is_within(0x0557, 0x109f, c)
-        | is_within(0x2000, 0x2125, c)
-        | is_within(0x2d00, 0xa63f, c)
-        | is_within(0xac00, 0xd7ff, c)
+    matches!(
+        c,
+        0x0080..=0x00bf
+            | 0x00df..=0x00ff
+            | 0x0250..=0x036f
+            | 0x03ac..=0x03ce
+            | 0x0430..=0x045f
+            | 0x0557..=0x109f
+            | 0x2000..=0x2125
+            | 0x2d00..=0xa63f
+            | 0xac00..=0xd7ff
+    )
 }

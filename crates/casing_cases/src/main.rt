@@ -12,19 +12,11 @@ use casing::Image;
 use std::io;
 
 // How many characters were asked for, and how many of them change.
-#[derive(Clone, Copy)]
+#[derive(Clone, Copy, Default)]
 struct Tally {
     asked: u64,
     raised: u64,
     lowered: u64,
-}
-
-fn up(n: u64) -> u64 {
-    if n < 0xffff_ffff { n + 1 } else { n }
-}
-
-fn say(rt: &impl Print, s: &str) -> io::Result<()> {
-    rt.print(s)
 }
 
 // A character behind a blank; nothing for 0, where an image has none.
@@ -36,27 +28,20 @@ fn hex(rt: &impl Print, c: u32) -> io::Result<()> {
 }
 
 fn show(rt: &impl Print, what: &str, c: u32, i: Image) -> io::Result<()> {
-    say(rt, what)?;
+    print!(rt; "{what}")?;
     hex(rt, c)?;
     hex(rt, i.one)?;
     hex(rt, i.two)?;
     hex(rt, i.three)?;
-    say(rt, "\n")
-}
-
-fn is_same(a: Image, b: Image) -> bool {
-    (a.one == b.one) & (a.two == b.two) & (a.three == b.three)
+    println!(rt)
 }
 
 fn is_itself(c: u32, i: Image) -> bool {
-    is_same(
-        i,
-        Image {
-            one: c,
-            two: 0,
-            three: 0,
-        },
-    )
+    i == Image {
+        one: c,
+        two: 0,
+        three: 0,
+    }
 }
 
 // One more, if the character changes.
@@ -66,7 +51,7 @@ fn raise(rt: &impl Print, c: u32, n: u64) -> io::Result<u64> {
         return Ok(n);
     }
     show(rt, "upper", c, i)?;
-    Ok(up(n))
+    Ok(n.saturating_add(1))
 }
 
 fn lower(rt: &impl Print, table: &[u32], c: u32, n: u64) -> io::Result<u64>
@@ -77,10 +62,10 @@ fn lower(rt: &impl Print, table: &[u32], c: u32, n: u64) -> io::Result<u64>
         return Ok(n);
     }
     show(rt, "lower", c, i)?;
-    if !is_same(i, casing::to_lowercase(c)) {
-        say(rt, "but not by to_lowercase\n")?;
+    if i != casing::to_lowercase(c) {
+        println!(rt; "but not by to_lowercase")?;
     }
-    Ok(up(n))
+    Ok(n.saturating_add(1))
 }
 
 // The characters from first on, up to but not including end.
@@ -96,7 +81,7 @@ fn characters(
     let mut t = tally;
     for c in first..end {
         t = Tally {
-            asked: up(t.asked),
+            asked: t.asked.saturating_add(1),
             raised: raise(rt, c, t.raised)?,
             lowered: lower(rt, table, c, t.lowered)?,
         };
@@ -106,17 +91,7 @@ fn characters(
 
 fn main(rt: HostRuntime) -> io::Result<()> {
     let table = casing::lower_table();
-    let low = characters(
-        &rt,
-        &table,
-        0,
-        0xd800,
-        Tally {
-            asked: 0,
-            raised: 0,
-            lowered: 0,
-        },
-    )?;
+    let low = characters(&rt, &table, 0, 0xd800, Tally::default())?;
     let all = characters(&rt, &table, 0xe000, 0x110000, low)?;
     println!(rt;
         "{} of {} characters change when raised, {} when lowered",

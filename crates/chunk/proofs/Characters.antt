@@ -1,14 +1,8 @@
 -- The definitions, which go by octets, go through a text as chunk.rs goes through its characters: `characters`.
 -- Assumes nothing.
-use Prim.Native.Nat.{ℕ, ◌≤◌, ◌<◌}
-use native.Mathlib.Omega.{arith}
-use mathlib.Core.Path.{◌≡◌, refl, sym, ap, ap₂, ◌∙◌}
-use mathlib.Core.Bool.{Bool, true, false, cond}
-use mathlib.Core.List.{List, [], ◌∷◌, ◌++◌, append_assoc, append-nil}
-use lib.ListN.{length, drop, length-append}
+use Rattle.std.proofs.Common.{ℕ, ◌≤◌, ◌<◌, arith, ◌≡◌, refl, sym, ap, ap₂, ◌∙◌, Bool, true}
+use Rattle.std.proofs.Common.{false, cond, List, [], ◌∷◌, ◌++◌, append_assoc, append-nil, length, drop, length-append, leb, leb-false}
 use lib.Seq.{drop-append_seam}
-use lib.Dec.{leb}
-use borrow.Author.Tests.{leb-false}
 use Rattle.text.specs.Utf8.{is_char, Octets, none, next, value, is_scalar, octets, utf8_of}
 use Rattle.text.specs.Class.{white_space, is_whitespace}
 use Rattle.text.specs.Scan.{code}

@@ -1,11 +1,11 @@
 -- Each public contract allows one outcome only: one answer, and one content of the lent output. This is said of the contract as the check
 -- reads it off the source, so that a contract which said less would fail here.
 -- Assumes nothing.
-use mathlib.Core.Path.{◌≡◌, sym, ◌∙◌}
+use Rattle.std.proofs.Common.{◌≡◌, sym, ◌∙◌}
 use Rattle.text.proofs.general.Outcomes.{One, Both}
 use Rattle.chunk.proofs.texts.LineEnds.{run-once}
-use Rattle.chunk.proofs.form.kind_number.Kinds as kind-number-kinds
-use Rattle.chunk.proofs.form.kind_number.Reads as kind-number
+use Rattle.chunk.proofs.form.U32FromKind.from.Kinds as number-of-kind-kinds
+use Rattle.chunk.proofs.form.U32FromKind.from.Reads as number-of-kind
 use Rattle.chunk.proofs.form.kind_from.Kinds as kind-from-kinds
 use Rattle.chunk.proofs.form.kind_from.Reads as kind-from
 use Rattle.chunk.proofs.form.write_chunk.Kinds as write-chunk-kinds
@@ -41,8 +41,8 @@ use Rattle.chunk.proofs.put.put.Reads as put
 use Rattle.chunk.proofs.put.copy.Kinds as copy-kinds
 use Rattle.chunk.proofs.put.copy.Reads as copy
 
-pub one-kind-number : One 0 kind-number-kinds.ps kind-number-kinds.r kind-number.Post
-one-kind-number κs a x y s t p q = p ∙ sym q
+pub one-U32FromKind : One 0 number-of-kind-kinds.ps number-of-kind-kinds.r number-of-kind.Post
+one-U32FromKind κs a x y s t p q = p ∙ sym q
 
 pub one-kind-from : One 0 kind-from-kinds.ps kind-from-kinds.r kind-from.Post
 one-kind-from κs a x y s t p q = p ∙ sym q

@@ -1,13 +1,7 @@
 -- What the writers write is UTF-8: `well-formed`.
 -- Assumes nothing.
-use Prim.Native.Nat.{ℕ, ◌%◌, ◌≤◌}
-use native.Mathlib.Omega.{arith}
-use mathlib.Core.Path.{◌≡◌, sym, subst}
-use mathlib.Core.Bool.{Bool, true, false, cond}
-use mathlib.Core.List.{List, [], ◌∷◌, ◌++◌, map}
-use lib.ListN.{length, take}
-use lib.Dec.{eqb, leb}
-use borrow.Author.Tests.{leb-true}
+use Rattle.std.proofs.Common.{ℕ, ◌%◌, ◌≤◌, arith, ◌≡◌, sym, subst, Bool, true, false, cond, List, [], ◌∷◌, ◌++◌, map, length, take, eqb, leb, leb-true}
+use Rattle.std.specs.Prelude.{Ok}
 use Rattle.text.specs.Utf8.{is_char, Octets, none, next, is_boundary}
 use Rattle.text.proofs.general.Tests.{both_true}
 use Rattle.text.proofs.Shapes.{shapes}
@@ -16,8 +10,6 @@ use Rattle.text.specs.Every.{every}
 use Rattle.text.proofs.Boundaries.{boundaries}
 use Rattle.chunk.specs.declared.form.Kind.{Kind}
 use Rattle.chunk.specs.declared.form.Kind.TheVariants.{Normal, Verbatim, Math}
-use Rattle.chunk.specs.declared.answer.Checked.TheVariants as checked
-use Rattle.row.specs.declared.fault.Outcome.TheVariants as outcome
 use Rattle.chunk.specs.Chunk.{Chunk, ChunkRow, chunk_rows, chunk_of, chunks_of, is_chunk, every_chunk, are_chunks}
 use Rattle.chunk.specs.Format.{Written, before, is_line_end, white, lines, format_one, format_from}
 use Rattle.chunk.specs.Format.{is_escapable, escaped, opening, body_of, closing, extra_after, biblatex_from, to_biblatex_string}
@@ -120,7 +112,7 @@ unfolding every
 rows-texts t [] o e = texts.none
 rows-texts t (r ∷ rs) o e = let b = both_true (is_chunk t r) (every_chunk t rs) e in texts.next (row-octets t r o b.0) (rows-texts t rs o b.1)
 
-check-texts : (t l : List ℕ) → checked_of t l ≡ checked.Passed → TextsUtf8 (chunks_of t l)
+check-texts : (t l : List ℕ) → checked_of t l ≡ Ok tt → TextsUtf8 (chunks_of t l)
 unfolding are_chunks
 check-texts t l e =
     let s = are-chunks t l e in
@@ -132,7 +124,7 @@ append-texts (texts.next o h) k = texts.next o (append-texts h k)
 
 -- ---- the calls
 
-call-octets : (t l : List ℕ) {w b b' : List ℕ} {n : ℕ} → (TextsUtf8 (chunks_of t l) → Octets w) → Write (checked_of t l) w b (outcome.Count n) b' →
+call-octets : (t l : List ℕ) {w b b' : List ℕ} {n : ℕ} → (TextsUtf8 (chunks_of t l) → Octets w) → Write (checked_of t l) w b (Ok n) b' →
     Octets (take n b')
 call-octets t l f h = let s = written (checked_of t l) h in subst Octets (sym s.1) (f (check-texts t l s.0))
 

@@ -6,10 +6,10 @@ ghost use Rattle.chunk.specs.Format.{is_escapable, escaped as escaped_of, openin
 ghost use Rattle.chunk.specs.Put.{last_place, most_room, Puts, Fills};
 ghost use Rattle.chunk.specs.Write.{ToBiblatexString};
 
-use crate::answer::Checked;
 use crate::form::Kind;
 use crate::{check, form, put};
-use row::fault::{Fault, Outcome, Reason};
+use row::fault;
+use row::fault::{Fault, Reason};
 
 // Whether a backslash goes before the character: in a field that is verbatim or not, in reading or in writing.
 pub fn is_escapable(c: u32, verb: bool, read: bool) -> bool
@@ -152,24 +152,20 @@ fn write_all(t: &[u8], rows: &[u32], verb: bool, room: usize, out: &mut [u8]) ->
 
 // Serializes chunks into a BibLaTeX string, for a field that is verbatim or not: the number of bytes, which then stand in the lent bytes, or the
 // refusal, which leaves them as they were.
-pub fn to_biblatex_string(t: &[u8], rows: &[u32], verb: bool, out: &mut [u8]) -> Outcome
+pub fn to_biblatex_string(
+    t: &[u8],
+    rows: &[u32],
+    verb: bool,
+    out: &mut [u8],
+) -> Result<usize, Fault>
     ensures { ToBiblatexString verb t.now rows.now out.old result out.new }
 {
-    match check::check(t, rows) {
-        Checked::Refused(f) => {
-            return Outcome::Refused(f);
-        }
-        Checked::Passed => {}
-    }
+    check::check(t, rows)?;
     let room = out.len();
     let mut none = [0u8; 0];
     let end = write_all(t, rows, verb, room, &mut none);
     if room < end {
-        return Outcome::Refused(Fault {
-            reason: Reason::NoRoom,
-            start: 0,
-            end: 0,
-        });
+        return Err(fault::nowhere(Reason::NoRoom));
     }
-    Outcome::Count(write_all(t, rows, verb, room, out))
+    Ok(write_all(t, rows, verb, room, out))
 }

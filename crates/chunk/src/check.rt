@@ -3,11 +3,10 @@ ghost use Rattle.std.specs.Prelude.{◌≡◌};
 ghost use Rattle.chunk.specs.Chunk.{chunk_row, is_chunk, are_chunks};
 ghost use Rattle.chunk.specs.Write.{checked_of};
 
-use crate::answer::Checked;
 use crate::form;
+use row::fault;
 use row::fault::{Fault, Reason};
 use text::utf8;
-use text::utf8::Validity;
 
 // Whether a row has one of the three kinds, and a range of the text that cuts no character.
 fn is_chunk(t: &[u8], kind: u32, from: usize, to: usize) -> bool
@@ -35,25 +34,12 @@ fn are_chunks(t: &[u8], rows: &[u32]) -> bool
 }
 
 // 2 for a text that is not UTF-8, then 17 for rows that are no chunks of it.
-pub fn check(t: &[u8], rows: &[u32]) -> Checked
+pub fn check(t: &[u8], rows: &[u32]) -> Result<(), Fault>
     ensures { result ≡ checked_of t.now rows.now }
 {
-    match utf8::validate_text(t) {
-        Validity::IllFormed(i) => {
-            return Checked::Refused(Fault {
-                reason: Reason::NotUtf8,
-                start: i,
-                end: i,
-            });
-        }
-        Validity::Valid => {}
+    utf8::validate_text(t)?;
+    if !are_chunks(t, rows) {
+        return Err(fault::nowhere(Reason::BadRows));
     }
-    if are_chunks(t, rows) {
-        return Checked::Passed;
-    }
-    Checked::Refused(Fault {
-        reason: Reason::BadRows,
-        start: 0,
-        end: 0,
-    })
+    Ok(())
 }

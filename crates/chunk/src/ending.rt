@@ -5,7 +5,6 @@ ghost use Rattle.chunk.specs.Format.{last_at, ends_white, is_line_end};
 ghost use Rattle.chunk.specs.Inner.{plain, stops};
 
 use reader;
-use text::scanner::Seen;
 use text::{block, class, utf8};
 
 // The place of the last character of the text from one place to another.
@@ -29,8 +28,8 @@ pub fn code_at(t: &[u8], at: usize, to: usize) -> u32
     ensures { result ≡ code_of (part t.now at to) }
 {
     match reader::seen(&t[..to], at) {
-        Seen::End => 0,
-        Seen::Char { code, next: _ } => code,
+        None => 0,
+        Some((code, _)) => code,
     }
 }
 

@@ -3,24 +3,26 @@ ghost use Rattle.std.specs.Prelude.{◌≡◌, ◌+◌, ◌≤◌, length, get_o
 ghost use Rattle.chunk.specs.Chunk.{kind_of, kind_from, chunk_row, put_chunk, Stores};
 
 // What a chunk is. Document 01 gives the numbers.
-#[derive(Clone, Copy)]
+#[derive(Clone, Copy, PartialEq, Eq)]
 pub enum Kind {
     Normal,
     Verbatim,
     Math,
 }
 
-pub fn kind_number(kind: Kind) -> u32
-    ensures { result ≡ kind_of kind }
-{
-    match kind {
-        Kind::Normal => 0,
-        Kind::Verbatim => 1,
-        Kind::Math => 2,
+impl From<Kind> for u32 {
+    ghost from_gives = { λ k n. n ≡ kind_of k };
+
+    fn from(kind: Kind) -> u32 {
+        match kind {
+            Kind::Normal => 0,
+            Kind::Verbatim => 1,
+            Kind::Math => 2,
+        }
     }
 }
 
-// The kind that has this number. The row check passes only 0, 1 and 2.
+// The kind that has this number. The row check passes only 0, 1 and 2, so this is no `TryFrom`: where it is called there is nothing to refuse.
 pub fn kind_from(number: u32) -> Kind
     ensures { result ≡ kind_from number }
 {
@@ -35,7 +37,7 @@ pub fn kind_from(number: u32) -> Kind
 pub fn write_chunk(rows: &mut [u32], n: usize, kind: Kind, from: u32, to: u32, start: u32, end: u32)
     ensures { rows.new ≡ put_chunk rows.old n (chunk_row (kind_of kind) from to start end) }
 {
-    let number = kind_number(kind);
+    let number = u32::from(kind);
     if n < rows.len() / 5 {
         let i = n * 5;
         rows[i] = number;

@@ -7,10 +7,10 @@ ghost use Rattle.chunk.specs.Inner.{most_of};
 ghost use Rattle.chunk.specs.Put.{last_place, most_room, Puts, Fills};
 ghost use Rattle.chunk.specs.Write.{FormatVerbatim};
 
-use crate::answer::Checked;
 use crate::form::Kind;
 use crate::{check, ending, form, put};
-use row::fault::{Fault, Outcome, Reason};
+use row::fault;
+use row::fault::{Fault, Reason};
 
 // The place after what was put, and whether white space came last.
 #[derive(Clone, Copy)]
@@ -119,26 +119,17 @@ pub fn surely_fits(rows: &[u32], room: usize, times: usize) -> bool
 }
 
 // Formats chunks verbatim: the number of bytes, which then stand in the lent bytes, or the refusal, which leaves them as they were.
-pub fn format_verbatim(t: &[u8], rows: &[u32], out: &mut [u8]) -> Outcome
+pub fn format_verbatim(t: &[u8], rows: &[u32], out: &mut [u8]) -> Result<usize, Fault>
     ensures { FormatVerbatim t.now rows.now out.old result out.new }
 {
-    match check::check(t, rows) {
-        Checked::Refused(f) => {
-            return Outcome::Refused(f);
-        }
-        Checked::Passed => {}
-    }
+    check::check(t, rows)?;
     let room = out.len();
     if !surely_fits(rows, room, 1) {
         let mut none = [0u8; 0];
         let end = format_all(t, rows, room, &mut none);
         if room < end {
-            return Outcome::Refused(Fault {
-                reason: Reason::NoRoom,
-                start: 0,
-                end: 0,
-            });
+            return Err(fault::nowhere(Reason::NoRoom));
         }
     }
-    Outcome::Count(format_all(t, rows, room, out))
+    Ok(format_all(t, rows, room, out))
 }

@@ -5,7 +5,6 @@
 // and `put::copy`.
 #![tactic(auto)]
 
-pub mod answer;
 pub mod biblatex;
 pub mod check;
 pub mod ending;

@@ -13,7 +13,6 @@ pub fn put(out: &mut [u8], at: usize, b: u8) -> usize
 {
     if at < out.len() {
         out[at] = b;
-        return at + 1;
     }
     at + 1
 }
@@ -28,8 +27,6 @@ pub fn copy(s: &[u8], from: usize, to: usize, out: &mut [u8], at: usize) -> usiz
     if out.len() <= at {
         return at + n;
     }
-    let room = out.len() - at;
-    let fitting = if room < n { room } else { n };
-    block::copy(s, from, fitting, out, at);
+    block::copy(s, from, n.min(out.len() - at), out, at);
     at + n
 }

@@ -13,16 +13,14 @@ ghost use Rattle.chunk.specs.Put.{last_place, most_room, Puts, Fills};
 ghost use Rattle.chunk.specs.Sentence.{chars, unbroken, sentence_chars, sentence_one, format_sentence};
 ghost use Rattle.chunk.specs.Write.{FormatSentence};
 
-use crate::answer::Checked;
 use crate::form::Kind;
 use crate::format::Formatted;
 use crate::{check, ending, form, format, put};
 use casing;
 use casing::Image;
 use reader;
-use row::fault::{Fault, Outcome, Reason};
-use text::scanner::Seen;
-use text::utf8::Encoded;
+use row::fault;
+use row::fault::{Fault, Reason};
 use text::{block, class, utf8};
 
 // A letter of ASCII raised or lowered, and any other byte as it is.
@@ -30,16 +28,9 @@ fn cased_byte(up: bool, b: u8) -> u8
     ensures { result ≡ ascii_cased up b }
 {
     if up {
-        return if (0x61 <= b) & (b <= 0x7a) {
-            b - 0x20
-        } else {
-            b
-        };
-    }
-    if (0x41 <= b) & (b <= 0x5a) {
-        b + 0x20
+        b.to_ascii_uppercase()
     } else {
-        b
+        b.to_ascii_lowercase()
     }
 }
 
@@ -53,8 +44,8 @@ fn past_quiet(t: &[u8], i: usize, to: usize) -> usize
         return if (b == 0x0a) | (b == 0x0d) { i } else { i + 1 };
     }
     match reader::seen(&t[..to], i) {
-        Seen::End => i,
-        Seen::Char { code, next } => { if casing::is_settled(code) { next } else { i } }
+        None => i,
+        Some((code, next)) => { if casing::is_settled(code) { next } else { i } }
     }
 }
 
@@ -102,9 +93,8 @@ fn put_char(out: &mut [u8], at: usize, c: u32) -> usize
 {
     let mut b = [0u8; 4];
     match utf8::encode(c, &mut b) {
-        Encoded::Wrote(n) => put::copy(&b, 0, n, out, at),
-        Encoded::NotScalar => at,
-        Encoded::NoRoom => at,
+        Ok(n) => put::copy(&b, 0, n, out, at),
+        Err(_) => at,
     }
 }
 
@@ -281,26 +271,17 @@ fn sentence_all(t: &[u8], rows: &[u32], room: usize, out: &mut [u8]) -> usize
 }
 
 // Formats chunks in sentence case: the number of bytes, which then stand in the lent bytes, or the refusal, which leaves them as they were.
-pub fn format_sentence(t: &[u8], rows: &[u32], out: &mut [u8]) -> Outcome
+pub fn format_sentence(t: &[u8], rows: &[u32], out: &mut [u8]) -> Result<usize, Fault>
     ensures { FormatSentence t.now rows.now out.old result out.new }
 {
-    match check::check(t, rows) {
-        Checked::Refused(f) => {
-            return Outcome::Refused(f);
-        }
-        Checked::Passed => {}
-    }
+    check::check(t, rows)?;
     let room = out.len();
     if !format::surely_fits(rows, room, 3) {
         let mut none = [0u8; 0];
         let end = sentence_all(t, rows, room, &mut none);
         if room < end {
-            return Outcome::Refused(Fault {
-                reason: Reason::NoRoom,
-                start: 0,
-                end: 0,
-            });
+            return Err(fault::nowhere(Reason::NoRoom));
         }
     }
-    Outcome::Count(sentence_all(t, rows, room, out))
+    Ok(sentence_all(t, rows, room, out))
 }

@@ -1,11 +1,6 @@
 -- Of a text that is UTF-8, the front and the last code are the text without its last character, and that character: `last-character`.
 -- Assumes nothing.
-use Prim.Native.Nat.{ℕ, ◌<◌}
-use native.Mathlib.Omega.{arith}
-use mathlib.Core.Path.{◌≡◌, sym, ap, ap₂, subst, ◌∙◌}
-use mathlib.Core.Bool.{true}
-use mathlib.Core.List.{List, [], ◌∷◌, ◌++◌, append_assoc, append-nil}
-use lib.ListN.{length, take}
+use Rattle.std.proofs.Common.{ℕ, ◌<◌, arith, ◌≡◌, sym, ap, ap₂, subst, ◌∙◌, true, List, [], ◌∷◌, ◌++◌, append_assoc, append-nil, length, take}
 use lib.Seq.{take-append_seam}
 use Rattle.text.specs.Utf8.{is_scalar, octets, Octets, none, next, value}
 use Rattle.text.proofs.Rfc3629.{rfc3629}

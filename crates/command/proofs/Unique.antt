@@ -6,10 +6,7 @@
 --     the same, and whether white space comes last        `settle`
 --     the same bytes                                      `wipe`
 -- Assumes nothing.
-use Prim.Native.Nat.{ℕ}
-use mathlib.Core.Path.{◌≡◌, sym, ◌∙◌}
-use mathlib.Core.List.{List}
-use lib.ListN.{take}
+use Rattle.std.proofs.Common.{ℕ, ◌≡◌, sym, ◌∙◌, List, take}
 use Rattle.text.proofs.general.Outcomes.{One, Both}
 use Rattle.command.specs.Stack.{Lays}
 use Rattle.command.proofs.names.names.Kinds as names-kinds

@@ -1,20 +1,12 @@
 -- What a command writes is UTF-8, and short: `well-formed`.
 -- Assumes nothing.
-use Prim.Native.Nat.{ℕ, suc, ◌+◌, ◌≤◌, ◌<◌}
-use native.Mathlib.Omega.{arith}
-use mathlib.Core.Path.{◌≡◌, refl}
-use mathlib.Core.Bool.{Bool, true, false, cond}
-use mathlib.Core.List.{List, [], ◌∷◌, ◌++◌}
-use lib.ListN.{length, length-append}
-use lib.Seq.{length-take-le}
-use lib.Dec.{eqb}
+use Rattle.std.proofs.Common.{ℕ, suc, ◌+◌, ◌≤◌, ◌<◌, arith, ◌≡◌, refl, Bool, true, false, cond, List, [], ◌∷◌, ◌++◌, length, length-append, length-take-le, eqb}
+use Rattle.std.specs.Prelude.{Option, Some, None}
 use borrow.Author.Tests.{eqb-false}
 use Rattle.text.specs.Range.{within}
 use Rattle.text.specs.Utf8.{tail, is_scalar, octets, Octets, none}
 use Rattle.text.proofs.Shapes.{shapes}
 use Rattle.chunk.specs.Format.{last_from, last_at, last_code}
-use Rattle.compose.specs.declared.Composed.{Composed}
-use Rattle.compose.specs.declared.Composed.TheVariants as composed
 use Rattle.compose.specs.Lookup.{lookup}
 use Rattle.compose.specs.Composites.{composites}
 use Rattle.command.specs.declared.meaning.Meaning.{Meaning}
@@ -55,9 +47,9 @@ dot-text t c o = by (eqb (dotted c) c) refl
     by true e = o
     by false e = shapes.octets-append (last-character.text t o) (shapes.char-text (dotted c) (dotted-fine c (eqb-false (dotted c) c e)).0)
 
-mark-text : (t : List ℕ) (c m : ℕ) (r : Composed) → lookup composites (dotted c) m ≡ r → Octets t → is_scalar m ≡ true → Octets (with_mark t c m r)
-mark-text t c m (composed.Char x) e o s = shapes.octets-append (last-character.text t o) (shapes.char-text x (composed-fine (dotted c) m x e).0)
-mark-text t c m composed.Nothing e o s = shapes.octets-append (dot-text t c o) (shapes.char-text m s)
+mark-text : (t : List ℕ) (c m : ℕ) (r : Option ℕ) → lookup composites (dotted c) m ≡ r → Octets t → is_scalar m ≡ true → Octets (with_mark t c m r)
+mark-text t c m (Some x) e o s = shapes.octets-append (last-character.text t o) (shapes.char-text x (composed-fine (dotted c) m x e).0)
+mark-text t c m None e o s = shapes.octets-append (dot-text t c o) (shapes.char-text m s)
 
 combine-text : (arg : Argument) (m : ℕ) → Octets (text_of arg) → is_scalar m ≡ true → m ≤ 0x7FF → Octets (last_char_combine arg m)
 combine-text absent m o s l = shapes.char-text m s
@@ -93,9 +85,9 @@ dot-short b t c = by (eqb (dotted c) c) refl
         let one = octets-one (dotted c) (dotted-fine c (eqb-false (dotted c) c e)).1 in
         omega (arith, length-append (front (b ∷ t)) (octets (dotted c)), front-short b t, one)
 
-mark-short : (b : ℕ) (t : List ℕ) (c m : ℕ) (r : Composed) → m ≤ 0x7FF → length (with_mark (b ∷ t) c m r) ≤ length (b ∷ t) + 3
-mark-short b t c m (composed.Char x) l = omega (arith, length-append (front (b ∷ t)) (octets x), front-short b t, octets-few x)
-mark-short b t c m composed.Nothing l = omega (arith, length-append (with_dot (b ∷ t) c) (octets m), dot-short b t c, octets-two m l)
+mark-short : (b : ℕ) (t : List ℕ) (c m : ℕ) (r : Option ℕ) → m ≤ 0x7FF → length (with_mark (b ∷ t) c m r) ≤ length (b ∷ t) + 3
+mark-short b t c m (Some x) l = omega (arith, length-append (front (b ∷ t)) (octets x), front-short b t, octets-few x)
+mark-short b t c m None l = omega (arith, length-append (with_dot (b ∷ t) c) (octets m), dot-short b t c, octets-two m l)
 
 combine-short : (arg : Argument) (m : ℕ) → is_scalar m ≡ true → m ≤ 0x7FF → length (last_char_combine arg m) ≤ length (text_of arg) + 3
 combine-short absent m s l = omega (arith, octets-two m l)

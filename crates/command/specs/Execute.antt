@@ -3,11 +3,9 @@
 --     execute_command         what a command writes. For src/execute.rt.
 --     leading, Sane           what is written before an argument, and what is required of a meaning: for the contracts of src/execute.rt.
 -- Assumes nothing.
-use Rattle.std.specs.Prelude.{ℕ, ◌≤◌, ◌≡◌, true, cond, List, [], ◌∷◌, ◌++◌, take, eqb}
+use Rattle.std.specs.Prelude.{ℕ, ◌≤◌, ◌≡◌, true, cond, List, [], ◌∷◌, ◌++◌, take, eqb, Option, Some, None}
 use Rattle.text.specs.Utf8.{octets, is_scalar}
 use Rattle.chunk.specs.Format.{last_at, last_code}
-use Rattle.compose.specs.declared.Composed.{Composed}
-use Rattle.compose.specs.declared.Composed.TheVariants as composed
 use Rattle.compose.specs.Composites.{composites}
 use Rattle.compose.specs.Lookup.{lookup}
 use Rattle.command.specs.declared.meaning.Meaning.{Meaning}
@@ -34,9 +32,9 @@ abbrev pub with_dot : List ℕ → ℕ → List ℕ
 with_dot t c = cond (eqb (dotted c) c) t (front t ++ octets (dotted c))
 
 -- the text with its last character composed with the mark m, or with the mark behind it where they do not compose
-abbrev pub with_mark : List ℕ → ℕ → ℕ → Composed → List ℕ
-with_mark t c m (composed.Char d) = front t ++ octets d
-with_mark t c m composed.Nothing = with_dot t c ++ octets m
+abbrev pub with_mark : List ℕ → ℕ → ℕ → Option ℕ → List ℕ
+with_mark t c m (Some d) = front t ++ octets d
+with_mark t c m None = with_dot t c ++ octets m
 
 -- the text t with the mark m on its last character
 abbrev pub marked : List ℕ → ℕ → List ℕ

@@ -8,3 +8,4 @@ pub mod meaning;
 pub mod names;
 pub mod settle;
 pub mod stack;
+pub mod tables;

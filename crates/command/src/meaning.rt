@@ -1,9 +1,10 @@
 // What the name of a command means, after the list of `execute_command`.
 ghost use Rattle.std.specs.Prelude.{◌≡◌, [], ◌∷◌, ◌+◌, ◌≤◌, length};
 ghost use Rattle.text.specs.Scan.{part};
-ghost use Rattle.text.specs.SameBytes.{same_bytes};
 ghost use Rattle.command.specs.Commands.{meaning_of};
-ghost use Rattle.command.specs.Names.{code_of, decoded, names as all_names, SpanOf};
+ghost use Rattle.command.specs.Names.{code_of, decoded, SpanOf};
+
+use crate::tables::Tables;
 
 #[derive(Clone, Copy)]
 pub enum Meaning {
@@ -55,49 +56,11 @@ fn meaning_one(b: u8) -> Meaning
     }
 }
 
-fn wide(b: u8) -> usize
-    ensures { result ≡ b }
-{
-    b as usize
-}
-
-fn code(b: u8) -> u32
-    ensures { result ≡ b }
-{
-    b as u32
-}
-
-// Whether the n bytes of the names from i on are those of s from a on.
-fn matches(names: &[u8], i: usize, s: &[u8], a: usize, n: usize) -> bool
-    requires { (i + n ≤ length names.now) × (a + n ≤ length s.now) }
-    ensures { result ≡ same_bytes (part names.now i (i + n)) (part s.now a (a + n)) }
-{
-    let mut k = 0;
-    while k < n {
-        if names[i + k] != s[a + k] {
-            return false;
-        }
-        k += 1;
-    }
-    true
-}
-
-// Whether the m bytes of the names from i on are the n bytes of s from a on.
-fn equals(names: &[u8], i: usize, m: usize, s: &[u8], a: usize, n: usize) -> bool
-    requires { (i + m ≤ length names.now) × (a + n ≤ length s.now) }
-    ensures { result ≡ same_bytes (part names.now i (i + m)) (part s.now a (a + n)) }
-{
-    if m != n {
-        return false;
-    }
-    matches(names, i, s, a, n)
-}
-
 // The meaning that the three bytes of a row stand for.
 fn meaning_at(x: u8, y: u8, z: u8) -> Meaning
     ensures { result ≡ decoded (code_of x y z) }
 {
-    let c = (code(x) * 256 + code(y)) * 256 + code(z);
+    let c = (u32::from(x) * 256 + u32::from(y)) * 256 + u32::from(z);
     match c / 0x100000 {
         0 => Meaning::Letter(c),
         2 => Meaning::Itself,
@@ -135,20 +98,21 @@ fn span_of(n: usize) -> Span
 }
 
 // What the name from one place to another means.
-pub fn meaning_of(names: &[u8], s: &[u8], a: usize, e: usize) -> Meaning
-    requires { (names.now ≡ all_names) × (a ≤ e) × (e ≤ length s.now) }
+pub fn meaning_of(tables: Tables, s: &[u8], a: usize, e: usize) -> Meaning
+    requires { (a ≤ e) × (e ≤ length s.now) }
     ensures { result ≡ meaning_of (part s.now a e) }
 {
     let n = e - a;
     if n == 1 {
         return meaning_one(s[a]);
     }
+    let names = tables.names;
     let span = span_of(n);
     let mut i = span.0;
     let to = span.1;
     while i < to {
-        let m = wide(names[i]);
-        if equals(names, i + 4, m, s, a, n) {
+        let m = usize::from(names[i]);
+        if names[i + 4..i + 4 + m] == s[a..e] {
             return meaning_at(names[i + 1], names[i + 2], names[i + 3]);
         }
         i += 4 + m;

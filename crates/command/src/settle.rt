@@ -7,7 +7,8 @@ ghost use Rattle.command.specs.Stack.{Lays, default_chunk};
 use chunk::ending;
 use chunk::format::Formatted;
 
-// Moves the bytes from one place to another down to a third.
+// Moves the bytes from one place to another down to a third. Most moves are of a few bytes: with `copy_within` in the loop's place, 0.93 of the
+// speed is left on `\emph{a}` over and over.
 fn shift(t: &mut [u8], from: usize, to: usize, at: usize) -> usize
     requires { (at ≤ from) × (from ≤ to) × (to ≤ length t.old) }
     ensures lays { Lays at (part t.old from to) t.old result t.new }

@@ -5,7 +5,6 @@ ghost use Rattle.text.specs.Scan.{part};
 ghost use Rattle.text.specs.Utf8.{is_scalar, octets};
 ghost use Rattle.command.specs.Stack.{Lays};
 
-use text::utf8::Encoded;
 use text::{block, utf8};
 
 // The bytes of s from one place to another.
@@ -35,9 +34,8 @@ pub fn put_code(out: &mut [u8], at: usize, c: u32) -> usize
     ensures { Lays at (octets c) out.old result out.new }
 {
     match utf8::encode(c, &mut out[at..]) {
-        Encoded::Wrote(n) => at + n,
-        Encoded::NotScalar => at,
-        Encoded::NoRoom => at,
+        Ok(n) => at + n,
+        Err(_) => at,
     }
 }
 
@@ -45,9 +43,5 @@ pub fn put_code(out: &mut [u8], at: usize, c: u32) -> usize
 pub fn wipe(out: &mut [u8])
     ensures { out.new ≡ replicate (length out.old) 0 }
 {
-    let mut i = 0;
-    while i < out.len() {
-        out[i] = 0;
-        i += 1;
-    }
+    out.fill(0);
 }

@@ -1,5 +1,6 @@
 -- The proof of specs/Composition.antt: `composition`.
 -- Assumes nothing.
+use Rattle.std.specs.Prelude.{Some}
 use Prim.Native.Nat.{ℕ}
 use native.Mathlib.Omega.{arith}
 use mathlib.Core.Path.{◌≡◌, refl, sym, subst}
@@ -10,7 +11,6 @@ use lib.Dec.{eqb}
 use borrow.Author.Tests.{eqb-true, eq-eqb}
 use Rattle.text.proofs.general.Lists.{every-mem}
 use Rattle.text.specs.Every.{every}
-use Rattle.compose.specs.declared.Composed.TheVariants.{Char}
 use Rattle.compose.specs.Lookup.{Composite, ◌with◌is◌, lookup, rises_from, rises}
 use Rattle.compose.specs.Composites.{composites}
 use Rattle.compose.specs.Composition.{marks, is_among, Composition}
@@ -30,16 +30,16 @@ sixteen = refl
 -- ---- any list
 
 -- what is found is in the list
-listed : (rs : List Composite) (l m c : ℕ) → lookup rs l m ≡ Char c → Memᴰ (l with m is c) rs
+listed : (rs : List Composite) (l m c : ℕ) → lookup rs l m ≡ Some c → Memᴰ (l with m is c) rs
 unfolding lookup
 listed [] l m c e = let z : ◌≡◌ {A = ℕ} 0 1 = cc in absurd (omega arith)
 listed (r ∷ rs) l m c e = by (eqb r.letter l) (eqb r.mark m) refl refl e (listed rs l m c)
   where
-    later : lookup rs l m ≡ Char c → (lookup rs l m ≡ Char c → Memᴰ (l with m is c) rs) → Memᴰ (l with m is c) (r ∷ rs)
+    later : lookup rs l m ≡ Some c → (lookup rs l m ≡ Some c → Memᴰ (l with m is c) rs) → Memᴰ (l with m is c) (r ∷ rs)
     later e on = Memᴰ.tail (on e)
 
-    by : (x y : Bool) → eqb r.letter l ≡ x → eqb r.mark m ≡ y → cond (x && y) (Char r.char) (lookup rs l m) ≡ Char c
-        → (lookup rs l m ≡ Char c → Memᴰ (l with m is c) rs) → Memᴰ (l with m is c) (r ∷ rs)
+    by : (x y : Bool) → eqb r.letter l ≡ x → eqb r.mark m ≡ y → cond (x && y) (Some r.char) (lookup rs l m) ≡ Some c
+        → (lookup rs l m ≡ Some c → Memᴰ (l with m is c) rs) → Memᴰ (l with m is c) (r ∷ rs)
     by true true p q e on =
         let a = eqb-true r.letter l p in
         let b = eqb-true r.mark m q in
@@ -49,11 +49,11 @@ listed (r ∷ rs) l m c e = by (eqb r.letter l) (eqb r.mark m) refl refl e (list
     by false y p q e on = later e on
 
 -- what is in a list that rises is found
-finds : (rs : List Composite) → rises rs ≡ true → (l m c : ℕ) → Memᴰ (l with m is c) rs → lookup rs l m ≡ Char c
+finds : (rs : List Composite) → rises rs ≡ true → (l m c : ℕ) → Memᴰ (l with m is c) rs → lookup rs l m ≡ Some c
 unfolding lookup rises
 finds [] e l m c h = absurd (Memᴰ.not-nil h)
 finds (r ∷ rs) e l m c (Memᴰ.head q) =
-    subst (λ (r : Composite). lookup (r ∷ rs) l m ≡ Char c) q (rw (eq-eqb l l refl, eq-eqb m m refl))
+    subst (λ (r : Composite). lookup (r ∷ rs) l m ≡ Some c) q (rw (eq-eqb l l refl, eq-eqb m m refl))
 finds (r ∷ rs) e l m c (Memᴰ.tail d) =
     rw (not-has-low r l m (above r rs e (l with m is c) d)) (finds rs (rises-rest r rs e) l m c d)
 

@@ -1,10 +1,9 @@
 -- What the list and its search promise to the crates above. The proof is `composition` of proofs/Composition.antt; that two outcomes which a
 -- contract allows are equal is proofs/Unique.antt.
 -- Assumes nothing.
-use Rattle.std.specs.Prelude.{ℕ, ◌≡◌, Bool, true, false, ◌||◌, eqb}
+use Rattle.std.specs.Prelude.{ℕ, ◌≡◌, Bool, true, false, ◌||◌, eqb, Some}
 use mathlib.Core.List.{List, [], ◌∷◌, Memᴰ}
 use Rattle.text.specs.Every.{every}
-use Rattle.compose.specs.declared.Composed.TheVariants.{Char}
 use Rattle.compose.specs.Lookup.{Composite, ◌with◌is◌, numbers, lookup, rises}
 use Rattle.compose.specs.Composites.{composites}
 use Rattle.compose.specs.Halving.{halved}
@@ -23,9 +22,9 @@ pub record Composition : Type 0 where
   pub rising : rises composites ≡ true
   pub sixteen : every (λ r. is_among marks r.mark) composites ≡ true
   -- a letter and a mark compose to c exactly if the row with these three is in the list (`List.Memᴰ`)
-  pub listed : (l m c : ℕ) → lookup composites l m ≡ Char c → Memᴰ (l with m is c) composites
-  pub finds : (l m c : ℕ) → Memᴰ (l with m is c) composites → lookup composites l m ≡ Char c
+  pub listed : (l m c : ℕ) → lookup composites l m ≡ Some c → Memᴰ (l with m is c) composites
+  pub finds : (l m c : ℕ) → Memᴰ (l with m is c) composites → lookup composites l m ≡ Some c
   -- what holds of every row holds of what is found
-  pub each : (p : Composite → Bool) → every p composites ≡ true → (l m c : ℕ) → lookup composites l m ≡ Char c → p (l with m is c) ≡ true
+  pub each : (p : Composite → Bool) → every p composites ≡ true → (l m c : ℕ) → lookup composites l m ≡ Some c → p (l with m is c) ≡ true
   -- `find` in what `table` gives is the lookup in the list
   pub by-halving : (l m : ℕ) → halved (numbers composites) l m ≡ lookup composites l m

@@ -3,10 +3,8 @@
 --     lookup                   the row with a letter and a mark. For src/lib.rt.
 --     comes_before, rises      the order of the rows
 -- Assumes nothing.
-use Rattle.std.specs.Prelude.{ℕ, Bool, true, cond, ◌&&◌, List, [], ◌∷◌, eqb}
+use Rattle.std.specs.Prelude.{ℕ, Bool, true, cond, ◌&&◌, List, [], ◌∷◌, eqb, Option, Some, None}
 use Rattle.search.specs.Halving.{before}
-use Rattle.compose.specs.declared.Composed.{Composed}
-use Rattle.compose.specs.declared.Composed.TheVariants.{Char, Nothing}
 
 -- [01:Matching forms to places] a row is "letter, mark and composed character"
 pub record Composite : Type 0 where
@@ -28,9 +26,9 @@ abbrev pub has : Composite → ℕ → ℕ → Bool
 has r l m = eqb r.letter l && eqb r.mark m
 
 -- the composed character of the first row with that letter and mark; Nothing where no row has them
-unfoldable pub lookup : List Composite → ℕ → ℕ → Composed
-lookup [] l m = Nothing
-lookup (r ∷ rs) l m = cond (has r l m) (Char r.char) (lookup rs l m)
+unfoldable pub lookup : List Composite → ℕ → ℕ → Option ℕ
+lookup [] l m = None
+lookup (r ∷ rs) l m = cond (has r l m) (Some r.char) (lookup rs l m)
 
 -- whether a row comes before a letter and a mark: its letter is smaller, or it is the same and its mark is smaller
 abbrev pub comes_before : Composite → ℕ → ℕ → Bool

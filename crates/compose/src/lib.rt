@@ -13,13 +13,8 @@ ghost use Rattle.compose.specs.Lookup.{numbers, lookup};
 ghost use Rattle.compose.specs.Composites.{composites};
 ghost use Rattle.compose.specs.Halving.{halved};
 
-#[derive(Clone, Copy)]
-pub enum Composed {
-    Char(u32),
-    Nothing,
-}
-
-// The table: letter, mark and composed character of each row, one after the other.
+// The table: letter, mark and composed character of each row, one after the other. It is flat numbers and not rows, because `find` answers for any
+// numbers that it is lent.
 pub fn table() -> [u32; 1818]
     ensures { result ≡ numbers composites }
 {
@@ -28,23 +23,23 @@ pub fn table() -> [u32; 1818]
 
 // What a letter and a mark compose to by a table t, searched by halving. With the table of `table` it is what `compose` answers; with other
 // numbers, what the same search finds in them.
-pub fn find(t: &[u32], letter: u32, mark: u32) -> Composed
+pub fn find(t: &[u32], letter: u32, mark: u32) -> Option<u32>
     ensures { result ≡ halved t.now letter mark }
 {
     let k = search::place(t, 3, letter, mark);
     if t.len() / 3 <= k {
-        return Composed::Nothing;
+        return None;
     }
     let i = k * 3;
     if (t[i] == letter) & (t[i + 1] == mark) {
-        Composed::Char(t[i + 2])
+        Some(t[i + 2])
     } else {
-        Composed::Nothing
+        None
     }
 }
 
 // What a letter and a mark compose to.
-pub fn compose(letter: u32, mark: u32) -> Composed
+pub fn compose(letter: u32, mark: u32) -> Option<u32>
     ensures { result ≡ lookup composites letter mark }
 {
     let t = table();

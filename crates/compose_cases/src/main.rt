@@ -4,7 +4,6 @@
 // `find` is asked for every pair, over a table that is made once, and `compose` again for each pair that composes.
 #![tactic(auto)]
 
-use compose::Composed;
 use std::io;
 
 const MARKS: [u32; 16] = [
@@ -13,71 +12,49 @@ const MARKS: [u32; 16] = [
 ];
 
 // How many pairs were asked for, and how many of them compose.
-#[derive(Clone, Copy)]
+#[derive(Clone, Copy, Default)]
 struct Tally {
     asked: u64,
     composed: u64,
 }
 
-fn up(n: u64) -> u64 {
-    if n < 0xffff_ffff { n + 1 } else { n }
-}
-
-fn say(rt: &impl Print, s: &str) -> io::Result<()> {
-    rt.print(s)
-}
-
-fn hex(rt: &impl Print, n: u32) -> io::Result<()> {
-    print!(rt; "{n:04x}")
-}
-
 // Whether `compose` answers c too.
 fn is_composed(letter: u32, mark: u32, c: u32) -> bool {
     match compose::compose(letter, mark) {
-        Composed::Char(d) => c == d,
-        Composed::Nothing => false,
+        Some(d) => c == d,
+        None => false,
     }
 }
 
 fn show(rt: &impl Print, letter: u32, mark: u32, c: u32) -> io::Result<()> {
-    hex(rt, letter)?;
-    say(rt, " ")?;
-    hex(rt, mark)?;
-    say(rt, " ")?;
-    hex(rt, c)?;
+    print!(rt; "{letter:04x} {mark:04x} {c:04x}")?;
     if !is_composed(letter, mark, c) {
-        say(rt, " but not by compose")?;
+        print!(rt; " but not by compose")?;
     }
-    say(rt, "\n")
+    println!(rt)
 }
 
 // One letter with one mark.
 fn pair(rt: &impl Print, table: &[u32], letter: u32, mark: u32, t: Tally) -> io::Result<Tally> {
-    let asked = up(t.asked);
+    let asked = t.asked.saturating_add(1);
     let composed = t.composed;
     match compose::find(table, letter, mark) {
-        Composed::Char(c) => {
+        Some(c) => {
             show(rt, letter, mark, c)?;
             Ok(Tally {
                 asked,
-                composed: up(composed),
+                composed: composed.saturating_add(1),
             })
         }
-        Composed::Nothing => Ok(Tally { asked, composed }),
+        None => Ok(Tally { asked, composed }),
     }
 }
 
 // One letter with every mark.
-fn with_marks(
-    rt: &impl Print,
-    table: &[u32],
-    marks: &[u32; 16],
-    letter: u32,
-    tally: Tally,
-) -> io::Result<Tally> {
+fn with_marks(rt: &impl Print, table: &[u32], letter: u32, tally: Tally) -> io::Result<Tally> {
     let mut t = tally;
-    for i in 0..16 {
-        t = pair(rt, table, letter, marks[i], t)?;
+    for mark in MARKS {
+        t = pair(rt, table, letter, mark, t)?;
     }
     Ok(t)
 }
@@ -90,26 +67,16 @@ fn letters(
     end: u32,
     tally: Tally,
 ) -> io::Result<Tally> {
-    let marks = MARKS;
     let mut t = tally;
     for c in first..end {
-        t = with_marks(rt, table, &marks, c, t)?;
+        t = with_marks(rt, table, c, t)?;
     }
     Ok(t)
 }
 
 fn main(rt: HostRuntime) -> io::Result<()> {
     let table = compose::table();
-    let low = letters(
-        &rt,
-        &table,
-        0,
-        0xd800,
-        Tally {
-            asked: 0,
-            composed: 0,
-        },
-    )?;
+    let low = letters(&rt, &table, 0, 0xd800, Tally::default())?;
     let all = letters(&rt, &table, 0xe000, 0x110000, low)?;
     println!(rt; "{} of {} pairs compose", all.composed, all.asked)
 }

@@ -22,10 +22,10 @@ one-resolve-field κs a x y s t p q = (
   p.writes.text ∙ sym q.writes.text,
 )
 
--- the chunk rows come twelfth
-pub one-write : Both 11 write-kinds.ps write-kinds.r write.Post
+-- the chunk rows come fifth
+pub one-write : Both 6 write-kinds.ps write-kinds.r write.Post
     (λ κs x s y t.
-    let a = s.1.1.1.1.1.1.1.1.1.1.1 in
-    let b = t.1.1.1.1.1.1.1.1.1.1.1 in
+    let a = s.1.1.1.1 in
+    let b = t.1.1.1.1 in
     (x ≡ y) × (a.0.now ≡ b.0.now) × (a.1.0.now ≡ b.1.0.now))
 one-write κs a x y s t p q = (p.0.answer ∙ sym q.0.answer, p.0.rows ∙ sym q.0.rows, p.0.text ∙ sym q.0.text)

@@ -1,5 +1,7 @@
 -- What a field is resolved into is well-formed: `well-formed-fields`.
 -- Assumes nothing.
+use Rattle.text.specs.declared.utf8.IllFormed.{IllFormed}
+use Rattle.std.specs.Prelude.{Option, Some, None, Result, Ok, Err, ⊤}
 use Prim.Native.Nat.{ℕ, zero, suc, ◌+◌, ◌%◌}
 use native.Mathlib.Omega.{arith}
 use mathlib.Core.Path.{◌≡◌, refl, ap, subst}
@@ -8,10 +10,9 @@ use mathlib.Core.List.{List, [], ◌∷◌, ◌++◌, map}
 use lib.ListN.{length, drop}
 use lib.Dec.{eqb, leb, ltb}
 use borrow.Author.Tests.{leb-true}
+use Rattle.std.proofs.Common.{Option, Some, None}
 use Rattle.text.specs.Utf8.{Octets, validity_of, is_boundary}
 use Rattle.text.specs.Scan.{part}
-use Rattle.text.specs.declared.utf8.Validity.{Validity}
-use Rattle.text.specs.declared.utf8.Validity.TheVariants as validity
 use Rattle.text.proofs.general.Tests.{both_true}
 use Rattle.text.proofs.Rfc3629.{rfc3629}
 use Rattle.row.specs.declared.form.Kind.TheVariants.{Literal}
@@ -22,16 +23,12 @@ use Rattle.row.specs.Row.{Row}
 use Rattle.row.specs.Limits.{most_bytes, least_scratch, most_open, most_names}
 use Rattle.row.specs.Rules.{is_kind}
 use Rattle.row.specs.Numbers.{rows_of, are_rows}
-use Rattle.lookup.specs.declared.plain.Found.{Found}
-use Rattle.lookup.specs.declared.plain.Found.TheVariants as found
 use Rattle.text.specs.SameBytes.{same_bytes}
 use Rattle.text.specs.Every.{every}
 use Rattle.text.proofs.Boundaries.{boundaries}
 use Rattle.text.proofs.general.Lists.{every_drop}
 use Rattle.lookup.specs.Names.{last_named}
 use Rattle.chunk.specs.Chunk.{Chunk}
-use Rattle.chunk.specs.declared.answer.Checked.{Checked}
-use Rattle.chunk.specs.declared.answer.Checked.TheVariants as checked
 use Rattle.chunk.specs.WellFormed.{TextsUtf8}
 use Rattle.chunk.specs.WellFormed as texts
 use Rattle.literal.specs.Literal.{Resolved, chunks, resolve_literal}
@@ -76,9 +73,9 @@ Right unknown = Unit {0}
 valid-text : (s : List ℕ) → is_valid (validity_of s) ≡ true → Octets s
 valid-text s e = (rfc3629.accepts s).0 (by (validity_of s) e)
   where
-    by : (v : Validity) → is_valid v ≡ true → v ≡ validity.Valid
-    by validity.Valid e = refl
-    by (validity.IllFormed n) e = let z : ◌≡◌ {A = ℕ} 0 1 = ap (λ (b : Bool). cond b 1 0) e in absurd (omega arith)
+    by : (v : Result ⊤ IllFormed) → is_valid v ≡ true → v ≡ (Ok tt)
+    by (Ok tt) e = refl
+    by (Err n) e = let z : ◌≡◌ {A = ℕ} 0 1 = ap (λ (b : Bool). cond b 1 0) e in absurd (omega arith)
 
 is-text : (words : List ℕ) (a e : ℕ) → is_text words a e ≡ true → Octets (part words a e)
 is-text words a e h = valid-text (part words a e) (both_true (leb e (length words)) _ (both_true (leb a e) _ h).1).1
@@ -176,9 +173,9 @@ module _ (l : Lent) (good : Good l) (verb : Bool) where
   meaning-right : (r : Row) → Right (meaning_of l r)
   meaning-right r = by (last_named l.file (spelt l r) l.rows)
     where
-      by : (f : Found) → Right (or_month f (month_of (spelt l r) l.months))
-      by (found.Row i) = tt
-      by found.Nothing = good.months (spelt l r)
+      by : (f : Option ℕ) → Right (or_month f (month_of (spelt l r) l.months))
+      by (Some i) = tt
+      by None = good.months (spelt l r)
 
   known-gives : (path : List ℕ) (r : Row) (m : Meaning) (go : Run) → Gives go → Gives (known path r m go)
   known-gives path r (definition i) go h = cond-gives (on_path i path) _ go tt h
@@ -214,25 +211,25 @@ record AnsweredWell (s : List ℕ) (good : Bool) (x v : Value) : Type 0 where
   pub right : good ≡ true
   pub value : x ≡ v
 
-passed-text : (file : List ℕ) → checked_file file ≡ checked.Passed → Octets file
+passed-text : (file : List ℕ) → checked_file file ≡ Ok tt → Octets file
 unfolding checked_file
 passed-text file = by (leb (length file) most_bytes) (validity_of file) (nowhere TooLong) (rfc3629.accepts file).0
   where
-    by : (w : Bool) (v : Validity) (f : Fault) → (v ≡ validity.Valid → Octets file) → cond w (of_utf8 v) (checked.Refused f) ≡ checked.Passed → Octets file
-    by true validity.Valid f h e = h refl
-    by true (validity.IllFormed n) f h e = let z : ◌≡◌ {A = ℕ} 0 1 = cc in absurd (omega arith)
+    by : (w : Bool) (v : Result ⊤ IllFormed) (f : Fault) → (v ≡ Ok tt → Octets file) → cond w (of_utf8 v) (Err f) ≡ Ok tt → Octets file
+    by true (Ok tt) f h e = h refl
+    by true (Err n) f h e = let z : ◌≡◌ {A = ℕ} 0 1 = cc in absurd (omega arith)
     by false v f h e = let z : ◌≡◌ {A = ℕ} 0 1 = cc in absurd (omega arith)
 
 answered : (file : List ℕ) (good : Bool) (w : ℕ) (value : Value) (cs : List Chunk) (n : ℕ) → asked file good w value ≡ resolved cs n
     → AnsweredWell file good value (resolved cs n)
 answered file good w value cs n = by (checked_file file) good (leb least_scratch w) (nowhere NoRoom) (nowhere BadRows) (passed-text file)
   where
-    by : (x : Checked) (good room : Bool) (f g : Fault) → (x ≡ checked.Passed → Octets file)
+    by : (x : Result ⊤ Fault) (good room : Bool) (f g : Fault) → (x ≡ Ok tt → Octets file)
         → after x (cond good (cond room value (refused f)) (refused g)) ≡ resolved cs n → AnsweredWell file good value (resolved cs n)
-    by checked.Passed true true f g h e = record { file = h refl; right = refl; value = e }
-    by checked.Passed true false f g h e = absurd (omega (arith, ap is_resolved e))
-    by checked.Passed false room f g h e = absurd (omega (arith, ap is_resolved e))
-    by (checked.Refused k) good room f g h e = absurd (omega (arith, ap is_resolved e))
+    by (Ok tt) true true f g h e = record { file = h refl; right = refl; value = e }
+    by (Ok tt) true false f g h e = absurd (omega (arith, ap is_resolved e))
+    by (Ok tt) false room f g h e = absurd (omega (arith, ap is_resolved e))
+    by (Err k) good room f g h e = absurd (omega (arith, ap is_resolved e))
 
 field-passes : (file rows : List ℕ) (which : ℕ) (verb : Bool) (months words : List ℕ) (w n : ℕ) (cs : List Chunk)
     → value_at file rows which verb months words w ≡ resolved cs n → Passes cs

@@ -1,52 +1,38 @@
 // The value of a row, after `parse_field` of resolve.rs: counted, written, or resolved by a call of its own.
 ghost use Rattle.std.specs.Prelude.{length};
 ghost use Rattle.resolve.specs.Resolves.{Writes, Resolves};
-ghost use Rattle.resolve.specs.Checks.{lent_of};
 ghost use Rattle.resolve.specs.Progress.{BoundedWent, BoundedAnswer, Counted};
 ghost use Rattle.values.specs.Field.{field_of};
+ghost use Rattle.values.specs.Uses.{lent_in};
 ghost use Rattle.fields.specs.OneField.{value_at, Resolving};
 
-use chunk::answer::Checked;
+use command::tables::Tables;
 use command::{names as commands, stack};
 use compose;
-use resolve::answer::Answer;
-use resolve::progress::Went;
+use resolve::answer::Chunks;
+use resolve::progress::Progress;
 use resolve::{answer, lent, one_literal, progress};
+use row::fault;
 use row::fault::{Fault, Reason};
 use row::limits::{LEAST_SCRATCH, MOST_OPEN};
 use values::elements;
-use values::elements::Only;
+use values::resolver::Resolver;
 
 // What the value of row `which` comes to, counted over no room.
 pub fn count(
-    file: &[u8],
-    rows: &[u32],
-    months: &[u32],
-    words: &[u8],
-    heads: &[u32],
-    next: &[u32],
-    known: &[u8],
-    marks: &[u32],
+    resolver: &Resolver,
     verbatim: bool,
     which: usize,
     scratch: &mut [u8],
-) -> Went
-    requires { Resolving file.now rows.now months.now words.now heads.now next.now scratch.old known.now marks.now which }
-    ensures counted { Counted (field_of (lent_of file.now rows.now months.now words.now) verbatim which) result }
+) -> Result<Progress, Fault>
+    requires { Resolving resolver.now which scratch.old }
+    ensures counted { Counted (field_of (lent_in resolver.now) verbatim which) result }
     ensures bounded_went { BoundedWent result }
 {
     let mut path = [0usize; MOST_OPEN];
     let mut no_rows = [0u32; 0];
     let mut no_text = [0u8; 0];
-    elements::value(
-        file,
-        rows,
-        months,
-        words,
-        heads,
-        next,
-        known,
-        marks,
+    resolver.value(
         verbatim,
         MOST_OPEN,
         &mut path,
@@ -61,22 +47,15 @@ pub fn count(
 // Resolves the value of row `which` over a small room first, past whose end rows and bytes are only counted. If the value fits there it is copied
 // from there; else it is resolved again.
 fn several(
-    file: &[u8],
-    rows: &[u32],
-    months: &[u32],
-    words: &[u8],
-    heads: &[u32],
-    next: &[u32],
-    known: &[u8],
-    marks: &[u32],
+    resolver: &Resolver,
     verbatim: bool,
     which: usize,
     scratch: &mut [u8],
     chunks: &mut [u32],
     text: &mut [u8],
-) -> Answer
-    requires { Resolving file.now rows.now months.now words.now heads.now next.now scratch.old known.now marks.now which }
-    ensures writes { Writes (field_of (lent_of file.now rows.now months.now words.now) verbatim which)
+) -> Result<Chunks, Fault>
+    requires { Resolving resolver.now which scratch.old }
+    ensures writes { Writes (field_of (lent_in resolver.now) verbatim which)
         chunks.old text.old result chunks.new text.new }
     ensures bounded_answer { BoundedAnswer result }
 {
@@ -85,114 +64,90 @@ fn several(
     let mut few = [0u32; 160];
     let mut short = [0u8; 1024];
     let first = progress::begin();
-    match elements::value(
-        file, rows, months, words, heads, next, known, marks, verbatim, MOST_OPEN, &mut path, at,
-        first, scratch, &mut few, &mut short,
-    ) {
-        Went::Refused(f) => Answer::Refused(f),
-        Went::Done(st) => {
-            if !progress::fits(st, chunks, text) {
-                return Answer::Refused(Fault {
-                    reason: Reason::NoRoom,
-                    start: 0,
-                    end: 0,
-                });
-            }
-            if progress::fits(st, &few, &short) {
-                progress::copy_out(st, &few, &short, chunks, text);
-                return progress::answer(st);
-            }
-            elements::value(
-                file, rows, months, words, heads, next, known, marks, verbatim, MOST_OPEN,
-                &mut path, at, first, scratch, chunks, text,
-            );
-            progress::answer(st)
-        }
+    let st = resolver.value(
+        verbatim, MOST_OPEN, &mut path, at, first, scratch, &mut few, &mut short,
+    )?;
+    if !progress::fits(st, chunks, text) {
+        return Err(fault::nowhere(Reason::NoRoom));
     }
+    if progress::fits(st, &few, &short) {
+        progress::copy_out(st, &few, &short, chunks, text);
+        return Ok(progress::answer(st));
+    }
+    let _ = resolver.value(
+        verbatim, MOST_OPEN, &mut path, at, first, scratch, chunks, text,
+    );
+    Ok(progress::answer(st))
 }
 
 // Resolves the value of row `which`. Most values are one literal, which needs no room of its own.
 pub fn write(
-    file: &[u8],
-    rows: &[u32],
-    months: &[u32],
-    words: &[u8],
-    heads: &[u32],
-    next: &[u32],
-    known: &[u8],
-    marks: &[u32],
+    resolver: &Resolver,
     verbatim: bool,
     which: usize,
     scratch: &mut [u8],
     chunks: &mut [u32],
     text: &mut [u8],
-) -> Answer
-    requires { Resolving file.now rows.now months.now words.now heads.now next.now scratch.old known.now marks.now which }
-    ensures writes { Writes (field_of (lent_of file.now rows.now months.now words.now) verbatim which)
+) -> Result<Chunks, Fault>
+    requires { Resolving resolver.now which scratch.old }
+    ensures writes { Writes (field_of (lent_in resolver.now) verbatim which)
         chunks.old text.old result chunks.new text.new }
     ensures bounded_answer { BoundedAnswer result }
 {
-    match elements::only_literal(rows, which * 4 + 4) {
-        Only::Literal { start, end } => one_literal::single(
-            &file[start..end],
+    match elements::only_literal(resolver.rows, which * 4 + 4) {
+        Some((start, end)) => one_literal::single(
+            &resolver.file[start..end],
             start,
             verbatim,
             scratch,
             chunks,
             text,
-            known,
-            marks,
+            resolver.tables,
         ),
-        Only::Nothing => several(
-            file, rows, months, words, heads, next, known, marks, verbatim, which, scratch, chunks,
-            text,
-        ),
+        None => several(resolver, verbatim, which, scratch, chunks, text),
     }
 }
 
 // Resolves the value of row `which`, after the checks that every call makes first.
-fn field(
-    file: &[u8],
-    rows: &[u32],
+fn field<'a>(
+    file: &'a [u8],
+    rows: &'a [u32],
     which: usize,
     verbatim: bool,
-    months: &[u32],
-    words: &[u8],
+    months: &'a [u32],
+    words: &'a [u8],
     scratch: &mut [u8],
     chunks: &mut [u32],
     text: &mut [u8],
-) -> Answer
+) -> Result<Chunks, Fault>
     ensures { Writes (value_at file.now rows.now which verbatim months.now words.now
         (length scratch.old)) chunks.old text.old result chunks.new text.new }
 {
-    match answer::check_file(file) {
-        Checked::Refused(f) => {
-            return Answer::Refused(f);
-        }
-        Checked::Passed => {}
-    }
+    answer::check_file(file)?;
     if !(lent::are_lent(file, rows, months, words) & lent::is_value(rows, which)) {
-        return Answer::Refused(Fault {
-            reason: Reason::BadRows,
-            start: 0,
-            end: 0,
-        });
+        return Err(fault::nowhere(Reason::BadRows));
     }
     if scratch.len() < LEAST_SCRATCH {
-        return Answer::Refused(Fault {
-            reason: Reason::NoRoom,
-            start: 0,
-            end: 0,
-        });
+        return Err(fault::nowhere(Reason::NoRoom));
     }
     let heads = [0u32; 0];
     let next = [0u32; 0];
-    let known = commands::names();
+    let names = commands::names();
     let marks = compose::table();
-    write(
-        file, rows, months, words, &heads, &next, &known, &marks, verbatim, which, scratch, chunks,
-        text,
-    )
+    let tables = Tables {
+        names: &names,
+        marks: &marks,
+    };
+    let resolver = Resolver {
+        file,
+        rows,
+        months,
+        words,
+        heads: &heads,
+        next: &next,
+        tables,
+    };
+    write(&resolver, verbatim, which, scratch, chunks, text)
 }
 
 // Resolves the value whose row is number `which` of the rows, from 0: its chunks' rows, five numbers to a row, their text, and the number of
@@ -208,7 +163,7 @@ pub fn resolve_field(
     scratch: &mut [u8],
     chunks: &mut [u32],
     text: &mut [u8],
-) -> Answer
+) -> Result<Chunks, Fault>
     ensures { Resolves (value_at file.now rows.now which verbatim months.now words.now
         (length scratch.old)) scratch.old chunks.old text.old result
         scratch.new chunks.new text.new }

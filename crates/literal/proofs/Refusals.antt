@@ -1,18 +1,10 @@
 -- Which refusals a literal can come to, and their places: `refusals`.
 -- Assumes nothing.
-use Prim.Native.Nat.{ℕ, zero, suc, ◌+◌, ◌-◌, ◌≤◌, ◌<◌}
-use native.Mathlib.Omega.{arith}
-use mathlib.Core.Path.{◌≡◌, refl, sym, ap, subst, ◌∙◌}
-use mathlib.Core.Bool.{Bool, true, false, cond, not, ◌&&◌}
-use mathlib.Core.List.{List, [], ◌∷◌}
-use lib.ListN.{length, take, get_or, length-take}
-use lib.Seq.{get_or-take}
-use lib.Dec.{eqb, leb, ltb}
-use borrow.Author.Tests.{eqb-true, ltb-true, leb-true, leb-false}
+use Rattle.std.proofs.Common.{ℕ, zero, suc, ◌+◌, ◌-◌, ◌≤◌, ◌<◌, arith, ◌≡◌, refl, sym, ap, subst, ◌∙◌, Bool, true, false}
+use Rattle.std.proofs.Common.{cond, not, ◌&&◌, List, [], ◌∷◌, length, take, get_or, length-take, get_or-take, eqb, leb, ltb, eqb-true, ltb-true, leb-true, leb-false}
+use Rattle.std.specs.Prelude.{Option, Some, None}
 use Rattle.text.specs.Class.{is_whitespace, is_id_continue}
 use Rattle.text.specs.Scan.{see, skip, fails, part}
-use Rattle.text.specs.declared.scanner.Seen.{Seen}
-use Rattle.text.specs.declared.scanner.Seen.TheVariants.{End, Char}
 use Rattle.text.specs.declared.class.Test.TheVariants as test
 use Rattle.text.proofs.Seeing.{seeing}
 use Rattle.row.specs.declared.fault.Fault.{Fault}
@@ -71,7 +63,7 @@ many-fair s f F a p h = loop-fair s f F (suc (length s)) a p h
 -- ---- a byte that is seen
 
 -- the character c that is seen at p, where it is the character x of ASCII
-seen-byte : (s : List ℕ) (p c n x : ℕ) → see s p ≡ Char c n → x < 0x80 → eqb c x ≡ true → (p < length s) × (get_or s p 0 ≡ x)
+seen-byte : (s : List ℕ) (p c n x : ℕ) → see s p ≡ Some (c, n) → x < 0x80 → eqb c x ≡ true → (p < length s) × (get_or s p 0 ≡ x)
 seen-byte s p c n x e l t =
     let q = eqb-true c x t in
     ((seeing.char-parts s p c n e).0, seeing.byte_of s p c n e (omega (arith, q, l)) ∙ q)
@@ -79,9 +71,9 @@ seen-byte s p c n x e l t =
 opens-byte : (s : List ℕ) (w : ℕ) → opens_at (see s w) ≡ true → get_or s w 0 ≡ 0x7B
 opens-byte s w = by (see s w) refl
   where
-    by : (v : Seen) → see s w ≡ v → opens_at v ≡ true → get_or s w 0 ≡ 0x7B
-    by End e h = let z : ◌≡◌ {A = ℕ} 0 1 = cc in absurd (omega (arith, z))
-    by (Char c n) e h = (seen-byte s w c n 0x7B e (omega arith) h).1
+    by : (v : Option (ℕ × ℕ)) → see s w ≡ v → opens_at v ≡ true → get_or s w 0 ≡ 0x7B
+    by None e h = let z : ◌≡◌ {A = ℕ} 0 1 = cc in absurd (omega (arith, z))
+    by (Some (c, n)) e h = (seen-byte s w c n 0x7B e (omega arith) h).1
 
 -- ---- a command's argument
 
@@ -158,11 +150,11 @@ module _ (argument : Reader) (A : Behind argument) (s : List ℕ) where
   unfolding backslash
   backslash-fair verb p h = by verb (see s p) refl
     where
-      by : (verb : Bool) (v : Seen) → see s p ≡ v → Fair s (backslash_at argument verb s p v)
-      by true End e = h
-      by false End e = ended p h
-      by true (Char c n) e = cond-by (Fair s) (is_escape true c) _ _ (seeing.see-ahead s p c n e).1 h
-      by false (Char c n) e =
+      by : (verb : Bool) (v : Option (ℕ × ℕ)) → see s p ≡ v → Fair s (backslash_at argument verb s p v)
+      by true None e = h
+      by false None e = ended p h
+      by true (Some (c, n)) e = cond-by (Fair s) (is_escape true c) _ _ (seeing.see-ahead s p c n e).1 h
+      by false (Some (c, n)) e =
           let l = (seeing.see-ahead s p c n e).1 in
           cond-by (Fair s) (is_escape false c) _ _ l (cond-by (Fair s) (begins c) _ _ (command-fair c n p l) h)
 

@@ -8,30 +8,22 @@
 --     AheadState, ReadyContent             bounds: the text grows by at most two bytes for each byte read
 -- Nothing is said of the text and the rows after a refusal: a literal is resolved over a small room first, and its bytes are wiped at the end.
 -- Assumes nothing.
-use Rattle.std.specs.Prelude.{ℕ, ◌+◌, ◌*◌, ◌≤◌, ◌<◌, ◌≡◌, Bool, true, false, cond, List, [], ◌∷◌, ◌++◌, map, length, take, get_or, eqb}
+use Rattle.row.specs.declared.fault.Fault.{Fault}
+use Rattle.std.specs.Prelude.{ℕ, ◌+◌, ◌*◌, ◌≤◌, ◌<◌, ◌≡◌, Bool, true, false, cond, List, [], ◌∷◌, ◌++◌, map, length, take, get_or, eqb, Result, Ok, Err}
 use Rattle.text.specs.Scan.{part}
 use Rattle.row.specs.Limits.{most_bytes, most_literal, least_scratch}
 use Rattle.raw.specs.Reader.{OutOf, ok, again, bad, more}
 use Rattle.chunk.specs.declared.form.Kind.TheVariants.{Normal}
 use Rattle.chunk.specs.Chunk.{Chunk, chunk}
 use Rattle.chunk.specs.Format.{format_verbatim, white_from}
-use Rattle.compose.specs.Lookup.{numbers}
-use Rattle.compose.specs.Composites.{composites}
 use Rattle.command.specs.declared.meaning.Meaning.{Meaning}
 use Rattle.command.specs.Stack.{Lays, default_chunk}
-use Rattle.command.specs.Names.{names as all_names}
 use Rattle.command.specs.Execute.{given, execute_command, leading}
 use Rattle.literal.specs.declared.rows.Rows.{Rows}
 use Rattle.literal.specs.declared.making.Making.{Making}
 use Rattle.literal.specs.declared.making.Place.{Place}
-use Rattle.literal.specs.declared.content.Made.{Made}
-use Rattle.literal.specs.declared.content.Made.TheVariants as made
-use Rattle.literal.specs.declared.content.SignEnd.{SignEnd}
-use Rattle.literal.specs.declared.content.SignEnd.TheVariants as sign_end
 use Rattle.literal.specs.declared.parse.Begun.{Begun}
 use Rattle.literal.specs.declared.parse.Begun.TheVariants as begun
-use Rattle.literal.specs.declared.parse.Parsed.{Parsed}
-use Rattle.literal.specs.declared.parse.Parsed.TheVariants as parsed
 use Rattle.turn.specs.Content.{Part, cut, math, Reader, State, beginning, steps, chunks_of, flatten, content_turn}
 use Rattle.turn.specs.Turns.{turns, Wrote, Placed, Grows, ReadyText}
 use Rattle.literal.specs.Rows.{most_number, most_rows, RowsHold, texts_of}
@@ -123,14 +115,14 @@ pub record SignTurn (verb : Bool) (s : List ℕ) (p d q e : ℕ) : Type 0 where
   pub turn : (argument : Reader) → content_turn argument verb d s p ≡ again (q + 1) (cut e p (q + 1) ∷ formula s p q) e
 
 -- where a sign ends, or why it is refused
-abbrev pub SignEnds : Bool → List ℕ → ℕ → ℕ → SignEnd → Type 0
-SignEnds verb s p d (sign_end.At q e) = SignTurn verb s p d q e
-SignEnds verb s p d (sign_end.Refused f) = ((argument : Reader) → content_turn argument verb d s p ≡ bad f) × Placed (length s) f
+abbrev pub SignEnds : Bool → List ℕ → ℕ → ℕ → Result (ℕ × ℕ) Fault → Type 0
+SignEnds verb s p d (Ok (q, e)) = SignTurn verb s p d q e
+SignEnds verb s p d (Err f) = ((argument : Reader) → content_turn argument verb d s p ≡ bad f) × Placed (length s) f
 
 -- a turn that ends a chunk
-abbrev pub SaysSign : Place → Bool → List ℕ → Making → List ℕ → List ℕ → Made → List ℕ → List ℕ → Type 0
-SaysSign place verb s m o b (made.Done m') o' b' = Onto place verb s m o b m' o' b'
-SaysSign place verb s m o b (made.Refused f) o' b' = (argument : Reader) → from argument verb s m ≡ bad f
+abbrev pub SaysSign : Place → Bool → List ℕ → Making → List ℕ → List ℕ → Result Making Fault → List ℕ → List ℕ → Type 0
+SaysSign place verb s m o b (Ok m') o' b' = Onto place verb s m o b m' o' b'
+SaysSign place verb s m o b (Err f) o' b' = (argument : Reader) → from argument verb s m ≡ bad f
 
 -- ---- a command with its argument
 
@@ -183,26 +175,26 @@ ArgumentFinished name k p e m t o m' o' =
 -- ---- content and argument
 
 -- what reading content answers, by the outcome that the definition gives
-abbrev pub SaysContent : Place → OutOf Part → Making → List ℕ → List ℕ → Made → List ℕ → List ℕ → Type 0
-SaysContent place (ok q xs) m o b (made.Done m') o' b' = (m'.at ≡ q) × Goes place xs m o b m' o' b'
-SaysContent place (ok q xs) m o b (made.Refused f) o' b' = ⊥
-SaysContent place (again q xs a) m o b (made.Done m') o' b' = (m'.at ≡ q) × Goes place xs m o b m' o' b'
-SaysContent place (again q xs a) m o b (made.Refused f) o' b' = ⊥
-SaysContent place (bad g) m o b (made.Done m') o' b' = ⊥
-SaysContent place (bad g) m o b (made.Refused f) o' b' = f ≡ g
+abbrev pub SaysContent : Place → OutOf Part → Making → List ℕ → List ℕ → Result Making Fault → List ℕ → List ℕ → Type 0
+SaysContent place (ok q xs) m o b (Ok m') o' b' = (m'.at ≡ q) × Goes place xs m o b m' o' b'
+SaysContent place (ok q xs) m o b (Err f) o' b' = ⊥
+SaysContent place (again q xs a) m o b (Ok m') o' b' = (m'.at ≡ q) × Goes place xs m o b m' o' b'
+SaysContent place (again q xs a) m o b (Err f) o' b' = ⊥
+SaysContent place (bad g) m o b (Ok m') o' b' = ⊥
+SaysContent place (bad g) m o b (Err f) o' b' = f ≡ g
 
 -- a command with its argument puts one text, and content goes on behind the brace at e
 abbrev pub PutsText : List ℕ → ℕ → Making → List ℕ → Making → List ℕ → Type 0
 PutsText w e m o m' o' = Further m (e + 1) (m.len + length w) m' × Lays m.len w o m'.len o'
 
 -- what a command with its argument answers, by the outcome of the argument's content from p on
-abbrev pub SaysArgument : OutOf Part → List ℕ → ℕ → ℕ → Making → List ℕ → Made → List ℕ → Type 0
-SaysArgument (ok q xs) name p e m o (made.Done m') o' = PutsText (whole_text name p q xs) e m o m' o'
-SaysArgument (ok q xs) name p e m o (made.Refused f) o' = ⊥
-SaysArgument (again q xs a) name p e m o (made.Done m') o' = PutsText (whole_text name p q xs) e m o m' o'
-SaysArgument (again q xs a) name p e m o (made.Refused f) o' = ⊥
-SaysArgument (bad g) name p e m o (made.Done m') o' = ⊥
-SaysArgument (bad g) name p e m o (made.Refused f) o' = f ≡ g
+abbrev pub SaysArgument : OutOf Part → List ℕ → ℕ → ℕ → Making → List ℕ → Result Making Fault → List ℕ → Type 0
+SaysArgument (ok q xs) name p e m o (Ok m') o' = PutsText (whole_text name p q xs) e m o m' o'
+SaysArgument (ok q xs) name p e m o (Err f) o' = ⊥
+SaysArgument (again q xs a) name p e m o (Ok m') o' = PutsText (whole_text name p q xs) e m o m' o'
+SaysArgument (again q xs a) name p e m o (Err f) o' = ⊥
+SaysArgument (bad g) name p e m o (Ok m') o' = ⊥
+SaysArgument (bad g) name p e m o (Err f) o' = f ≡ g
 
 -- ---- a literal
 
@@ -237,12 +229,12 @@ pub record LastChunkDone (place : Place) (t : Making) (o b : List ℕ) (k : Rows
 
 -- what `parse` answers for a literal, by the chunks or the refusal that the definition gives. `have` and b hold the rows of any chunks that the
 -- value has before it, whose text has `before` bytes
-abbrev pub SaysParsed : Resolved → ℕ → Rows → List ℕ → Parsed → List ℕ → List ℕ → Type 0
-SaysParsed (chunks cs) before have b (parsed.Chunks k len) o' b' =
+abbrev pub SaysParsed : Resolved → ℕ → Rows → List ℕ → Result (Rows × ℕ) Fault → List ℕ → List ℕ → Type 0
+SaysParsed (chunks cs) before have b (Ok (k, len)) o' b' =
     (ps : List Chunk) (b₀ : List ℕ) → before ≡ length (texts_of ps) → RowsHold (flatten ps) b₀ have b → Added ps cs b₀ k len o' b'
-SaysParsed (chunks cs) before have b (parsed.Refused f) o' b' = ⊥
-SaysParsed (refused g) before have b (parsed.Chunks k len) o' b' = ⊥
-SaysParsed (refused g) before have b (parsed.Refused f) o' b' = f ≡ g
+SaysParsed (chunks cs) before have b (Err f) o' b' = ⊥
+SaysParsed (refused g) before have b (Ok (k, len)) o' b' = ⊥
+SaysParsed (refused g) before have b (Err f) o' b' = f ≡ g
 
 -- ---- bounds
 
@@ -256,31 +248,20 @@ pub record AheadState (len v : ℕ) (m m' : Making) : Type 0 where
   pub start : m'.start ≤ m'.at
 
 -- the bounds of an answer
-abbrev pub AheadMade : ℕ → ℕ → Making → Made → Type 0
-AheadMade len v m (made.Done m') = AheadState len v m m'
-AheadMade len v m (made.Refused f) = Placed len f
+abbrev pub AheadMade : ℕ → ℕ → Making → Result Making Fault → Type 0
+AheadMade len v m (Ok m') = AheadState len v m m'
+AheadMade len v m (Err f) = Placed len f
 
 -- [01:From file to field] "resolving's scratch at least 32,768": the text of a literal of 16,384 bytes fits there, and it has at most a row
 -- for each byte and one more. A refusal's place lies in the file
-abbrev pub GrowsParsed : Rows → Parsed → Type 0
-GrowsParsed have (parsed.Chunks k len) = (len ≤ least_scratch) × (k.n ≤ have.n + (most_literal + 1))
-GrowsParsed have (parsed.Refused f) = Placed most_bytes f
+abbrev pub GrowsParsed : Rows → Result (Rows × ℕ) Fault → Type 0
+GrowsParsed have (Ok (k, len)) = (len ≤ least_scratch) × (k.n ≤ have.n + (most_literal + 1))
+GrowsParsed have (Err f) = Placed most_bytes f
 
--- what a function requires that reads content: a literal inside 01's limit, in a file inside 01's limit, and the tables
-pub record ReadyContent (s : List ℕ) (place : Place) (m : Making) (o by_name by_mark : List ℕ) : Type 0 where
+-- what a function requires that reads content or ends a chunk: a literal inside 01's limit, in a file inside 01's limit
+pub record ReadyContent (s : List ℕ) (place : Place) (m : Making) (o : List ℕ) : Type 0 where
   pub literal : length s ≤ most_literal
-  pub text : ReadyText s m.at m.len o by_name by_mark
-  pub from : m.from ≤ m.len
-  pub start : m.start ≤ m.at
-  pub braces : m.braces ≤ m.at
-  pub rows : m.rows.n ≤ most_rows + m.at
-  pub value : place.text + m.len + 2 * length s ≤ most_number + least_scratch + 2 * m.at
-  pub file : place.base ≤ most_bytes
-
--- what a function requires that ends a chunk: what `ReadyContent` has, without the tables
-pub record ReadySign (s : List ℕ) (place : Place) (m : Making) (o : List ℕ) : Type 0 where
-  pub literal : length s ≤ most_literal
-  pub room : m.len + 2 * length s ≤ length o + 2 * m.at
+  pub text : ReadyText s m.at m.len o
   pub from : m.from ≤ m.len
   pub start : m.start ≤ m.at
   pub braces : m.braces ≤ m.at
@@ -289,11 +270,9 @@ pub record ReadySign (s : List ℕ) (place : Place) (m : Making) (o : List ℕ) 
   pub file : place.base ≤ most_bytes
 
 -- what `parse` requires: a literal s of a file inside 01's limit, at `base` in it; the text of the value before it no longer than a row's
--- numbers reach; and the tables
-pub record ReadyLiteral (s : List ℕ) (base before : ℕ) (have : Rows) (o by_name by_mark : List ℕ) : Type 0 where
+-- numbers reach
+pub record ReadyLiteral (s : List ℕ) (base before : ℕ) (have : Rows) (o : List ℕ) : Type 0 where
   pub file : base + length s ≤ most_bytes
   pub scratch : least_scratch ≤ length o
   pub value : before ≤ most_number
   pub rows : have.n ≤ most_rows
-  pub names : by_name ≡ all_names
-  pub marks : by_mark ≡ numbers composites

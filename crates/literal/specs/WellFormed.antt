@@ -1,9 +1,8 @@
 -- What a literal is resolved into is well-formed: its text is UTF-8, the rows of its chunks pass the writers' check, its text has at most twice
 -- its bytes, and it has at most one chunk more than bytes. The proof is `well-formed` of proofs/WellFormed.antt.
 -- Assumes nothing.
-use Rattle.std.specs.Prelude.{ℕ, ◌+◌, ◌*◌, ◌≤◌, ◌≡◌, Bool, true, List, length}
+use Rattle.std.specs.Prelude.{ℕ, ◌+◌, ◌*◌, ◌≤◌, ◌≡◌, Bool, true, List, length, Ok}
 use Rattle.text.specs.Utf8.{Octets}
-use Rattle.chunk.specs.declared.answer.Checked.TheVariants as checked
 use Rattle.chunk.specs.Chunk.{Chunk, flat_chunks, every_chunk}
 use Rattle.chunk.specs.Write.{checked_of}
 use Rattle.chunk.specs.WellFormed.{TextsUtf8}
@@ -18,7 +17,7 @@ pub record Passes (cs : List Chunk) : Type 0 where
   pub rows : every_chunk (texts_of cs) (rows_from 0 cs) ≡ true
   pub joined : every_chunk (texts_of cs) (rows_from 0 (flatten cs)) ≡ true
   -- the check of the text and of the joined rows' numbers passes
-  pub checked : checked_of (texts_of cs) (flat_chunks (rows_from 0 (flatten cs))) ≡ checked.Passed
+  pub checked : checked_of (texts_of cs) (flat_chunks (rows_from 0 (flatten cs))) ≡ (Ok tt)
 
 pub record WellFormed : Type 0 where
   -- where a literal is UTF-8, the text of each of its chunks is UTF-8

@@ -64,7 +64,6 @@ pub fn turnaround(
     requires { Fits place st (length out.old) × (place.base + end ≤ most_number) }
     ensures { ChunkDone place st end braces start out.old numbers.old result out.new numbers.new }
 {
-    let have = st.rows;
     if place.argument {
         let w = settle::settle(out, st.braces, st.from, st.len, st.white);
         return Making {
@@ -75,7 +74,7 @@ pub fn turnaround(
             from: w.at,
             len: w.at,
             white: w.white,
-            rows: have,
+            ..st
         };
     }
     let kind = default_chunk(st.braces);
@@ -83,16 +82,15 @@ pub fn turnaround(
     let to = narrow(place.text + st.len);
     let first = narrow(place.base + st.start);
     let last = narrow(place.base + end);
-    let more = rows::push(numbers, have, kind, from, to, first, last);
+    let more = rows::push(numbers, st.rows, kind, from, to, first, last);
     Making {
         at: start,
         braces,
         pushed: true,
         start,
         from: st.len,
-        len: st.len,
-        white: st.white,
         rows: more,
+        ..st
     }
 }
 
@@ -110,20 +108,15 @@ pub fn put_math(
     requires fits { Fits place st (length out.old) × (place.base + to ≤ most_number) }
     ensures { MathDone s.now from to place st out.old numbers.old result out.new numbers.new }
 {
-    let have = st.rows;
     if place.argument {
         let k = stack::push(out, st.len, 0x24);
         let l = stack::copy(s, from, to, out, k);
         let e = stack::push(out, l, 0x24);
         return Making {
-            at: st.at,
-            braces: st.braces,
             pushed: true,
-            start: st.start,
             from: e,
             len: e,
-            white: st.white,
-            rows: have,
+            ..st
         };
     }
     let l = stack::copy(s, from, to, out, st.len);
@@ -131,15 +124,12 @@ pub fn put_math(
     let ends = narrow(place.text + l);
     let first = narrow(place.base + from);
     let last = narrow(place.base + to);
-    let more = rows::push(numbers, have, Kind::Math, begins, ends, first, last);
+    let more = rows::push(numbers, st.rows, Kind::Math, begins, ends, first, last);
     Making {
-        at: st.at,
-        braces: st.braces,
         pushed: true,
-        start: st.start,
         from: l,
         len: l,
-        white: st.white,
         rows: more,
+        ..st
     }
 }

@@ -12,23 +12,16 @@ ghost use Rattle.literal.specs.Inner.{from, ReadyContent, in_argument, Fits, Las
 ghost use Rattle.literal.specs.Inner.{ReadTo, SaysBegun, ReadyLiteral, SaysParsed, GrowsParsed};
 ghost use Rattle.turn.specs.Turns.{CommandSpans};
 
-use crate::content::Made;
 use crate::making::{Making, Place};
 use crate::rows::Rows;
 use crate::{content, making, rows};
 use chunk::form::Kind;
 use command::meaning::Meaning;
+use command::tables::Tables;
 use row::fault::{Fault, Reason};
 use row::limits::{MOST_ARGUMENTS, MOST_LITERAL};
 use turn::turn as turns;
 use turn::turn::Text;
-
-// What a literal came to: the rows of the value so far, and the bytes of the literal's text.
-#[derive(Clone, Copy)]
-pub enum Parsed {
-    Chunks { rows: Rows, len: usize },
-    Refused(Fault),
-}
 
 // The text that a literal begins with: all of it, so that the literal is one Normal chunk of so many bytes; or the text up to a place of the
 // content, and how many bytes it has.
@@ -38,7 +31,7 @@ pub enum Begun {
     Part { at: usize, len: usize },
 }
 
-// The content of s from a state on, with `depth` arguments left to open.
+// The content of s from a state on, with `depth` arguments left to open. A turn says where the next one begins.
 #[cycle(argument_content)]
 fn content(
     s: &[u8],
@@ -48,10 +41,9 @@ fn content(
     place: Place,
     out: &mut [u8],
     numbers: &mut [u32],
-    names: &[u8],
-    marks: &[u32],
-) -> Made
-    requires { ReadyContent s.now place first out.old names.now marks.now }
+    tables: Tables,
+) -> Result<Making, Fault>
+    requires { ReadyContent s.now place first out.old }
     ensures says_content { SaysContent place (from (inside depth) verb s.now first) first out.old numbers.old result
         out.new numbers.new }
     ensures ahead_made { AheadMade (length s.now) 0 first result }
@@ -60,34 +52,17 @@ fn content(
     loop {
         let at = st.at;
         if turns::sign_at(s, verb, at) {
-            match content::sign(s, verb, st, place, out, numbers) {
-                Made::Done(t) => {
-                    st = t;
-                }
-                Made::Refused(f) => {
-                    return Made::Refused(f);
-                }
-            }
+            st = content::sign(s, verb, st, place, out, numbers)?;
         } else {
-            match turns::text_at(s, verb, at, out, st.len, names, marks) {
+            match turns::text_at(s, verb, at, out, st.len, tables)? {
                 Text::End => {
-                    return Made::Done(st);
+                    return Ok(st);
                 }
                 Text::Put { next, len } => {
                     st = content::further(st, next, len);
                 }
-                Text::Refused(f) => {
-                    return Made::Refused(f);
-                }
                 Text::Argument { m, end, from, to } => {
-                    match argument(s, m, end, from, to, depth, st, out, names, marks) {
-                        Made::Done(t) => {
-                            st = t;
-                        }
-                        Made::Refused(f) => {
-                            return Made::Refused(f);
-                        }
-                    }
+                    st = argument(s, m, end, from, to, depth, st, out, tables)?;
                 }
             }
         }
@@ -105,17 +80,16 @@ fn argument(
     depth: usize,
     st: Making,
     out: &mut [u8],
-    names: &[u8],
-    marks: &[u32],
-) -> Made
-    requires ready_content { ReadyContent s.now in_argument st out.old names.now marks.now }
+    tables: Tables,
+) -> Result<Making, Fault>
+    requires ready_content { ReadyContent s.now in_argument st out.old }
     requires m_value { (m ≡ meaning_of (part s.now (st.at + 1) end)) × CommandSpans (length s.now) st.at end from to }
     ensures says_argument { SaysArgument (inside depth (take to s.now) from) (part s.now (st.at + 1) end) from to st
         out.old result out.new }
     ensures ahead_made { AheadMade (length s.now) 1 st result }
 {
     if depth == 0 {
-        return Made::Refused(Fault {
+        return Err(Fault {
             reason: Reason::TooDeep,
             start: from - 1,
             end: from,
@@ -129,21 +103,8 @@ fn argument(
         base: 0,
         text: 0,
     };
-    let r = content(
-        &s[..to],
-        false,
-        depth - 1,
-        i,
-        place,
-        out,
-        &mut none,
-        names,
-        marks,
-    );
-    let Made::Done(t) = r else {
-        return r;
-    };
-    Made::Done(content::finish(s, m, end, to, lead, st, t, out, marks))
+    let t = content(&s[..to], false, depth - 1, i, place, out, &mut none, tables)?;
+    Ok(content::finish(s, m, end, to, lead, st, t, out, tables))
 }
 
 // A refusal inside a literal, whose places in the literal become places in the file.
@@ -227,16 +188,15 @@ pub fn rest(
     len: usize,
     out: &mut [u8],
     numbers: &mut [u32],
-    names: &[u8],
-    marks: &[u32],
-) -> Parsed
-    requires { ReadyLiteral s.now base before have out.old names.now marks.now × ReadTo verb s.now at len out.old }
+    tables: Tables,
+) -> Result<(Rows, usize), Fault>
+    requires { ReadyLiteral s.now base before have out.old × ReadTo verb s.now at len out.old }
     ensures says_parsed { SaysParsed (resolve_literal verb s.now base) before have numbers.old result out.new
         numbers.new }
     ensures grows_parsed { GrowsParsed have result }
 {
     if MOST_LITERAL < s.len() {
-        return Parsed::Refused(Fault {
+        return Err(Fault {
             reason: Reason::TooLong,
             start: base,
             end: base + s.len(),
@@ -257,22 +217,12 @@ pub fn rest(
         base,
         text: before,
     };
-    match content(
-        s,
-        verb,
-        MOST_ARGUMENTS,
-        first,
-        place,
-        out,
-        numbers,
-        names,
-        marks,
-    ) {
-        Made::Refused(f) => Parsed::Refused(up(f, base)),
-        Made::Done(t) => {
+    match content(s, verb, MOST_ARGUMENTS, first, place, out, numbers, tables) {
+        Err(f) => Err(up(f, base)),
+        Ok(t) => {
             let len = t.len;
             let rows = close(t, place, out, numbers);
-            Parsed::Chunks { rows, len }
+            Ok((rows, len))
         }
     }
 }
@@ -287,10 +237,9 @@ pub fn parse(
     have: Rows,
     out: &mut [u8],
     numbers: &mut [u32],
-    names: &[u8],
-    marks: &[u32],
-) -> Parsed
-    requires { ReadyLiteral s.now base before have out.old names.now marks.now }
+    tables: Tables,
+) -> Result<(Rows, usize), Fault>
+    requires { ReadyLiteral s.now base before have out.old }
     ensures says_parsed { SaysParsed (resolve_literal verb s.now base) before have numbers.old result out.new
         numbers.new }
     ensures grows_parsed { GrowsParsed have result }
@@ -298,10 +247,8 @@ pub fn parse(
     match begin(s, verb, out) {
         Begun::Whole(len) => {
             let rows = whole(base, base + s.len(), before, len, have, numbers);
-            Parsed::Chunks { rows, len }
+            Ok((rows, len))
         }
-        Begun::Part { at, len } => rest(
-            s, base, verb, before, have, at, len, out, numbers, names, marks,
-        ),
+        Begun::Part { at, len } => rest(s, base, verb, before, have, at, len, out, numbers, tables),
     }
 }

@@ -1,14 +1,7 @@
 -- The proof of specs/ShortChains.antt: `short-chains`.
 -- Assumes nothing.
-use Prim.Native.Nat.{ℕ, suc, ◌+◌, ◌-◌, ◌/◌, ◌<◌}
-use native.Mathlib.Omega.{arith}
-use mathlib.Core.Path.{◌≡◌, refl, sym, ◌∙◌}
-use mathlib.Core.Bool.{Bool, true, false, true≢false}
-use mathlib.Core.List.{List}
-use lib.ListN.{length, get_or, drop, length-drop}
-use lib.Seq.{get_or-drop}
-use lib.Dec.{ltb}
-use borrow.Author.Tests.{ltb-true, ltb-false}
+use Rattle.std.proofs.Common.{ℕ, suc, ◌+◌, ◌-◌, ◌/◌, ◌<◌, arith, ◌≡◌, refl, sym, ◌∙◌, Bool, true, false, true≢false, List, length, get_or, drop}
+use Rattle.std.proofs.Common.{length-drop, get_or-drop, ltb, ltb-true, ltb-false}
 use Rattle.row.specs.Row.{Row, row_of}
 use Rattle.row.specs.Numbers.{rows_of}
 use Rattle.lookup.specs.Names.{name_of, row_no}

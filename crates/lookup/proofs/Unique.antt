@@ -2,17 +2,13 @@
 -- source, so that a contract which said less would fail here.
 -- `build` may leave either form of the index, by which every search answers the same, and is not among them.
 -- Assumes nothing.
-use mathlib.Core.Path.{◌≡◌, sym, ◌∙◌}
-use mathlib.Core.Bool.{true}
-use lib.ListN.{length, get_or, take}
+use Rattle.std.proofs.Common.{◌≡◌, sym, ◌∙◌, true, length, get_or, take}
 use contract.Lifetimes.{Lfts}
 use Rattle.text.proofs.general.Outcomes.{Both, One}
 use Rattle.row.specs.Numbers.{rows_of}
 use Rattle.lookup.specs.Order.{definitions}
 use Rattle.lookup.proofs.hash.fnv1a.Kinds as fnv1a-kinds
 use Rattle.lookup.proofs.hash.fnv1a.Reads as fnv1a
-use Rattle.lookup.proofs.plain.number.Kinds as number-kinds
-use Rattle.lookup.proofs.plain.number.Reads as number
 use Rattle.lookup.proofs.plain.is_named.Kinds as is-named-kinds
 use Rattle.lookup.proofs.plain.is_named.Reads as is-named
 use Rattle.lookup.proofs.plain.find.Kinds as plain-find-kinds
@@ -29,9 +25,6 @@ use Rattle.lookup.proofs.order.search.Reads as search
 
 pub one-fnv1a : One 1 fnv1a-kinds.ps fnv1a-kinds.r fnv1a.Post
 one-fnv1a κs a x y s t p q = p ∙ sym q
-
-pub one_number : One 0 number-kinds.ps number-kinds.r number.Post
-one_number κs a x y s t p q = p ∙ sym q
 
 pub one-is-named : One 3 is-named-kinds.ps is-named-kinds.r is-named.Post
 one-is-named κs a x y s t p q = p ∙ sym q

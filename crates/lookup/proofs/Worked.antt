@@ -1,6 +1,6 @@
 -- The cases of specs/Worked.antt compute.
 -- Assumes nothing.
-use mathlib.Core.Path.{refl}
+use Rattle.std.proofs.Common.{refl}
 use Rattle.lookup.specs.Fnv.{hash_from}
 use Rattle.text.specs.SameBytes.{same_bytes}
 use Rattle.lookup.specs.Names.{is_named, later, last_named}

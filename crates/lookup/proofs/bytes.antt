@@ -1,6 +1,6 @@
--- Bytes: the hash, and texts compared.
+-- Bytes: the hash.
 
 -- the hash of bytes: one turn of its loop, and the end
 pub mod HashTurns
--- texts compared byte by byte: one turn of the loop
+-- texts compared: equality and order
 pub mod Compared

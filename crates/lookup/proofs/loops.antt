@@ -1,13 +1,9 @@
 -- Definitions in the order of their names: what the code that puts them in order does, a step at a time.
 
--- texts compared in the order of their bytes: one turn of the loop, and its ends
-pub mod CompareTurns
 -- rows compared by their names
 pub mod RowsCompared
 -- two lists merged: one turn of the loop, and its end; and the halves of one list
 pub mod MergeTurns
--- numbers copied: one turn of the loop, and its end
-pub mod CopyTurns
 -- a list sorted by its halves, in one place
 pub mod SortWays
 -- the numbers of the definitions gathered: one turn of the loop, and its end

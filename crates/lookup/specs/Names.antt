@@ -5,14 +5,12 @@
 --     last_named       the number, from 0, of the last such row
 --     row_no           row i
 -- Assumes nothing.
-use Rattle.std.specs.Prelude.{ℕ, suc, Bool, cond, ◌&&◌, List, [], ◌∷◌, get_or}
+use Rattle.std.specs.Prelude.{ℕ, suc, Bool, cond, ◌&&◌, List, [], ◌∷◌, get_or, Option, Some, None}
 use Rattle.text.specs.Scan.{part}
 use Rattle.text.specs.SameBytes.{same_bytes}
 use Rattle.row.specs.declared.form.Kind.TheVariants.{DefinitionName}
 use Rattle.row.specs.Row.{Row, row_of}
 use Rattle.row.specs.Rules.{is_kind}
-use Rattle.lookup.specs.declared.plain.Found.{Found}
-use Rattle.lookup.specs.declared.plain.Found.TheVariants as found
 
 abbrev pub name_of : List ℕ → Row → List ℕ
 name_of file r = part file r.start r.end
@@ -21,12 +19,12 @@ unfoldable pub is_named : List ℕ → List ℕ → Row → Bool
 is_named file name r = is_kind DefinitionName r.kind && same_bytes (name_of file r) name
 
 -- the answer for a row and those behind it: what those behind it answer, or else this row
-unfoldable pub later : Found → Bool → Found
-later (found.Row n) b = found.Row (suc n)
-later found.Nothing b = cond b (found.Row 0) found.Nothing
+unfoldable pub later : Option ℕ → Bool → Option ℕ
+later (Some n) b = Some (suc n)
+later None b = cond b (Some 0) None
 
-unfoldable pub last_named : List ℕ → List ℕ → List Row → Found
-last_named file name [] = found.Nothing
+unfoldable pub last_named : List ℕ → List ℕ → List Row → Option ℕ
+last_named file name [] = None
 last_named file name (r ∷ rs) = later (last_named file name rs) (is_named file name r)
 
 -- row i; past the last row, a row of zeros

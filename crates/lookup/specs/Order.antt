@@ -10,26 +10,26 @@
 --     left_first       the first number of two merged lists is that of the left one
 -- Assumes nothing.
 use Rattle.std.specs.Prelude.{ℕ, zero, suc, ◌+◌, ◌/◌, ◌≡◌, Bool, true, false, cond, List, [], ◌∷◌, length, get_or, take, drop, ltb, leb}
+use Rattle.std.specs.declared.cmp.Ordering.{Ordering}
+use Rattle.std.specs.declared.cmp.Ordering.TheVariants.{Less, Equal, Greater}
 use Rattle.row.specs.declared.form.Kind.TheVariants.{DefinitionName}
 use Rattle.row.specs.Row.{Row}
 use Rattle.row.specs.Rules.{is_kind}
 use Rattle.row.specs.Numbers.{rows_of}
-use Rattle.lookup.specs.declared.order.Order.{Order}
-use Rattle.lookup.specs.declared.order.Order.TheVariants as order
 use Rattle.lookup.specs.Names.{name_of, row_no}
 use Rattle.lookup.specs.Buckets.{rising}
 
-unfoldable pub order_of : List ℕ → List ℕ → Order
-order_of [] [] = order.Equal
-order_of [] (b ∷ t) = order.Less
-order_of (a ∷ s) [] = order.Greater
-order_of (a ∷ s) (b ∷ t) = cond (ltb a b) order.Less (cond (ltb b a) order.Greater (order_of s t))
+unfoldable pub order_of : List ℕ → List ℕ → Ordering
+order_of [] [] = Equal
+order_of [] (b ∷ t) = Less
+order_of (a ∷ s) [] = Greater
+order_of (a ∷ s) (b ∷ t) = cond (ltb a b) Less (cond (ltb b a) Greater (order_of s t))
 
 -- whether row i comes before row j: by the order of their names, and for equal names by the numbers
-abbrev pub comes_by : Order → ℕ → ℕ → Bool
-comes_by order.Less i j = true
-comes_by order.Equal i j = leb i j
-comes_by order.Greater i j = false
+abbrev pub comes_by : Ordering → ℕ → ℕ → Bool
+comes_by Less i j = true
+comes_by Equal i j = leb i j
+comes_by Greater i j = false
 
 unfoldable pub comes : List ℕ → List Row → ℕ → ℕ → Bool
 comes file rs i j = comes_by (order_of (name_of file (row_no rs i)) (name_of file (row_no rs j))) i j

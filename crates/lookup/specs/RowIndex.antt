@@ -9,23 +9,21 @@
 --     last_from       the number of the last definition of a name among the rows from row i on
 --     Follows, Links  what following a chain comes to, and making the chains, where at most `most` rows of a chain are looked at
 -- Assumes nothing.
-use Rattle.std.specs.Prelude.{ℕ, suc, ◌+◌, ◌/◌, ◌%◌, ◌≤◌, ◌≡◌, Bool, true, false, ◌&&◌, List, ◌⊎◌, length, drop, eqb, ltb, leb}
+use Rattle.std.specs.Prelude.{ℕ, suc, ◌+◌, ◌/◌, ◌%◌, ◌≤◌, ◌≡◌, Bool, true, false, ◌&&◌, List, ◌⊎◌, length, drop, eqb, ltb, leb, Option, Some, None}
+use Rattle.std.specs.Prelude.{Result, Ok, Err, is_ok}
 use Rattle.row.specs.declared.form.Kind.TheVariants.{DefinitionName}
 use Rattle.row.specs.Row.{Row}
 use Rattle.row.specs.Rules.{is_kind}
 use Rattle.row.specs.Numbers.{rows_of}
-use Rattle.lookup.specs.declared.plain.Found.{Found}
-use Rattle.lookup.specs.declared.plain.Found.TheVariants as found
-use Rattle.lookup.specs.declared.index.Followed.{Followed}
-use Rattle.lookup.specs.declared.index.Followed.TheVariants as followed
+use Rattle.lookup.specs.declared.index.TooLong.{TooLong}
 use Rattle.lookup.specs.Fnv.{hash_of}
 use Rattle.lookup.specs.Names.{name_of, row_no, last_named}
 use Rattle.lookup.specs.Buckets.{Linked}
 use Rattle.lookup.specs.Order.{Ordered}
 
-abbrev pub is_nothing : Found → Bool
-is_nothing (found.Row n) = false
-is_nothing found.Nothing = true
+abbrev pub is_nothing : Option ℕ → Bool
+is_nothing (Some n) = false
+is_nothing None = true
 
 unfoldable pub counts : List ℕ → List Row → ℕ → Bool
 counts file rs i = is_kind DefinitionName (row_no rs i).kind && is_nothing (last_named file (name_of file (row_no rs i)) (drop (suc i) rs))
@@ -55,20 +53,19 @@ pub record Built (file rows heads next heads' next' : List ℕ) : Type 0 where
 -- ---- inside
 
 -- a row that was counted from row i on, counted from the first row on
-abbrev pub counted : ℕ → Found → Found
-counted i (found.Row n) = found.Row (i + n)
-counted i found.Nothing = found.Nothing
+abbrev pub counted : ℕ → Option ℕ → Option ℕ
+counted i (Some n) = Some (i + n)
+counted i None = None
 
-abbrev pub last_from : List ℕ → List ℕ → List Row → ℕ → Found
+abbrev pub last_from : List ℕ → List ℕ → List Row → ℕ → Option ℕ
 last_from file name rs i = counted i (last_named file name (drop i rs))
 
 -- following a chain answers f; or the chain has more than `most` rows, which can only be where `most` is no more than the rows of the file
-abbrev pub Follows : Found → ℕ → ℕ → Followed → Type 0
-Follows f n most (followed.Row i) = found.Row i ≡ f
-Follows f n most followed.Nothing = found.Nothing ≡ f
-Follows f n most followed.TooLong = most ≤ n
+abbrev pub Follows : Option ℕ → ℕ → ℕ → Result (Option ℕ) TooLong → Type 0
+Follows f n most (Ok found) = found ≡ f
+Follows f n most (Err e) = most ≤ n
 
 -- the chains of the rows from row i on were made; or a chain has more than `most` rows
-pub record Links (file rows : List ℕ) (i most : ℕ) (done : Bool) (heads next : List ℕ) : Type 0 where
-  pub made : done ≡ true → IndexedFrom file rows i heads next
-  pub long : done ≡ false → most ≤ length rows / 4
+pub record Links (file rows : List ℕ) (i most : ℕ) (done : Result (Unit {0}) TooLong) (heads next : List ℕ) : Type 0 where
+  pub made : is_ok done ≡ true → IndexedFrom file rows i heads next
+  pub long : is_ok done ≡ false → most ≤ length rows / 4

@@ -2,7 +2,7 @@
 ghost use Rattle.std.specs.Prelude.{◌≡◌};
 ghost use Rattle.lookup.specs.Fnv.{times, hash_of};
 
-// The low 32 bits of the product. The language has no wrapping multiply of its own.
+// The low 32 bits of the product. Not the library's `wrapping_mul`, because a rule of the project asks for a helper of the program's own.
 fn wrapping_mul(a: u32, b: u32) -> u32
     ensures { result ≡ times a b }
 {
@@ -10,20 +10,12 @@ fn wrapping_mul(a: u32, b: u32) -> u32
     (product % 4294967296) as u32
 }
 
-fn wide(b: u8) -> u32
-    ensures { result ≡ b }
-{
-    b as u32
-}
-
 pub fn fnv1a(bytes: &[u8]) -> u32
     ensures { result ≡ hash_of bytes.now }
 {
-    let mut hash: u32 = 2166136261;
-    let mut i = 0;
-    while i < bytes.len() {
-        hash = wrapping_mul(wide(bytes[i]) ^ hash, 16777619);
-        i += 1;
+    let mut hash = 2166136261;
+    for b in bytes {
+        hash = wrapping_mul(u32::from(*b) ^ hash, 16777619);
     }
     hash
 }

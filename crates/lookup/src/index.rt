@@ -13,7 +13,6 @@ ghost use Rattle.lookup.specs.Fnv.{hash_of};
 ghost use Rattle.lookup.specs.Names.{last_named};
 ghost use Rattle.lookup.specs.RowIndex.{fits, Indexed, IndexedFrom, Built, Follows, Links, last_from};
 
-use crate::plain::Found;
 use crate::{hash, order, plain};
 use row::form::DEFINITION_NAME;
 use text::scanner;
@@ -29,11 +28,7 @@ fn has_room(n: usize, heads: usize, next: usize) -> bool
 pub fn clear(heads: &mut [u32])
     ensures { heads.new ≡ replicate (length heads.old) 0 }
 {
-    let mut i = 0;
-    while i < heads.len() {
-        heads[i] = 0;
-        i += 1;
-    }
+    heads.fill(0);
 }
 
 // Which of `size` buckets a name falls into.
@@ -41,51 +36,74 @@ fn bucket(name: &[u8], size: usize) -> usize
     requires { 0 < size }
     ensures { (result ≡ hash_of name.now % size) × (result < size) }
 {
-    plain::number(hash::fnv1a(name)) % size
+    hash::fnv1a(name) as usize % size
 }
 
-// What following a chain comes to: the row that was looked for; none; or the chain is too long to be followed.
+// The chain has more rows than are to be looked at.
 #[derive(Clone, Copy)]
-pub enum Followed {
-    Row(usize),
-    Nothing,
-    TooLong,
+struct TooLong;
+
+// The rows of a file with their index.
+#[derive(Clone, Copy)]
+struct Index<'a> {
+    file: &'a [u8],
+    rows: &'a [u32],
+    heads: &'a [u32],
+    next: &'a [u32],
 }
 
-// The last definition of the name among the rows from row `from` on, whose index this is, if at most `most` rows are looked at. b is the
-// name's bucket. A chain ends with 0; all other numbers in it are greater than `from`.
-fn follow(
-    file: &[u8],
-    rows: &[u32],
-    heads: &[u32],
-    next: &[u32],
-    from: usize,
-    b: usize,
-    name: &[u8],
-    most: usize,
-) -> Followed
-    requires indexed_from { IndexedFrom file.now rows.now from heads.now next.now }
-    requires b_value { (b ≡ hash_of name.now % length heads.now) × (b < length heads.now) }
-    ensures { Follows (last_from file.now name.now (rows_of rows.now) from) (length rows.now / 4) most result }
-{
-    let mut at = plain::number(heads[b]);
-    let mut k = 0;
-    while from < at {
-        if most <= k {
-            return Followed::TooLong;
+impl<'a> Index<'a> {
+    // The last definition of the name among the rows from row `from` on, whose index this is, if at most `most` rows are looked at. b is the
+    // name's bucket. A chain ends with 0; all other numbers in it are greater than `from`. With `for k in 0..most` the end of the chain would
+    // have to be asked for in two places.
+    fn follow(
+        self,
+        from: usize,
+        b: usize,
+        name: &[u8],
+        most: usize,
+    ) -> Result<Option<usize>, TooLong>
+        requires indexed_from { IndexedFrom self.file.now self.rows.now from self.heads.now self.next.now }
+        requires b_value { (b ≡ hash_of name.now % length self.heads.now) × (b < length self.heads.now) }
+        ensures { Follows (last_from self.entry.file.now name.now (rows_of self.entry.rows.now) from) (length self.entry.rows.now / 4) most result }
+    {
+        let mut at = self.heads[b] as usize;
+        let mut k = 0;
+        while from < at {
+            if most <= k {
+                return Err(TooLong);
+            }
+            let i = at - 1;
+            if plain::is_named(self.file, self.rows, i, name) {
+                return Ok(Some(i));
+            }
+            at = self.next[i] as usize;
+            k += 1;
         }
-        let i = at - 1;
-        if plain::is_named(file, rows, i, name) {
-            return Followed::Row(i);
-        }
-        at = plain::number(next[i]);
-        k += 1;
+        Ok(None)
     }
-    Followed::Nothing
+
+    // The last definition of a name. The answer does not depend on how much is lent: where the index has no room, the search is plain.
+    fn find_name(self, name: &[u8]) -> Option<usize>
+        requires { Indexed self.file.now self.rows.now self.heads.now self.next.now }
+        ensures { result ≡ last_named self.entry.file.now name.now (rows_of self.entry.rows.now) }
+    {
+        if !has_room(self.rows.len() / 4, self.heads.len(), self.next.len()) {
+            return plain::find(self.file, self.rows, name);
+        }
+        let n = self.rows.len() / 4;
+        let mark = self.heads[0] as usize;
+        if n < mark {
+            let m = mark - n - 1;
+            return order::search(self.file, self.rows, &self.next[..m], name);
+        }
+        let b = bucket(name, self.heads.len());
+        self.follow(0, b, name, n + 1).unwrap_or(None)
+    }
 }
 
-// Takes row i into the index of the rows after it, if it is a definition and no later row defines its name. False where its chain has more
-// than `most` rows: then there is no index.
+// Takes row i into the index of the rows after it, if it is a definition and no later row defines its name. Where its chain has more than
+// `most` rows there is no index. `Index` only lends the numbers to be read, and here they are written.
 fn link(
     file: &[u8],
     rows: &[u32],
@@ -93,48 +111,46 @@ fn link(
     heads: &mut [u32],
     next: &mut [u32],
     most: usize,
-) -> bool
+) -> Result<(), TooLong>
     requires { IndexedFrom file.now rows.now (i + 1) heads.old next.old }
     ensures { Links file.now rows.now i most result heads.new next.new }
 {
     let at = i * 4;
     if rows[at] != DEFINITION_NAME {
-        return true;
+        return Ok(());
     }
-    let name = scanner::from(
-        file,
-        plain::number(rows[at + 2]),
-        plain::number(rows[at + 3]),
-    );
+    let name = scanner::from(file, rows[at + 2] as usize, rows[at + 3] as usize);
     let b = bucket(name, heads.len());
-    match follow(file, rows, heads, next, i + 1, b, name, most) {
-        Followed::Nothing => {}
-        Followed::Row(_) => {
-            return true;
-        }
-        Followed::TooLong => {
-            return false;
-        }
+    let later = Index {
+        file,
+        rows,
+        heads,
+        next,
     }
-    next[i] = heads[b];
-    heads[b] = (i + 1) as u32;
-    true
+    .follow(i + 1, b, name, most)?;
+    if later.is_none() {
+        next[i] = heads[b];
+        heads[b] = (i + 1) as u32;
+    }
+    Ok(())
 }
 
-// Makes the chains, from the last row to the first. False where one has more than `most` rows.
-fn chain(file: &[u8], rows: &[u32], heads: &mut [u32], next: &mut [u32], most: usize) -> bool
+// Makes the chains, from the last row to the first, unless one has more than `most` rows.
+fn chain(
+    file: &[u8],
+    rows: &[u32],
+    heads: &mut [u32],
+    next: &mut [u32],
+    most: usize,
+) -> Result<(), TooLong>
     requires { fits (length rows.now / 4) (length heads.old) (length next.old) ≡ true }
     ensures { Links file.now rows.now 0 most result heads.new next.new }
 {
     clear(heads);
-    let mut i = rows.len() / 4;
-    while 0 < i {
-        i -= 1;
-        if !link(file, rows, i, heads, next, most) {
-            return false;
-        }
+    for i in (0..rows.len() / 4).rev() {
+        link(file, rows, i, heads, next, most)?;
     }
-    true
+    Ok(())
 }
 
 // The longest chain that is followed where the definitions can be put in order instead. With a bucket for every second row, names that are
@@ -151,43 +167,13 @@ pub fn build(file: &[u8], rows: &[u32], heads: &mut [u32], next: &mut [u32])
     if !has_room(n, heads.len(), next.len()) {
         return;
     }
-    if chain(file, rows, heads, next, LONGEST) {
+    if chain(file, rows, heads, next, LONGEST).is_ok() {
         return;
     }
     if order::fill(file, rows, heads, next) {
         return;
     }
-    chain(file, rows, heads, next, n + 1);
-}
-
-// The last definition of a name. The answer does not depend on how much is lent: where the index has no room, the search is plain.
-fn find_name(file: &[u8], rows: &[u32], heads: &[u32], next: &[u32], name: &[u8]) -> Found
-    requires { Indexed file.now rows.now heads.now next.now }
-    ensures { result ≡ last_named file.now name.now (rows_of rows.now) }
-{
-    if !has_room(rows.len() / 4, heads.len(), next.len()) {
-        return plain::find(file, rows, name);
-    }
-    let n = rows.len() / 4;
-    let mark = plain::number(heads[0]);
-    if n < mark {
-        let m = mark - n - 1;
-        return order::search(file, rows, &next[..m], name);
-    }
-    match follow(
-        file,
-        rows,
-        heads,
-        next,
-        0,
-        bucket(name, heads.len()),
-        name,
-        n + 1,
-    ) {
-        Followed::Row(i) => Found::Row(i),
-        Followed::Nothing => Found::Nothing,
-        Followed::TooLong => Found::Nothing,
-    }
+    let _ = chain(file, rows, heads, next, n + 1);
 }
 
 // The last definition of the name that stands in the file from `start` to `end`.
@@ -198,9 +184,15 @@ pub fn find(
     next: &[u32],
     start: usize,
     end: usize,
-) -> Found
+) -> Option<usize>
     requires { Indexed file.now rows.now heads.now next.now }
     ensures { result ≡ last_named file.now (part file.now start end) (rows_of rows.now) }
 {
-    find_name(file, rows, heads, next, scanner::from(file, start, end))
+    Index {
+        file,
+        rows,
+        heads,
+        next,
+    }
+    .find_name(scanner::from(file, start, end))
 }

@@ -1,26 +1,19 @@
 -- Which refusals packing and unpacking can answer, and their places: `refusals`.
 -- Assumes nothing.
-use Prim.Native.Nat.{ℕ, ◌*◌, ◌/◌, ◌≤◌, ◌<◌}
-use native.Mathlib.Omega.{arith}
-use mathlib.Core.Path.{◌≡◌, refl, sym, ap, ◌∙◌, subst}
-use mathlib.Core.Logic.{◌↔◌}
-use mathlib.Core.Bool.{Bool, true, false}
-use mathlib.Core.List.{List}
-use lib.ListN.{length, replicate, length-replicate}
-use lib.Dec.{leb}
-use borrow.Author.Tests.{leb-false, le-leb, lt-leb}
+use Rattle.std.proofs.Common.{Result, Ok, Err, ℕ, ◌*◌, ◌/◌, ◌≤◌, ◌<◌, arith, ◌≡◌, refl, sym, ap, ◌∙◌, subst, ◌↔◌, Bool, true, false, List, length, replicate, leb, leb-false}
+use Rattle.std.proofs.Common.{le-leb}
+use lib.ListN.{length-replicate}
+use borrow.Author.Tests.{lt-leb}
 use Rattle.row.specs.declared.fault.Reason.TheVariants.{NoRoom, BadRows}
 use Rattle.row.specs.declared.fault.Fault.{Fault}
-use Rattle.row.specs.declared.fault.Outcome.{Outcome}
-use Rattle.row.specs.declared.fault.Outcome.TheVariants.{Count, Refused}
 use Rattle.row.specs.Fault.{number_of, nowhere, Answered}
 use Rattle.pack.specs.Answer.{answer_of}
 use Rattle.pack.specs.Pack.{is_packable, bytes_for, packed_of, packed_into, Pack}
 use Rattle.pack.specs.Unpack.{is_unpackable, unpacked_of, unpacked_into, Unpack}
 use Rattle.pack.specs.Refusals.{PackFault, full, bad-rows, Refusals}
 
-fault-of : (x y : Bool) (n : ℕ) (f : Fault) → Refused f ≡ answer_of x y n → PackFault f
-fault-of true true n f e = let z : ◌≡◌ {A = ℕ} 0 1 = cc in absurd (omega arith)
+fault-of : (x y : Bool) (n : ℕ) (f : Fault) → Err f ≡ answer_of x y n → PackFault f
+fault-of true true n f e = cc
 fault-of true false n f e = let q : nowhere NoRoom ≡ f = cc in subst PackFault q full
 fault-of false y n f e = let q : nowhere BadRows ≡ f = cc in subst PackFault q bad-rows
 
@@ -28,30 +21,30 @@ fault-of false y n f e = let q : nowhere BadRows ≡ f = cc in subst PackFault q
 
 module _ (accepted : Bool) (n : ℕ) where
   -- where 16 is answered, the input was accepted and x is less than n
-  full-told : (x : ℕ) → answer_of accepted (leb n x) n ≡ Refused (nowhere NoRoom) → (accepted ≡ true) × (x < n)
+  full-told : (x : ℕ) → answer_of accepted (leb n x) n ≡ Err (nowhere NoRoom) → (accepted ≡ true) × (x < n)
   full-told x = by accepted (leb n x) refl
     where
-      by : (a b : Bool) → leb n x ≡ b → answer_of a b n ≡ Refused (nowhere NoRoom) → (a ≡ true) × (x < n)
-      by true true d e = let z : ◌≡◌ {A = ℕ} 0 1 = cc in absurd (omega arith)
+      by : (a b : Bool) → leb n x ≡ b → answer_of a b n ≡ Err (nowhere NoRoom) → (a ≡ true) × (x < n)
+      by true true d e = cc
       by true false d e = (refl, leb-false n x d)
       by false b d e =
           let q : nowhere BadRows ≡ nowhere NoRoom = cc in
           let n : ◌≡◌ {A = ℕ} 17 16 = ap (λ (f : Fault). number_of f.reason) q in absurd (omega arith)
 
   -- where the input is accepted and n or more is lent, the answer is n
-  enough : (x : ℕ) → accepted ≡ true → n ≤ x → Count n ≡ answer_of accepted (leb n x) n
+  enough : (x : ℕ) → accepted ≡ true → n ≤ x → Ok n ≡ answer_of accepted (leb n x) n
   enough x e h = rw (e, le-leb n x h)
 
   -- where m is the answer over enough room, 16 is the answer over less than m
-  too-little : (x y m : ℕ) → Count m ≡ answer_of accepted (leb n y) n → x < m → answer_of accepted (leb n x) n ≡ Refused (nowhere NoRoom)
+  too-little : (x y m : ℕ) → Ok m ≡ answer_of accepted (leb n y) n → x < m → answer_of accepted (leb n x) n ≡ Err (nowhere NoRoom)
   too-little x y m = by accepted (leb n y)
     where
-      by : (a b : Bool) → Count m ≡ answer_of a b n → x < m → answer_of a (leb n x) n ≡ Refused (nowhere NoRoom)
+      by : (a b : Bool) → Ok m ≡ answer_of a b n → x < m → answer_of a (leb n x) n ≡ Err (nowhere NoRoom)
       by true true e h = let z : m ≡ n = cc in rw (lt-leb n x (omega arith))
-      by true false e h = let z : ◌≡◌ {A = ℕ} 0 1 = cc in absurd (omega arith)
-      by false b e h = let z : ◌≡◌ {A = ℕ} 0 1 = cc in absurd (omega arith)
+      by true false e h = cc
+      by false b e h = cc
 
-packs-full : (l b b' : List ℕ) (r : Outcome) → Pack l b r b' → (r ≡ Refused (nowhere NoRoom)) ↔ ((n : ℕ) × Answered (Pack l) (Count n) × (length b < n))
+packs-full : (l b b' : List ℕ) (r : Result ℕ Fault) → Pack l b r b' → (r ≡ Err (nowhere NoRoom)) ↔ ((n : ℕ) × Answered (Pack l) (Ok n) × (length b < n))
 unfolding packed_of
 packs-full l b b' r p = (
   λ e.
@@ -64,7 +57,7 @@ packs-full l b b' r p = (
   λ h. p.answer ∙ too-little (is_packable l) (bytes_for (length l)) (length b) (length h.1.0) h.0 h.1.2.answer h.2,
 )
 
-unpacks-full : (s b b' : List ℕ) (r : Outcome) → Unpack s b r b' → (r ≡ Refused (nowhere NoRoom)) ↔ ((n : ℕ) × Answered (Unpack s) (Count n) × (length b / 4 < n))
+unpacks-full : (s b b' : List ℕ) (r : Result ℕ Fault) → Unpack s b r b' → (r ≡ Err (nowhere NoRoom)) ↔ ((n : ℕ) × Answered (Unpack s) (Ok n) × (length b / 4 < n))
 unfolding unpacked_of
 unpacks-full s b b' r p = (
   λ e.

@@ -1,17 +1,10 @@
 -- The proof of specs/RoundTrip.antt: `round_trip`.
 -- Assumes nothing.
-use Prim.Native.Nat.{ℕ, ◌*◌, ◌/◌, ◌%◌, ◌≤◌}
-use native.Mathlib.Omega.{arith}
-use mathlib.Core.Path.{◌≡◌, ap, ◌∙◌, subst}
-use mathlib.Core.Bool.{true}
-use mathlib.Core.List.{List, ◌++◌}
-use lib.ListN.{length, take, drop}
-use lib.Seq.{take_at}
+use Rattle.std.proofs.Common.{Result, Ok, ℕ, ◌*◌, ◌/◌, ◌%◌, ◌≤◌, arith, ◌≡◌, ap, ◌∙◌, subst, true, List, ◌++◌, length, take, drop, take_at}
+use Rattle.row.specs.declared.fault.Fault.{Fault}
 use Rattle.row.specs.Row.{flat}
 use Rattle.row.specs.Numbers.{rows_of}
 use Rattle.row.proofs.Laid.{laid}
-use Rattle.row.specs.declared.fault.Outcome.{Outcome}
-use Rattle.row.specs.declared.fault.Outcome.TheVariants.{Count}
 use Rattle.pack.specs.Digits.{Bytes}
 use Rattle.pack.specs.Seven.{packing, unpacking}
 use Rattle.pack.specs.Pack.{is_packable, bytes_for, Pack}
@@ -42,9 +35,9 @@ bytes s w p =
 
 -- ---- the round trips
 
-unpacks : (l b b' : List ℕ) (n : ℕ) → Pack l b (Count n) b'
-    → (c c' : List ℕ) (r : Outcome) → Unpack (take n b') c r c' → length l ≤ length c
-    → (r ≡ Count (length l / 4)) × (c' ≡ l ++ drop (length l) c)
+unpacks : (l b b' : List ℕ) (n : ℕ) → Pack l b (Ok n) b'
+    → (c c' : List ℕ) (r : Result ℕ Fault) → Unpack (take n b') c r c' → length l ≤ length c
+    → (r ≡ Ok (length l / 4)) × (c' ≡ l ++ drop (length l) c)
 unpacks l b b' n p c c' r u h =
     let t = pack-told l b b' n p in
     let k = packable l t.fits in
@@ -54,11 +47,11 @@ unpacks l b b' n p c c' r u h =
     let e₀ : length (packing (rows_of l)) / 7 ≡ length l / 4 = omega (arith, packing-length (rows_of l), laid.rows-length l) in
     let e₁ : length l / 4 * 4 ≡ length l = omega (arith, k.count) in
     let g = unpack-gives (packing (rows_of l)) c c' r d.0 (omega (arith, e₀)) (subst (λ (s : List ℕ). Unpack s c r c') x u) in
-    (g.0 ∙ ap Count e₀, g.1 ∙ rw (d.1, e₀, e₁))
+    (g.0 ∙ ap Ok e₀, g.1 ∙ rw (d.1, e₀, e₁))
 
-packs : (s c c' : List ℕ) (n : ℕ) → Bytes s → Unpack s c (Count n) c'
-    → (b b' : List ℕ) (r : Outcome) → Pack (take (n * 4) c') b r b' → length s ≤ length b
-    → (r ≡ Count (length s)) × (b' ≡ s ++ drop (length s) b)
+packs : (s c c' : List ℕ) (n : ℕ) → Bytes s → Unpack s c (Ok n) c'
+    → (b b' : List ℕ) (r : Result ℕ Fault) → Pack (take (n * 4) c') b r b' → length s ≤ length b
+    → (r ≡ Ok (length s)) × (b' ≡ s ++ drop (length s) b)
 packs s c c' n w u b b' r p h =
     let t = unpack-told s c c' n u in
     let k = unpackable s t.fits in
@@ -67,7 +60,7 @@ packs s c c' n w u b b' r p h =
     let x : take (n * 4) c' ≡ flat (unpacking s) = ap (take (n * 4)) t.left ∙ take_at (flat (unpacking s)) (drop (n * 4) c) (n * 4) m in
     let e : bytes_for (length (flat (unpacking s))) ≡ length s = omega (arith, laid.flat-length (unpacking s), unpacking-length s, k.count) in
     let g = pack-gives (flat (unpacking s)) b b' r d.0 (omega (arith, e)) (subst (λ (l : List ℕ). Pack l b r b') x p) in
-    (g.0 ∙ ap Count e, g.1 ∙ rw (d.1, e))
+    (g.0 ∙ ap Ok e, g.1 ∙ rw (d.1, e))
 
 pub round_trip : RoundTrip
 round_trip =

@@ -1,7 +1,7 @@
 -- Each public contract allows one outcome only: one answer, and one content of the lent output. This is said of the contract as the check
 -- reads it off the source, so that a contract which said less would fail here.
 -- Assumes nothing.
-use mathlib.Core.Path.{◌≡◌, sym, ◌∙◌}
+use Rattle.std.proofs.Common.{◌≡◌, sym, ◌∙◌}
 use Rattle.text.proofs.general.Outcomes.{Both}
 use Rattle.pack.proofs.packing.pack.Kinds as pack-kinds
 use Rattle.pack.proofs.packing.pack.Reads as pack

@@ -5,9 +5,9 @@ ghost use Rattle.row.specs.Numbers.{rows_of};
 ghost use Rattle.pack.specs.Seven.{pack_row, packing, InSeven};
 ghost use Rattle.pack.specs.Pack.{is_packable, Pack};
 
-use row::fault::{Fault, Outcome, Reason};
+use row::fault::{Fault, Reason};
 use row::limits::LAST_PLACE;
-use row::mask;
+use row::{fault, mask};
 
 // Whether the rows pass the row check, and each span is a span of a file.
 fn is_packable(rows: &[u32]) -> bool
@@ -17,16 +17,10 @@ fn is_packable(rows: &[u32]) -> bool
         return false;
     }
     let mut masks = mask::first();
-    let mut i = 0;
-    while i < rows.len() {
-        let kind = rows[i];
-        let detail = rows[i + 1];
-        let start = rows[i + 2];
-        let end = rows[i + 3];
+    let (all, _) = rows.as_chunks::<4>();
+    for &[kind, detail, start, end] in all {
         masks = mask::step(masks, kind, detail);
-        if (end <= LAST_PLACE) & (start <= end) {
-            i += 4;
-        } else {
+        if (LAST_PLACE < end) | (end < start) {
             return false;
         }
     }
@@ -38,14 +32,15 @@ fn put_packed(bytes: &mut [u8], p: usize, kind: u32, detail: u32, start: u32, en
     requires { (p + 7 ≤ length bytes.old) × InSeven (row_of kind detail start end) }
     ensures { bytes.new ≡ take p bytes.old ++ pack_row (row_of kind detail start end) ++ drop (p + 7) bytes.old }
 {
-    let size = end - start;
+    let from = start.to_be_bytes();
+    let size = (end - start).to_be_bytes();
     bytes[p] = (kind * 16 + detail) as u8;
-    bytes[p + 1] = (start / 65_536) as u8;
-    bytes[p + 2] = (start / 256 % 256) as u8;
-    bytes[p + 3] = (start % 256) as u8;
-    bytes[p + 4] = (size / 65_536) as u8;
-    bytes[p + 5] = (size / 256 % 256) as u8;
-    bytes[p + 6] = (size % 256) as u8;
+    bytes[p + 1] = from[1];
+    bytes[p + 2] = from[2];
+    bytes[p + 3] = from[3];
+    bytes[p + 4] = size[1];
+    bytes[p + 5] = size[2];
+    bytes[p + 6] = size[3];
 }
 
 // Writes all rows, from the first byte on.
@@ -63,24 +58,16 @@ fn put_all(rows: &[u32], bytes: &mut [u8])
 }
 
 // Packs rows: the number of bytes, which then stand in the lent bytes, or the refusal, which leaves them as they were.
-pub fn pack(rows: &[u32], bytes: &mut [u8]) -> Outcome
+pub fn pack(rows: &[u32], bytes: &mut [u8]) -> Result<usize, Fault>
     ensures { Pack rows.now bytes.old result bytes.new }
 {
     if is_packable(rows) {
         let n = rows.len() / 4;
         if bytes.len() / 7 < n {
-            return Outcome::Refused(Fault {
-                reason: Reason::NoRoom,
-                start: 0,
-                end: 0,
-            });
+            return Err(fault::nowhere(Reason::NoRoom));
         }
         put_all(rows, bytes);
-        return Outcome::Count(n * 7);
+        return Ok(n * 7);
     }
-    Outcome::Refused(Fault {
-        reason: Reason::BadRows,
-        start: 0,
-        end: 0,
-    })
+    Err(fault::nowhere(Reason::BadRows))
 }

@@ -5,19 +5,16 @@ ghost use Rattle.row.specs.Row.{flat};
 ghost use Rattle.pack.specs.Seven.{unpacking, three_at};
 ghost use Rattle.pack.specs.Unpack.{is_unpackable, Unpack};
 
-use row::fault::{Fault, Outcome, Reason};
+use row::fault::{Fault, Reason};
 use row::limits::LAST_PLACE;
-use row::{form, mask};
+use row::{fault, form, mask};
 
 // The number of the three bytes from p on, most significant first.
 fn three(bytes: &[u8], p: usize) -> u32
     requires { p + 3 ≤ length bytes.now }
     ensures { (result ≡ three_at bytes.now p) × (result ≤ most_bytes) }
 {
-    let a = bytes[p] as u32;
-    let b = bytes[p + 1] as u32;
-    let c = bytes[p + 2] as u32;
-    a * 65_536 + b * 256 + c
+    u32::from_be_bytes([0, bytes[p], bytes[p + 1], bytes[p + 2]])
 }
 
 // Whether the bytes are whole rows that pass the row check, with ends inside a file.
@@ -30,7 +27,7 @@ fn is_unpackable(bytes: &[u8]) -> bool
     let mut masks = mask::first();
     let mut p = 0;
     while p < bytes.len() {
-        let head = bytes[p] as u32;
+        let head = u32::from(bytes[p]);
         masks = mask::step(masks, head / 16, head % 16);
         let start = three(bytes, p + 1);
         let size = three(bytes, p + 4);
@@ -52,7 +49,7 @@ fn put_all(bytes: &[u8], rows: &mut [u32])
     let mut p = 0;
     let mut n = 0;
     while p < end {
-        let head = bytes[p] as u32;
+        let head = u32::from(bytes[p]);
         let start = three(bytes, p + 1);
         let size = three(bytes, p + 4);
         form::write_numbers(rows, n, head / 16, head % 16, start, start + size);
@@ -62,24 +59,16 @@ fn put_all(bytes: &[u8], rows: &mut [u32])
 }
 
 // Unpacks rows: their number, which then stand in the lent numbers, or the refusal, which leaves them as they were.
-pub fn unpack(bytes: &[u8], rows: &mut [u32]) -> Outcome
+pub fn unpack(bytes: &[u8], rows: &mut [u32]) -> Result<usize, Fault>
     ensures { Unpack bytes.now rows.old result rows.new }
 {
     if is_unpackable(bytes) {
         let n = bytes.len() / 7;
         if rows.len() / 4 < n {
-            return Outcome::Refused(Fault {
-                reason: Reason::NoRoom,
-                start: 0,
-                end: 0,
-            });
+            return Err(fault::nowhere(Reason::NoRoom));
         }
         put_all(bytes, rows);
-        return Outcome::Count(n);
+        return Ok(n);
     }
-    Outcome::Refused(Fault {
-        reason: Reason::BadRows,
-        start: 0,
-        end: 0,
-    })
+    Err(fault::nowhere(Reason::BadRows))
 }

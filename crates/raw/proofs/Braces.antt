@@ -1,17 +1,10 @@
 -- The proof of specs/Braces.antt: `braced-value`. It is proved of the loop of `in_braces` with d braces open already: the loop ends at the
 -- first closing brace that outnumbers these and those opened since, or refuses because there is none. What is seen at each place decides.
 -- Assumes nothing.
-use Prim.Native.Nat.{ℕ, zero, suc, ◌+◌, ◌≤◌, ◌<◌}
-use native.Mathlib.Omega.{arith}
-use mathlib.Core.Path.{◌≡◌, refl, sym, ap, ◌∙◌, subst}
-use mathlib.Core.Bool.{Bool, true, false}
-use mathlib.Core.List.{List, []}
-use lib.ListN.{length}
-use lib.Dec.{eqb}
-use borrow.Author.Tests.{eqb-true, eqb-false}
+use Rattle.std.proofs.Common.{Option, Some, None, ℕ, zero, suc, ◌+◌, ◌≤◌, ◌<◌, arith, ◌≡◌, refl, sym, ap, ◌∙◌, subst, Bool, true, false, List, [], length, eqb, eqb-true}
+use borrow.Author.Tests.{eqb-false}
+use Rattle.std.proofs.lemmas.Option.{some_pair_parts}
 use Rattle.text.specs.Scan.{see}
-use Rattle.text.specs.declared.scanner.Seen.{Seen}
-use Rattle.text.specs.declared.scanner.Seen.TheVariants.{End, Char}
 use Rattle.text.proofs.Seeing.{seeing}
 use Rattle.row.specs.declared.fault.Fault.{Fault}
 use Rattle.row.specs.declared.fault.Reason.TheVariants.{UnexpectedEof}
@@ -29,20 +22,20 @@ record OutBy (d : ℕ) (s : List ℕ) (p q : ℕ) : Type 0 where
   closed : ℕ
   next : ℕ
   counted : Braces s p q opened closed
-  brace : see s q ≡ Char 0x7D next
+  brace : see s q ≡ Some (0x7D, next)
   outnumbers : d + opened ≤ closed
 
 -- ---- what is seen at a place decides
 
 -- what is seen at a place is one thing: not two characters, and not a character and the end
-apart : {A : Type 0} {x : Seen} {a b k n : ℕ} → x ≡ Char a k → x ≡ Char b n → (a ≡ b → ⊥) → A
-apart {a = a} {b} {k} {n} e f h = let z : Char a k ≡ Char b n = sym e ∙ f in absurd (h cc)
+apart : {A : Type 0} {x : Option (ℕ × ℕ)} {a b k n : ℕ} → x ≡ Some (a, k) → x ≡ Some (b, n) → (a ≡ b → ⊥) → A
+apart {a = a} {b} {k} {n} e f h = absurd (h (some_pair_parts a b k n (sym e ∙ f)).0)
 
-ended : {A : Type 0} {x : Seen} {b n : ℕ} → x ≡ End → x ≡ Char b n → A
-ended {b = b} {n} e f = let z : End ≡ Char b n = sym e ∙ f in let y : ◌≡◌ {A = ℕ} 0 1 = cc in absurd (omega arith)
+ended : {A : Type 0} {x : Option (ℕ × ℕ)} {b n : ℕ} → x ≡ None → x ≡ Some (b, n) → A
+ended e f = let z = sym e ∙ f in cc
 
-same_place : {x : Seen} {a b k n : ℕ} → x ≡ Char a k → x ≡ Char b n → n ≡ k
-same_place {a = a} {b} {k} {n} e f = let z : Char a k ≡ Char b n = sym e ∙ f in cc
+same_place : {x : Option (ℕ × ℕ)} {a b k n : ℕ} → x ≡ Some (a, k) → x ≡ Some (b, n) → n ≡ k
+same_place {a = a} {b} {k} {n} e f = (some_pair_parts b a n k (sym f ∙ e)).1
 
 -- braces are counted from a place to one that is not before it
 forward : {s : List ℕ} {p q o c : ℕ} → Braces s p q o c → p ≤ q
@@ -57,10 +50,10 @@ forward {s} {p} (other {n = n} {x = x} e u v w h) = let i = seeing.see-ahead s p
 
 module _ {s : List ℕ} {p : ℕ} where
   -- at the end of the text there is no such brace
-  no_end : {q d : ℕ} → see s p ≡ End → OutBy d s p q → ⊥
+  no_end : {q d : ℕ} → see s p ≡ None → OutBy d s p q → ⊥
   no_end {q} z x = by q x.counted x.brace
     where
-      by : (q : ℕ) {o c n : ℕ} → Braces s p q o c → see s q ≡ Char 0x7D n → ⊥
+      by : (q : ℕ) {o c n : ℕ} → Braces s p q o c → see s q ≡ Some (0x7D, n) → ⊥
       by q none b = ended z b
       by q (pair e f h) b = ended z e
       by q (opens e h) b = ended z e
@@ -68,20 +61,20 @@ module _ {s : List ℕ} {p : ℕ} where
       by q (other e u v w h) b = ended z e
 
   -- behind a backslash at the end of the text there is no such brace
-  no-pair : {q d b : ℕ} → see s p ≡ Char 0x5C b → see s b ≡ End → OutBy d s p q → ⊥
+  no-pair : {q d b : ℕ} → see s p ≡ Some (0x5C, b) → see s b ≡ None → OutBy d s p q → ⊥
   no-pair {q} {b = b} z y x = by q x.counted x.brace
     where
-      by : (q : ℕ) {o c n : ℕ} → Braces s p q o c → see s q ≡ Char 0x7D n → ⊥
+      by : (q : ℕ) {o c n : ℕ} → Braces s p q o c → see s q ≡ Some (0x7D, n) → ⊥
       by q none k = apart z k (λ i. omega arith)
       by q (pair {b = m} e f h) k = let i : m ≡ b = same_place z e in ended (rw i y) f
       by q (opens e h) k = apart z e (λ i. omega arith)
       by q (closes e h) k = apart z e (λ i. omega arith)
       by q (other e u v w h) k = apart z e (λ i. u (sym i))
 
-  after-pair : {q d b x m : ℕ} → see s p ≡ Char 0x5C b → see s b ≡ Char x m → OutBy d s p q → OutBy d s m q
+  after-pair : {q d b x m : ℕ} → see s p ≡ Some (0x5C, b) → see s b ≡ Some (x, m) → OutBy d s p q → OutBy d s m q
   after-pair {q} {d} {b} {x} {m} z y o = by q o.counted o.brace o.outnumbers
     where
-      by : (q : ℕ) {o c n : ℕ} → Braces s p q o c → see s q ≡ Char 0x7D n → d + o ≤ c → OutBy d s m q
+      by : (q : ℕ) {o c n : ℕ} → Braces s p q o c → see s q ≡ Some (0x7D, n) → d + o ≤ c → OutBy d s m q
       by q none k l = apart z k (λ i. omega arith)
       by q (pair {b = b'} {n = n} e f h) k l =
           let i : b' ≡ b = same_place z e in
@@ -91,10 +84,10 @@ module _ {s : List ℕ} {p : ℕ} where
       by q (closes e h) k l = apart z e (λ i. omega arith)
       by q (other e u v w h) k l = apart z e (λ i. u (sym i))
 
-  after_open : {q d k : ℕ} → see s p ≡ Char 0x7B k → OutBy d s p q → OutBy (suc d) s k q
+  after_open : {q d k : ℕ} → see s p ≡ Some (0x7B, k) → OutBy d s p q → OutBy (suc d) s k q
   after_open {q} {d} {k} z o = by q o.counted o.brace o.outnumbers
     where
-      by : (q : ℕ) {o c n : ℕ} → Braces s p q o c → see s q ≡ Char 0x7D n → d + o ≤ c → OutBy (suc d) s k q
+      by : (q : ℕ) {o c n : ℕ} → Braces s p q o c → see s q ≡ Some (0x7D, n) → d + o ≤ c → OutBy (suc d) s k q
       by q none y l = apart z y (λ i. omega arith)
       by q (pair e f h) y l = apart z e (λ i. omega arith)
       by q (opens {n = n} e h) y l =
@@ -103,10 +96,10 @@ module _ {s : List ℕ} {p : ℕ} where
       by q (closes e h) y l = apart z e (λ i. omega arith)
       by q (other e u v w h) y l = apart z e (λ i. v (sym i))
 
-  after-close : {q d k : ℕ} → see s p ≡ Char 0x7D k → OutBy (suc d) s p q → OutBy d s k q
+  after-close : {q d k : ℕ} → see s p ≡ Some (0x7D, k) → OutBy (suc d) s p q → OutBy d s k q
   after-close {q} {d} {k} z o = by q o.counted o.brace o.outnumbers
     where
-      by : (q : ℕ) {o c n : ℕ} → Braces s p q o c → see s q ≡ Char 0x7D n → suc d + o ≤ c → OutBy d s k q
+      by : (q : ℕ) {o c n : ℕ} → Braces s p q o c → see s q ≡ Some (0x7D, n) → suc d + o ≤ c → OutBy d s k q
       by q none y l = absurd (omega arith)
       by q (pair e f h) y l = apart z e (λ i. omega arith)
       by q (opens e h) y l = apart z e (λ i. omega arith)
@@ -115,10 +108,10 @@ module _ {s : List ℕ} {p : ℕ} where
           record { opened = _; closed = _; next = _; counted = rw j at h; brace = y; outnumbers = omega arith }
       by q (other e u v w h) y l = apart z e (λ i. w (sym i))
 
-  after-other : {q d a k : ℕ} → see s p ≡ Char a k → (a ≡ 0x5C → ⊥) → (a ≡ 0x7B → ⊥) → (a ≡ 0x7D → ⊥) → OutBy d s p q → OutBy d s k q
+  after-other : {q d a k : ℕ} → see s p ≡ Some (a, k) → (a ≡ 0x5C → ⊥) → (a ≡ 0x7B → ⊥) → (a ≡ 0x7D → ⊥) → OutBy d s p q → OutBy d s k q
   after-other {q} {d} {a} {k} z f g h o = by q o.counted o.brace o.outnumbers
     where
-      by : (q : ℕ) {o c n : ℕ} → Braces s p q o c → see s q ≡ Char 0x7D n → d + o ≤ c → OutBy d s k q
+      by : (q : ℕ) {o c n : ℕ} → Braces s p q o c → see s q ≡ Some (0x7D, n) → d + o ≤ c → OutBy d s k q
       by q none y l = apart z y h
       by q (pair e i j) y l = apart z e f
       by q (opens e i) y l = apart z e g
@@ -152,7 +145,7 @@ module _ (s : List ℕ) where
   on-turn d e p k h = by_turn d p h ∙ more-none (rest e k)
 
   -- at the end of the text
-  at-end : (d p : ℕ) → see s p ≡ End → Answers d s p (rest d p)
+  at-end : (d p : ℕ) → see s p ≡ None → Answers d s p (rest d p)
   at-end d p z = subst (Answers d s p) (sym (by_turn d p (braces-cut-off d s p z))) (refl, λ q y. no_end z y)
 
   module _ (p : ℕ) (go : (e k : ℕ) → p < k → Answers e s k (rest e k)) where
@@ -161,20 +154,20 @@ module _ (s : List ℕ) where
         ((q : ℕ) → OutBy e s k q → OutBy d s p q) → ((q : ℕ) → OutBy d s p q → OutBy e s k q) → Answers d s p (rest d p)
     by-rest d e k l h f g = subst (Answers d s p) (sym (on-turn d e p k h)) (carry d e s p k (rest e k) f g (go e k l))
 
-    at-backslash : (d b : ℕ) → see s p ≡ Char 0x5C b → Answers d s p (rest d p)
+    at-backslash : (d b : ℕ) → see s p ≡ Some (0x5C, b) → Answers d s p (rest d p)
     at-backslash d b z = by (see s b) refl
       where
-        by : (x : Seen) → see s b ≡ x → Answers d s p (rest d p)
-        by End y =
+        by : (x : Option (ℕ × ℕ)) → see s b ≡ x → Answers d s p (rest d p)
+        by None y =
             by-rest d d b (seeing.see-ahead s p 0x5C b z).0 (slash-on d s p b z ∙ rw y) (λ q x. absurd (no_end y x)) (λ q x. absurd (no-pair z y x))
-        by (Char x m) y =
+        by (Some (x, m)) y =
             let i = seeing.see-ahead s p 0x5C b z in
             let j = seeing.see-ahead s b x m y in
             by-rest d d m (omega arith) (slash-on d s p b z ∙ rw y)
             (λ q o. record { opened = _; closed = _; next = _; counted = pair z y o.counted; brace = o.brace; outnumbers = o.outnumbers })
             (λ q. after-pair z y)
 
-    at-closing : (d k : ℕ) → see s p ≡ Char 0x7D k → Answers d s p (rest d p)
+    at-closing : (d k : ℕ) → see s p ≡ Some (0x7D, k) → Answers d s p (rest d p)
     at-closing zero k z =
         subst (Answers zero s p) (sym (by_turn zero p (close-stop zero s p k z refl)))
         (refl, record { opened = _; closed = _; next = k; counted = none; brace = z; outnumbers = omega arith }, λ r y. forward y.counted)
@@ -183,13 +176,13 @@ module _ (s : List ℕ) where
         (λ q o. record { opened = _; closed = _; next = _; counted = closes z o.counted; brace = o.brace; outnumbers = omega (arith, o.outnumbers) })
         (λ q. after-close z)
 
-    at-opening : (d k : ℕ) → see s p ≡ Char 0x7B k → Answers d s p (rest d p)
+    at-opening : (d k : ℕ) → see s p ≡ Some (0x7B, k) → Answers d s p (rest d p)
     at-opening d k z =
         by-rest d (suc d) k (seeing.see-ahead s p 0x7B k z).0 (open-on d s p k z ∙ ap (again k []) (omega arith))
         (λ q o. record { opened = _; closed = _; next = _; counted = opens z o.counted; brace = o.brace; outnumbers = omega (arith, o.outnumbers) })
         (λ q. after_open z)
 
-    at_other : (d a k : ℕ) → see s p ≡ Char a k → eqb a 0x5C ≡ false → eqb a 0x7B ≡ false → eqb a 0x7D ≡ false → Answers d s p (rest d p)
+    at_other : (d a k : ℕ) → see s p ≡ Some (a, k) → eqb a 0x5C ≡ false → eqb a 0x7B ≡ false → eqb a 0x7D ≡ false → Answers d s p (rest d p)
     at_other d a k z f g h =
         let u = eqb-false a 0x5C f in
         let v = eqb-false a 0x7B g in
@@ -198,7 +191,7 @@ module _ (s : List ℕ) where
         (λ q o. record { opened = _; closed = _; next = _; counted = other z u v w o.counted; brace = o.brace; outnumbers = o.outnumbers })
         (λ q. after-other z u v w)
 
-    at-char : (d a k : ℕ) → see s p ≡ Char a k → Answers d s p (rest d p)
+    at-char : (d a k : ℕ) → see s p ≡ Some (a, k) → Answers d s p (rest d p)
     at-char d a k z = by (eqb a 0x5C) (eqb a 0x7B) (eqb a 0x7D) refl refl refl
       where
         by : (x y w : Bool) → eqb a 0x5C ≡ x → eqb a 0x7B ≡ y → eqb a 0x7D ≡ w → Answers d s p (rest d p)
@@ -210,9 +203,9 @@ module _ (s : List ℕ) where
     at_place : (d : ℕ) → Answers d s p (rest d p)
     at_place d = by (see s p) refl
       where
-        by : (x : Seen) → see s p ≡ x → Answers d s p (rest d p)
-        by End z = at-end d p z
-        by (Char a k) z = at-char d a k z
+        by : (x : Option (ℕ × ℕ)) → see s p ≡ x → Answers d s p (rest d p)
+        by None z = at-end d p z
+        by (Some (a, k)) z = at-char d a k z
 
   answers : (n d p : ℕ) → length s ≤ p + n → Answers d s p (rest d p)
   answers zero d p h = at-end d p (seeing.see-end s p (omega arith))

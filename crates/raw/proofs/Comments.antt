@@ -1,18 +1,11 @@
 -- The proof of specs/Comments.antt: `comments`.
 -- Assumes nothing.
-use Prim.Native.Nat.{ℕ, zero, suc, ◌+◌, ◌≤◌, ◌<◌}
-use native.Mathlib.Omega.{arith}
-use mathlib.Core.Path.{◌≡◌, refl, sym, ap, ◌∙◌, subst}
-use mathlib.Core.Bool.{Bool, true, false}
-use mathlib.Core.List.{List, []}
-use lib.ListN.{length}
-use lib.Dec.{eqb}
-use borrow.Author.Tests.{eqb-true, eqb-false, ne_eqb}
+use Rattle.std.proofs.Common.{Option, Some, None, ℕ, zero, suc, ◌+◌, ◌≤◌, ◌<◌, arith, ◌≡◌, refl, sym, ap, ◌∙◌, subst, Bool, true, false, List, [], length, eqb, eqb-true}
+use Rattle.std.proofs.Common.{ne_eqb}
+use borrow.Author.Tests.{eqb-false}
 use Rattle.text.specs.Class.{is_whitespace, is_id_start, is_id_continue, holds_of}
 use Rattle.text.specs.Scan.{see, fails}
 use Rattle.text.specs.declared.class.Test.TheVariants as test
-use Rattle.text.specs.declared.scanner.Seen.{Seen}
-use Rattle.text.specs.declared.scanner.Seen.TheVariants.{End, Char}
 use Rattle.text.proofs.Seeing.{seeing}
 use Rattle.row.specs.declared.form.Kind.{Kind}
 use Rattle.row.specs.declared.fault.Reason.TheVariants.{ExpectedComma, ExpectedIdentifier}
@@ -33,13 +26,13 @@ module _ (t : ℕ → Bool) (s : List ℕ) where
   by_turn : (p : ℕ) {o : Out} → scan_turn t 0 s p ≡ o → scanned p ≡ after o (λ a q. many (scan_turn t) a s q)
   by_turn p h = many-turn (scan-turn-kept t) 0 s p ∙ ap (λ (o : Out). after o (λ a q. many (scan_turn t) a s q)) h
 
-  scan-end : (p : ℕ) → see s p ≡ End → scanned p ≡ ok p []
+  scan-end : (p : ℕ) → see s p ≡ None → scanned p ≡ ok p []
   scan-end p z = by_turn p {o = ok p []} (rw z)
 
-  scan-stop : (p c n : ℕ) → see s p ≡ Char c n → t c ≡ false → scanned p ≡ ok p []
+  scan-stop : (p c n : ℕ) → see s p ≡ Some (c, n) → t c ≡ false → scanned p ≡ ok p []
   scan-stop p c n z e = by_turn p {o = ok p []} (rw (z, e))
 
-  scan-on : (p c n : ℕ) → see s p ≡ Char c n → t c ≡ true → scanned p ≡ scanned n
+  scan-on : (p c n : ℕ) → see s p ≡ Some (c, n) → t c ≡ true → scanned p ≡ scanned n
   scan-on p c n z e = by_turn p {o = again n [] 0} (rw (z, e)) ∙ more-none (scanned n)
 
 -- ---- `@comment`
@@ -69,15 +62,15 @@ module _ (s : List ℕ) where
   ends-here : (p : ℕ) → ((n : ℕ) → p < n → EndsClosed n (scanned no-brace s n)) → EndsClosed p (scanned no-brace s p)
   ends-here p go = by (see s p) refl
     where
-      by-test : (c n : ℕ) (b : Bool) → see s p ≡ Char c n → eqb c 0x7D ≡ b → EndsClosed p (scanned no-brace s p)
+      by-test : (c n : ℕ) (b : Bool) → see s p ≡ Some (c, n) → eqb c 0x7D ≡ b → EndsClosed p (scanned no-brace s p)
       by-test c n true z e = rw (scan-stop no-brace s p c n z (brace-fails c e)) (none, brace (rw (eqb-true c 0x7D e) at z))
       by-test c n false z e =
           rw (scan-on no-brace s p c n z (other-passes c e))
           (ends_on p n (scanned no-brace s n) (λ q u. other z (eqb-false c 0x7D e) u) (go n (seeing.see-ahead s p c n z).0))
 
-      by : (x : Seen) → see s p ≡ x → EndsClosed p (scanned no-brace s p)
-      by End z = rw (scan-end no-brace s p z) (none, end z)
-      by (Char c n) z = by-test c n (eqb c 0x7D) z refl
+      by : (x : Option (ℕ × ℕ)) → see s p ≡ x → EndsClosed p (scanned no-brace s p)
+      by None z = rw (scan-end no-brace s p z) (none, end z)
+      by (Some (c, n)) z = by-test c n (eqb c 0x7D) z refl
 
   ends : (n p : ℕ) → length s ≤ p + n → EndsClosed p (scanned no-brace s p)
   ends zero p h = let z = seeing.see-end s p (omega arith) in rw (scan-end no-brace s p z) (none, end z)
@@ -97,13 +90,13 @@ module _ (s : List ℕ) (p q : ℕ) (b : Begins s p q) where
   second-value = then-on _ b.blank ∙ rw b.percent
 
   -- the text has not ended
-  not-ended : see s p ≡ End → ⊥
+  not-ended : see s p ≡ None → ⊥
   unfolding white
   not-ended z =
       let w : ok p [] ≡ ok q [] = sym (scan-end is_whitespace s p z) ∙ b.blank in
       let i : p ≡ q = cc in
-      let y : End ≡ Char 0x25 b.next = sym z ∙ ap (see s) i ∙ b.percent in
-      let k : ◌≡◌ {A = ℕ} 0 1 = cc in absurd (omega arith)
+      let y = sym z ∙ ap (see s) i ∙ b.percent in
+      cc
 
   -- no name begins with a percent sign
   no_start : is_id_start 0x25 ≡ false
@@ -118,9 +111,9 @@ module _ (s : List ℕ) (p q : ℕ) (b : Begins s p q) where
   unfolding fields_turn
   no-turn k = by (see s p) refl
     where
-      by : (x : Seen) → see s p ≡ x → fields_turn k 0 s p ≡ bad (fault_at ExpectedIdentifier q)
-      by End z = absurd (not-ended z)
-      by (Char c n) z = rw z (then-on _ b.blank ∙ rw (b.percent, no_field k))
+      by : (x : Option (ℕ × ℕ)) → see s p ≡ x → fields_turn k 0 s p ≡ bad (fault_at ExpectedIdentifier q)
+      by None z = absurd (not-ended z)
+      by (Some (c, n)) z = rw z (then-on _ b.blank ∙ rw (b.percent, no_field k))
 
   second-comma : (k : Kind) → fields k s p ≡ bad (fault_at ExpectedIdentifier q)
   unfolding fields many loop

@@ -1,20 +1,13 @@
 -- Which refusals strict reading can answer, and their places: `refusals`. When a call answers 16: `own-or-full` and `sixteen`.
 -- Assumes nothing.
-use Prim.Native.Nat.{ℕ, ◌*◌, ◌/◌, ◌<◌}
-use native.Mathlib.Omega.{arith}
-use mathlib.Core.Path.{◌≡◌, refl, sym, ap, ◌∙◌, subst}
-use mathlib.Core.Logic.{inl, inr, ⊎_elim}
-use mathlib.Core.Bool.{Bool, true, false, cond}
-use mathlib.Core.List.{List}
-use lib.ListN.{length, replicate, length-replicate}
-use lib.Dec.{leb}
-use borrow.Author.Tests.{leb-false, le-leb, lt-leb}
+use Rattle.std.proofs.Common.{Result, Ok, Err, ℕ, ◌*◌, ◌/◌, ◌<◌, arith, ◌≡◌, refl, sym, ap, ◌∙◌, subst, inl, inr, ⊎_elim, Bool, true, false, cond, List, length, replicate, leb}
+use Rattle.std.proofs.Common.{leb-false, le-leb}
+use lib.ListN.{length-replicate}
+use borrow.Author.Tests.{lt-leb}
 use Rattle.row.specs.declared.fault.Reason.TheVariants.{TooLong, NotUtf8, NoRoom}
 use Rattle.row.specs.declared.fault.Fault.{Fault}
 use Rattle.row.specs.Row.{Row}
 use Rattle.row.specs.Fault.{number_of, fault_at, nowhere}
-use Rattle.raw.specs.declared.answer.Reading.{Reading}
-use Rattle.raw.specs.declared.answer.Reading.TheVariants as reading
 use Rattle.raw.specs.Reader.{Out, ok, again, bad}
 use Rattle.raw.specs.Grammar.{file}
 use Rattle.raw.specs.Read.{underlined, strict, reading_out, left_out, Read}
@@ -40,8 +33,8 @@ module _ (s : List ℕ) (f : Fault) where
       (λ o. file-fault)
 
 -- rows that do not fit are refused with 16
-rows-refused : (n : ℕ) (x : Bool) {f : Fault} → reading.Refused f ≡ cond x (reading.Rows n) (reading.Refused (nowhere NoRoom)) → nowhere NoRoom ≡ f
-rows-refused n true e = let z : ◌≡◌ {A = ℕ} 0 1 = cc in absurd (omega arith)
+rows-refused : (n : ℕ) (x : Bool) {f : Fault} → Err f ≡ cond x (Ok n) (Err (nowhere NoRoom)) → nowhere NoRoom ≡ f
+rows-refused n true e = cc
 rows-refused n false e = cc
 
 pub own-or-full : OwnOrFull
@@ -57,37 +50,37 @@ room n = replicate (n * 4) 0
 
 -- a reading that finds the rows rs: where too few numbers are lent the answer is 16, and where enough are it is their count
 module _ (rs : List Row) where
-  abbrev rows_or : ℕ → Reading
-  rows_or x = cond (leb (length rs) (x / 4)) (reading.Rows (length rs)) (reading.Refused (nowhere NoRoom))
+  abbrev rows_or : ℕ → Result ℕ Fault
+  rows_or x = cond (leb (length rs) (x / 4)) (Ok (length rs)) (Err (nowhere NoRoom))
 
-  rows-full : (x : ℕ) → rows_or x ≡ reading.Refused (nowhere NoRoom) → x / 4 < length rs
+  rows-full : (x : ℕ) → rows_or x ≡ Err (nowhere NoRoom) → x / 4 < length rs
   rows-full x = by (leb (length rs) (x / 4)) refl
     where
       by : (y : Bool) → leb (length rs) (x / 4) ≡ y →
-          cond y (reading.Rows (length rs)) (reading.Refused (nowhere NoRoom)) ≡ reading.Refused (nowhere NoRoom) → x / 4 < length rs
-      by true d e = let z : ◌≡◌ {A = ℕ} 0 1 = cc in absurd (omega arith)
+          cond y (Ok (length rs)) (Err (nowhere NoRoom)) ≡ Err (nowhere NoRoom) → x / 4 < length rs
+      by true d e = cc
       by false d e = leb-false (length rs) (x / 4) d
 
-  rows-enough : reading.Rows (length rs) ≡ rows_or (length (room (length rs)))
+  rows-enough : Ok (length rs) ≡ rows_or (length (room (length rs)))
   rows-enough =
       let l : length (room (length rs)) ≡ length rs * 4 = length-replicate (length rs * 4) 0 in
       rw (le-leb (length rs) (length (room (length rs)) / 4) (omega arith))
 
-  rows-too-little : (x y m : ℕ) → reading.Rows m ≡ rows_or y → x / 4 < m → rows_or x ≡ reading.Refused (nowhere NoRoom)
+  rows-too-little : (x y m : ℕ) → Ok m ≡ rows_or y → x / 4 < m → rows_or x ≡ Err (nowhere NoRoom)
   rows-too-little x y m = by (leb (length rs) (y / 4))
     where
-      by : (z : Bool) → reading.Rows m ≡ cond z (reading.Rows (length rs)) (reading.Refused (nowhere NoRoom)) → x / 4 < m →
-          rows_or x ≡ reading.Refused (nowhere NoRoom)
+      by : (z : Bool) → Ok m ≡ cond z (Ok (length rs)) (Err (nowhere NoRoom)) → x / 4 < m →
+          rows_or x ≡ Err (nowhere NoRoom)
       by true e h = let z : m ≡ length rs = cc in rw (lt-leb (length rs) (x / 4) (omega arith))
-      by false e h = let z : ◌≡◌ {A = ℕ} 0 1 = cc in absurd (omega arith)
+      by false e h = cc
 
-too-little : (o : Out) (x y m : ℕ) → reading.Rows m ≡ reading_out o y → x / 4 < m → reading_out o x ≡ reading.Refused (nowhere NoRoom)
+too-little : (o : Out) (x y m : ℕ) → Ok m ≡ reading_out o y → x / 4 < m → reading_out o x ≡ Err (nowhere NoRoom)
 too-little (ok q rs) x y m e h = rows-too-little rs x y m e h
 too-little (again q rs a) x y m e h = rows-too-little rs x y m e h
-too-little (bad f) x y m e h = let z : ◌≡◌ {A = ℕ} 0 1 = cc in absurd (omega arith)
+too-little (bad f) x y m e h = cc
 
-enough : (o : Out) → (o ≡ bad (nowhere NoRoom) → ⊥) → (x : ℕ) → reading_out o x ≡ reading.Refused (nowhere NoRoom) →
-    (n : ℕ) × (c : List ℕ) × (reading.Rows n ≡ reading_out o (length c)) × (x / 4 < n)
+enough : (o : Out) → (o ≡ bad (nowhere NoRoom) → ⊥) → (x : ℕ) → reading_out o x ≡ Err (nowhere NoRoom) →
+    (n : ℕ) × (c : List ℕ) × (Ok n ≡ reading_out o (length c)) × (x / 4 < n)
 enough (ok q rs) other x e = (length rs, room (length rs), rows-enough rs, rows-full rs x e)
 enough (again q rs a) other x e = (length rs, room (length rs), rows-enough rs, rows-full rs x e)
 enough (bad f) other x e = let z : f ≡ nowhere NoRoom = cc in absurd (other (ap bad z))
@@ -97,8 +90,8 @@ pub sixteen : Sixteen
 sixteen o other call told make b b' r p = (
   λ e.
       let t = enough o other (length b) (sym (told b b' r p) ∙ e) in
-      (t.0, (t.1, left_out o t.1, subst (λ (x : Reading). call t.1 x (left_out o t.1)) (sym t.2) (make t.1)), t.3),
-  λ h. told b b' r p ∙ too-little o (length b) (length h.1.0) h.0 (told h.1.0 h.1.1 (reading.Rows h.0) h.1.2) h.2,
+      (t.0, (t.1, left_out o t.1, subst (λ (x : Result ℕ Fault). call t.1 x (left_out o t.1)) (sym t.2) (make t.1)), t.3),
+  λ h. told b b' r p ∙ too-little o (length b) (length h.1.0) h.0 (told h.1.0 h.1.1 (Ok h.0) h.1.2) h.2,
 )
 
 -- a refusal with a number below 16 is not 16

@@ -2,21 +2,14 @@
 --     file-turn       a file is its first item and then a file
 --     file-ends       an accepted text is read to its end
 -- Assumes nothing.
-use Prim.Native.Nat.{ℕ, zero, suc, ◌≤◌, ◌<◌, max}
-use native.Mathlib.Omega.{arith}
-use mathlib.Core.Path.{◌≡◌, refl, sym, ap, ◌∙◌, subst}
-use mathlib.Core.Bool.{Bool, true, false, cond}
-use mathlib.Core.List.{List}
-use lib.ListN.{length}
-use lib.Dec.{leb}
+use Rattle.text.specs.declared.utf8.IllFormed.{IllFormed}
+use Rattle.std.proofs.Common.{Option, Some, None, Result, Ok, Err, ℕ, zero, suc, ◌≤◌, ◌<◌, max, arith, ◌≡◌, refl, sym, ap, ◌∙◌, subst, Bool, true, false, cond, List, length}
+use Rattle.std.proofs.Common.{leb}
+use Rattle.std.specs.Prelude.{⊤}
 use Rattle.text.specs.Class.{holds_of}
 use Rattle.text.specs.Utf8.{Octets, validity_of}
 use Rattle.text.specs.Scan.{see, Inside}
-use Rattle.text.specs.declared.scanner.Seen.{Seen}
-use Rattle.text.specs.declared.scanner.Seen.TheVariants.{End, Char}
 use Rattle.text.specs.declared.class.Test.TheVariants as test
-use Rattle.text.specs.declared.utf8.Validity.{Validity}
-use Rattle.text.specs.declared.utf8.Validity.TheVariants as validity
 use Rattle.text.proofs.Seeing.{seeing}
 use Rattle.text.proofs.Rfc3629.{rfc3629}
 use Rattle.text.proofs.Boundaries.{boundaries}
@@ -83,9 +76,9 @@ module _ (s : List ℕ) where
   turned-ends o = chain-ends o (turn 0 s) (λ q. tt)
 
   -- where no character is seen the text ends
-  none_left : (q : ℕ) (x : Seen) → Inside s q x → hits any x ≡ false → length s ≤ q
-  none_left q End h e = h
-  none_left q (Char c n) h e = let z : ◌≡◌ {A = ℕ} 0 1 = cc in absurd (omega arith)
+  none_left : (q : ℕ) (x : Option (ℕ × ℕ)) → Inside s q x → hits any x ≡ false → length s ≤ q
+  none_left q None h e = h
+  none_left q (Some (c, n)) h e = cc
 
   turn-ends : (a p : ℕ) → EndsAtEnd (file_turn a s p)
   unfolding file_turn
@@ -160,9 +153,9 @@ file-refuses s g o e =
 -- over its culprit
 module _ (s : List ℕ) (P : Out → Type 0) (long : P (bad (nowhere TooLong))) (ill : (n : ℕ) → n < length s → P (bad (fault_at NotUtf8 n)))
     (read : Octets s → P (underlined s (file s 0))) where
-  checked-by : (v : Validity) → validity_of s ≡ v → P (checked s v)
-  checked-by validity.Valid e = read ((rfc3629.accepts s).0 e)
-  checked-by (validity.IllFormed n) e = ill n ((rfc3629.refuses s n).0 e).inside
+  checked-by : (v : Result ⊤ IllFormed) → validity_of s ≡ v → P (checked s v)
+  checked-by (Ok tt) e = read ((rfc3629.accepts s).0 e)
+  checked-by (Err n) e = ill n.at ((rfc3629.refuses s n.at).0 e).inside
 
   pub strict-by : P (strict s)
   unfolding strict
@@ -175,7 +168,7 @@ module _ (s : List ℕ) (P : Out → Type 0) (long : P (bad (nowhere TooLong))) 
 accepts : (s : List ℕ) (q : ℕ) (rs : List Row) → strict s ≡ ok q rs → Accepted s q rs
 accepts s q rs =
     strict-by s (λ o. o ≡ ok q rs → Accepted s q rs)
-    (λ e. let z : ◌≡◌ {A = ℕ} 0 1 = cc in absurd (omega arith)) (λ n h e. let z : ◌≡◌ {A = ℕ} 0 1 = cc in absurd (omega arith))
+    (λ e. cc) (λ n h e. let z : ◌≡◌ {A = ℕ} 0 1 = cc in absurd (omega arith))
     (λ o e. file-accepts s q rs o (underlined-ok s (file s 0) e))
 
 -- a refusal with 1 or 2, before the grammar is asked

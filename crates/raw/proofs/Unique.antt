@@ -1,17 +1,13 @@
 -- Each public contract allows one outcome only. This is said of the contract as the check reads it off the source, so that a contract
 -- which said less would fail here.
 --     the same answer and the same rows                               `read`
---     the same answer                                                 the readers without rows: the tokens, `string`, and `refused`; `culprit`
+--     the same answer                                                 the readers without rows: the tokens and `string`; `culprit`
 --     the same answer, and the same rows unless it is a refusal       the readers with rows: `parse`, `entry`, `fields`, `abbr_field`
 -- After a refusal the readers with rows say nothing of the lent numbers, since `read` counts over no numbers first (specs/Says.antt).
 -- Assumes nothing.
-use Prim.Native.Nat.{ℕ}
-use mathlib.Core.Path.{◌≡◌, sym, ◌∙◌, subst}
-use mathlib.Core.List.{List}
+use Rattle.std.proofs.Common.{Result, Ok, Err, ℕ, ◌≡◌, sym, ◌∙◌, subst, List}
+use Rattle.row.specs.declared.fault.Fault.{Fault}
 use Rattle.text.proofs.general.Outcomes.{Both, One}
-use Rattle.raw.specs.declared.answer.Step.TheVariants as step
-use Rattle.raw.specs.declared.answer.Answer.{Answer}
-use Rattle.raw.specs.declared.answer.Answer.TheVariants as answer
 use Rattle.raw.specs.Reader.{ok, again, bad}
 use Rattle.raw.specs.Reader as reader
 use Rattle.raw.specs.Says.{answer_of, RowsLaid, Says}
@@ -47,8 +43,6 @@ use Rattle.raw.proofs.token.comment.Kinds as comment-kinds
 use Rattle.raw.proofs.token.comment.Reads as comment
 use Rattle.raw.proofs.token.key.Kinds as key-kinds
 use Rattle.raw.proofs.token.key.Reads as key
-use Rattle.raw.proofs.value.refused.Kinds as refused-kinds
-use Rattle.raw.proofs.value.refused.Reads as refused
 use Rattle.raw.proofs.token.name.Kinds as name-kinds
 use Rattle.raw.proofs.token.name.Reads as name
 
@@ -82,18 +76,11 @@ one-ident κs a x y s t p q = p.0 ∙ sym q.0
 pub one-string : One 1 string-kinds.ps string-kinds.r string.Post
 one-string κs a x y s t p q = p.0 ∙ sym q.0
 
--- equal steps have equal places
-same_place : {p q : ℕ} → step.At p ≡ step.At q → p ≡ q
-same_place e = cc
-
 pub one-comment : One 1 comment-kinds.ps comment-kinds.r comment.Post
-one-comment κs a x y s t p q = same_place (p.0 ∙ sym q.0)
+one-comment κs a x y s t p q = let e = p.0 ∙ sym q.0 in cc
 
 pub one_key : One 1 key-kinds.ps key-kinds.r key.Post
-one_key κs a x y s t p q = same_place (p.0 ∙ sym q.0)
-
-pub one-refused : One 0 refused-kinds.ps refused-kinds.r refused.Post
-one-refused κs a x y s t p q = p ∙ sym q
+one_key κs a x y s t p q = let e = p.0 ∙ sym q.0 in cc
 
 pub one_name : One 1 name-kinds.ps name-kinds.r name.Post
 one_name κs a x y s t p q = p.0 ∙ sym q.0
@@ -101,13 +88,13 @@ one_name κs a x y s t p q = p.0 ∙ sym q.0
 -- ---- the readers with rows
 
 -- the numbers that are left are the same, unless the answer is a refusal
-abbrev SameLeft : Answer → List ℕ → List ℕ → Type 0
-SameLeft (answer.Next q n) b c = b ≡ c
-SameLeft (answer.Refused f) b c = Unit {0}
+abbrev SameLeft : Result (ℕ × ℕ) Fault → List ℕ → List ℕ → Type 0
+SameLeft (Ok (q, n)) b c = b ≡ c
+SameLeft (Err f) b c = Unit {0}
 
-same_read : (o : reader.Out) {base n : ℕ} {b₀ b c : List ℕ} {x y : Answer} → Says base o n b₀ x b → Says base o n b₀ y c → (x ≡ y) × SameLeft x b c
+same_read : (o : reader.Out) {base n : ℕ} {b₀ b c : List ℕ} {x y : Result (ℕ × ℕ) Fault} → Says base o n b₀ x b → Says base o n b₀ y c → (x ≡ y) × SameLeft x b c
 same_read o {base} {n} {b₀} {b} {c} {x} {y} p q =
-    (p.told ∙ sym q.told, subst (λ (r : Answer). SameLeft r b c) (sym p.told) (by o p.rows q.rows))
+    (p.told ∙ sym q.told, subst (λ (r : Result (ℕ × ℕ) Fault). SameLeft r b c) (sym p.told) (by o p.rows q.rows))
   where
     by : (o : reader.Out) → RowsLaid base o n b₀ b → RowsLaid base o n b₀ c → SameLeft (answer_of o n) b c
     by (ok q rs) g h = g ∙ sym h

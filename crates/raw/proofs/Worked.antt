@@ -1,6 +1,6 @@
 -- The cases of specs/Worked.antt compute: `worked`.
 -- Assumes nothing.
-use mathlib.Core.Path.{refl}
+use Rattle.std.proofs.Common.{refl}
 use Rattle.text.specs.Walk.{walk_from}
 use Rattle.text.specs.Strings.{utf8}
 use Rattle.text.specs.Utf8.{alternatives, begins, width_by, gather, value, octets, look_valid, validity_of}

@@ -1,9 +1,8 @@
 -- The grammar, in the order of src/raw.rs [raw.rs].
 -- Assumes nothing.
-use Rattle.std.specs.Prelude.{ℕ, zero, suc, ◌+◌, Bool, true, false, cond, ◌&&◌, ◌||◌, List, [], ◌∷◌, eqb, ltb, leb}
+use Rattle.std.specs.Prelude.{ℕ, zero, suc, ◌+◌, Bool, true, false, cond, ◌&&◌, ◌||◌, List, [], ◌∷◌, eqb, ltb, leb, Some, None}
 use Rattle.text.specs.Class.{is_whitespace, is_key, is_id_start, is_id_continue, holds_of}
 use Rattle.text.specs.Scan.{see, fails}
-use Rattle.text.specs.declared.scanner.Seen.TheVariants.{End, Char}
 use Rattle.text.specs.declared.class.Test.TheVariants as test
 use Rattle.row.specs.declared.form.Kind.{Kind}
 use Rattle.row.specs.declared.form.Kind.TheVariants as kind
@@ -170,7 +169,7 @@ lower c = cond (leb 0x41 c && leb c 0x5A) (c + 0x20) c
 unfoldable pub spells : List ℕ → List ℕ → ℕ → ℕ → Bool
 spells [] s a e = eqb a e
 spells (w ∷ word) s a e =
-    cond (ltb a e) (elim (see s a) [ End ↦ false | Char c n ↦ eqb (lower c) w && spells word s n e ]) false
+    cond (ltb a e) (elim (see s a) [ None ↦ false | Some (c, n) ↦ eqb (lower c) w && spells word s n e ]) false
 
 -- what an entry of the type from a to e is: string, preamble, comment, or another. "Its name and those of `string` and `preamble`
 -- ignore ASCII case" [01:Strict reading]

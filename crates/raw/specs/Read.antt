@@ -3,16 +3,13 @@
 --     strict                  strict reading: the length, UTF-8, and then the grammar
 --     Read                    the contract
 -- Assumes nothing.
-use Rattle.std.specs.Prelude.{ℕ, ◌*◌, ◌/◌, ◌≡◌, cond, List, ◌++◌, length, drop, leb}
+use Rattle.text.specs.declared.utf8.IllFormed.{IllFormed}
+use Rattle.std.specs.Prelude.{ℕ, ◌*◌, ◌/◌, ◌≡◌, cond, List, ◌++◌, length, drop, leb, Result, Ok, Err, ⊤}
 use Rattle.text.specs.Utf8.{validity_of}
 use Rattle.text.specs.Scan.{see, next_of}
-use Rattle.text.specs.declared.utf8.Validity.{Validity}
-use Rattle.text.specs.declared.utf8.Validity.TheVariants as validity
 use Rattle.row.specs.declared.fault.Fault.{Fault}
 use Rattle.row.specs.declared.fault.Reason.TheVariants.{TooLong, NotUtf8, NoRoom}
 use Rattle.row.specs.Fault.{fault_at, nowhere}
-use Rattle.raw.specs.declared.answer.Reading.{Reading}
-use Rattle.raw.specs.declared.answer.Reading.TheVariants as reading
 use Rattle.row.specs.Limits.{most_bytes}
 use Rattle.row.specs.Row.{flat}
 use Rattle.raw.specs.Reader.{Out, ok, again, bad}
@@ -29,19 +26,19 @@ underlined s (again q rs a) = again q rs a
 underlined s (bad f) = bad (culprit s f)
 
 -- the grammar refuses where it stands; here the place is widened
-abbrev pub checked : List ℕ → Validity → Out
-checked s validity.Valid = underlined s (file s 0)
-checked s (validity.IllFormed n) = bad (fault_at NotUtf8 n)
+abbrev pub checked : List ℕ → Result ⊤ IllFormed → Out
+checked s (Ok tt) = underlined s (file s 0)
+checked s (Err n) = bad (fault_at NotUtf8 n.at)
 
 -- [01:Numbers a caller can get] 1, then 2, then 3 to 10 as met
 unfoldable pub strict : List ℕ → Out
 strict s = cond (leb (length s) most_bytes) (checked s (validity_of s)) (bad (nowhere TooLong))
 
 -- the answer over so many lent numbers: the reading's, but 16 exactly if an answer exists and needs more rows than are lent
-abbrev pub reading_out : Out → ℕ → Reading
-reading_out (ok q rs) size = cond (leb (length rs) (size / 4)) (reading.Rows (length rs)) (reading.Refused (nowhere NoRoom))
-reading_out (again q rs a) size = cond (leb (length rs) (size / 4)) (reading.Rows (length rs)) (reading.Refused (nowhere NoRoom))
-reading_out (bad f) size = reading.Refused f
+abbrev pub reading_out : Out → ℕ → Result ℕ Fault
+reading_out (ok q rs) size = cond (leb (length rs) (size / 4)) (Ok (length rs)) (Err (nowhere NoRoom))
+reading_out (again q rs a) size = cond (leb (length rs) (size / 4)) (Ok (length rs)) (Err (nowhere NoRoom))
+reading_out (bad f) size = Err f
 
 -- the lent numbers afterwards: the rows, and behind them what they held there; or all as they were
 abbrev pub left_out : Out → List ℕ → List ℕ
@@ -50,6 +47,6 @@ left_out (again q rs a) b = cond (leb (length rs) (length b / 4)) (flat rs ++ dr
 left_out (bad f) b = b
 
 -- `read` of the file s over the lent numbers b answers r and leaves b'
-pub record Read (s b : List ℕ) (r : Reading) (b' : List ℕ) : Type 0 where
+pub record Read (s b : List ℕ) (r : Result ℕ Fault) (b' : List ℕ) : Type 0 where
   pub answer : r ≡ reading_out (strict s) (length b)
   pub rows : b' ≡ left_out (strict s) b

@@ -1,10 +1,8 @@
 -- Readers of text, and the few ways to make one of others. All that a reader knows of the text it knows by `see`.
 -- A reading is a list of parts or a refusal, for parts of any type; places are relative to the text.
 -- Assumes nothing.
-use Rattle.std.specs.Prelude.{ℕ, zero, suc, Bool, cond, List, [], ◌∷◌, ◌++◌, length}
+use Rattle.std.specs.Prelude.{ℕ, zero, suc, Bool, cond, List, [], ◌∷◌, ◌++◌, length, Option, Some, None}
 use Rattle.text.specs.Scan.{see}
-use Rattle.text.specs.declared.scanner.Seen.{Seen}
-use Rattle.text.specs.declared.scanner.Seen.TheVariants.{End, Char}
 use Rattle.row.specs.declared.fault.Fault.{Fault}
 use Rattle.row.specs.declared.fault.Reason.TheVariants.{UnexpectedEof}
 use Rattle.row.specs.declared.fault.Reason.{Reason}
@@ -48,9 +46,9 @@ after (again q rs a) g = more rs (g a q)
 after (bad f) g = bad f
 
 -- by what is seen: f from the place after a character of class t; else o
-abbrev pub eaten : {P : Type 0} → (ℕ → Bool) → Seen → (ℕ → OutOf P) → OutOf P → OutOf P
-eaten t End f o = o
-eaten t (Char c n) f o = cond (t c) (f n) o
+abbrev pub eaten : {P : Type 0} → (ℕ → Bool) → Option (ℕ × ℕ) → (ℕ → OutOf P) → OutOf P → OutOf P
+eaten t None f o = o
+eaten t (Some (c, n)) f o = cond (t c) (f n) o
 
 -- a row in front, to the place where the reader ends
 abbrev pub under : (ℕ → Row) → Out → Out

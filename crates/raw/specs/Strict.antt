@@ -1,13 +1,11 @@
 -- What the definitions of `Reader` and `Grammar` settle: theorems of strict reading, the proof of which is `strict-reading` of
 -- proofs/Strict.antt. Texts are compared by what they show: `ShowsSame`.
 -- Assumes nothing.
-use Rattle.std.specs.Prelude.{ℕ, ◌+◌, ◌≤◌, ◌<◌, max, ◌≡◌, ◌↔◌, Bool, true, false, ◌||◌, List, [], ◌∷◌, ◌++◌, length, get_or}
+use Rattle.std.specs.Prelude.{ℕ, ◌+◌, ◌≤◌, ◌<◌, max, ◌≡◌, ◌↔◌, Bool, true, false, ◌||◌, List, [], ◌∷◌, ◌++◌, length, get_or, Option, Some, None}
 use Rattle.text.specs.Range.{within}
 use Rattle.text.specs.Utf8.{tail, decode_at, is_boundary}
 use Rattle.text.specs.Class.{is_id_start, holds_of}
 use Rattle.text.specs.Scan.{see}
-use Rattle.text.specs.declared.scanner.Seen.{Seen}
-use Rattle.text.specs.declared.scanner.Seen.TheVariants.{End, Char}
 use Rattle.text.specs.declared.class.Test.TheVariants as test
 use Rattle.text.specs.declared.utf8.Decoded.TheVariants as decoded
 use Rattle.row.specs.declared.fault.Fault.{Fault}
@@ -44,9 +42,9 @@ abbrev pub Fresh : List ℕ → Type 0
 Fresh t = within tail (get_or t 0 256) ≡ false
 
 -- a value may begin with what is seen: a digit, a name's first character, a brace or a quote
-abbrev pub begins_value : Seen → Bool
-begins_value End = false
-begins_value (Char c n) = holds_of test.Digit c || is_id_start c || is 0x7B c || is 0x22 c
+abbrev pub begins_value : Option (ℕ × ℕ) → Bool
+begins_value None = false
+begins_value (Some (c, n)) = holds_of test.Digit c || is_id_start c || is 0x7B c || is 0x22 c
 
 -- the starts never fall, from n on
 unfoldable pub Rising : ℕ → List Row → Type 0

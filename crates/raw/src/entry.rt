@@ -3,9 +3,9 @@ ghost use Rattle.std.specs.Prelude.{◌≡◌, ◌+◌, ◌≤◌, ◌<◌, leng
 ghost use Rattle.raw.specs.Grammar.{lower, spells, form_of, preamble, body, lead, rest, entry};
 ghost use Rattle.raw.specs.Says.{step_of, Onward, Says, Within, Ready, Ascii};
 
-use crate::answer::{Answer, Step};
 use crate::{field, token, value};
 use reader;
+use row::fault::Fault;
 use row::form;
 use row::form::Kind;
 use text::class::Test;
@@ -20,7 +20,8 @@ pub enum Form {
     Other,
 }
 
-// The small letter of an ASCII capital; any other byte as it is.
+// The small letter of an ASCII capital; any other byte as it is. With the `to_ascii_lowercase` of std in its place, files of names took 1.2 times
+// as long and deep braces twice as long: the readers of values were no longer put in line.
 fn lower(b: u8) -> u8
     ensures { result ≡ lower b }
 {
@@ -30,7 +31,8 @@ fn lower(b: u8) -> u8
     b
 }
 
-// Whether the text from one place to another spells a word, in any ASCII case.
+// Whether the text from one place to another spells a word, in any ASCII case. The `eq_ignore_ascii_case` of a slice costs as much as
+// `to_ascii_lowercase` would in `lower`.
 fn spells(s: &[u8], at: usize, end: usize, word: &[u8]) -> bool
     requires { (at ≤ end) × (end ≤ length s.now) × Ascii word.now }
     ensures { result ≡ spells word.now s.now at end }
@@ -38,12 +40,10 @@ fn spells(s: &[u8], at: usize, end: usize, word: &[u8]) -> bool
     if end - at != word.len() {
         return false;
     }
-    let mut k = 0;
-    while k < word.len() {
+    for k in 0..word.len() {
         if lower(s[at + k]) != word[k] {
             return false;
         }
-        k += 1;
     }
     true
 }
@@ -65,31 +65,37 @@ fn form_of(s: &[u8], at: usize, end: usize) -> Form
 }
 
 // Eat the body of a preamble entry: a row over the string with its quotes.
-fn preamble(s: &[u8], base: usize, at: usize, rows: &mut [u32], n: usize) -> Answer
+fn preamble(
+    s: &[u8],
+    base: usize,
+    at: usize,
+    rows: &mut [u32],
+    n: usize,
+) -> Result<(usize, usize), Fault>
     requires { Ready base (length s.now) at n }
     ensures says { Says base (preamble s.now at) n rows.old result rows.new }
     ensures within { Within (length s.now) 2 at n result }
 {
-    let r1 = value::string(s, at);
-    let Step::At(p1) = r1 else {
-        return value::refused(r1);
-    };
+    let p1 = value::string(s, at)?;
     form::put_row(rows, n, Kind::Preamble, base, at, p1);
-    Answer::Next { at: p1, n: n + 1 }
+    Ok((p1, n + 1))
 }
 
 // Eat the body of an entry: a row over its key, and its fields' rows.
-fn body(s: &[u8], base: usize, at: usize, rows: &mut [u32], n: usize) -> Answer
+fn body(
+    s: &[u8],
+    base: usize,
+    at: usize,
+    rows: &mut [u32],
+    n: usize,
+) -> Result<(usize, usize), Fault>
     requires { Ready base (length s.now) at n }
     ensures says { Says base (body s.now at) n rows.old result rows.new }
     ensures within { Within (length s.now) 1 at n result }
 {
     let p1 = token::key(s, at);
     let p2 = scanner::eat_whitespace(s, p1);
-    let r3 = token::comma(s, p2);
-    let Step::At(p3) = r3 else {
-        return value::refused(r3);
-    };
+    let p3 = token::comma(s, p2)?;
     // A comment may stand after the key's comma: `@article{foo,  % so`.
     let p4 = scanner::eat_whitespace(s, p3);
     let p5 = token::comment(s, p4);
@@ -99,15 +105,12 @@ fn body(s: &[u8], base: usize, at: usize, rows: &mut [u32], n: usize) -> Answer
 }
 
 // Eat the delimiter that opens, with the white space around it.
-fn lead(s: &[u8], at: usize) -> Step
+fn lead(s: &[u8], at: usize) -> Result<usize, Fault>
     ensures { (result ≡ step_of (lead s.now at)) × Onward (length s.now) 1 at result }
 {
     let p1 = scanner::eat_whitespace(s, at);
-    let r2 = token::opening(s, p1);
-    let Step::At(p2) = r2 else {
-        return r2;
-    };
-    Step::At(scanner::eat_whitespace(s, p2))
+    let p2 = token::opening(s, p1)?;
+    Ok(scanner::eat_whitespace(s, p2))
 }
 
 // Eat an entry that begins at start, after its type from a place to its end.
@@ -120,57 +123,42 @@ fn rest(
     rows: &mut [u32],
     n: usize,
     form: Form,
-) -> Answer
+) -> Result<(usize, usize), Fault>
     requires { Ready base (length s.now) end (n + 1) × (start ≤ at) × (at ≤ end) }
     ensures says { Says base (rest form start at end s.now end) n rows.old result rows.new }
     ensures within { Within (length s.now) 1 end (n + 1) result }
 {
-    let r1 = lead(s, end);
-    let Step::At(p1) = r1 else {
-        return value::refused(r1);
-    };
+    let p1 = lead(s, end)?;
     match form {
         Form::Strings => field::fields(s, base, p1, rows, n, Kind::DefinitionName),
         Form::Preambles => preamble(s, base, p1, rows, n),
-        Form::Comments => Answer::Next {
-            at: reader::until(s, p1, Test::ClosingBrace),
-            n,
-        },
+        Form::Comments => Ok((reader::until(s, p1, Test::ClosingBrace), n)),
         Form::Other => {
             form::put_row(rows, n + 1, Kind::EntryType, base, at, end);
-            let r2 = body(s, base, p1, rows, n + 2);
-            let Answer::Next { at: p2, n: n2 } = r2 else {
-                return r2;
-            };
+            let (p2, n2) = body(s, base, p1, rows, n + 2)?;
             form::put_row(rows, n, Kind::Entry, base, start, p2);
-            Answer::Next { at: p2, n: n2 }
+            Ok((p2, n2))
         }
     }
 }
 
 // Eat an entry.
-pub fn entry(s: &[u8], base: usize, at: usize, rows: &mut [u32], n: usize) -> Answer
+pub fn entry(
+    s: &[u8],
+    base: usize,
+    at: usize,
+    rows: &mut [u32],
+    n: usize,
+) -> Result<(usize, usize), Fault>
     requires { Ready base (length s.now) at n }
     ensures says { Says base (entry s.now at) n rows.old result rows.new }
     ensures within { Within (length s.now) 1 at n result }
 {
-    let r1 = token::at_sign(s, at);
-    let Step::At(p1) = r1 else {
-        return value::refused(r1);
-    };
-    let r2 = token::name(s, p1, 0x7b);
-    let Step::At(p2) = r2 else {
-        return value::refused(r2);
-    };
+    let p1 = token::at_sign(s, at)?;
+    let p2 = token::name(s, p1, 0x7b)?;
     let form = form_of(s, p1, p2);
-    let r3 = rest(s, base, at, p1, p2, rows, n, form);
-    let Answer::Next { at: p3, n: n3 } = r3 else {
-        return r3;
-    };
+    let (p3, n3) = rest(s, base, at, p1, p2, rows, n, form)?;
     let p4 = scanner::eat_whitespace(s, p3);
-    let r5 = token::closing(s, p4);
-    let Step::At(p5) = r5 else {
-        return value::refused(r5);
-    };
-    Answer::Next { at: p5, n: n3 }
+    let p5 = token::closing(s, p4)?;
+    Ok((p5, n3))
 }

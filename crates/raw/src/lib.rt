@@ -1,4 +1,7 @@
 // Strict reading of a .bib file, after src/raw.rs: rows out, or the refusal.
+//
+// A reader that puts no rows answers the place after what it read; one that puts rows, that place and the number of the next row. Either refuses
+// with a `Fault`.
 #![tactic(auto)]
 
 pub mod answer;

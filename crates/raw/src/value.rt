@@ -2,25 +2,26 @@
 ghost use Rattle.std.specs.Prelude.{◌≡◌, ◌+◌, ◌≤◌, length};
 ghost use Rattle.raw.specs.Inner.{Undelimited, literal_of};
 ghost use Rattle.raw.specs.Grammar.{quoted, string, string_literal, number, in_braces, braced, abbr_element, abbr_turn, abbr_field};
-ghost use Rattle.raw.specs.Says.{step_of, Onward, refused_of, Says, Within, SaysTurn, WithinTurn, Ready};
+ghost use Rattle.raw.specs.Says.{step_of, Onward, Says, Within, SaysTurn, WithinTurn, Ready};
 
-use crate::answer::{Answer, Step, Turn};
+use crate::answer::Turn;
 use crate::token;
-use row::fault::Reason;
+use row::fault::{Fault, Reason};
 use row::form::Kind;
 use row::{fault, form};
 use text::class::Test;
 use text::{block, scanner};
 
-// The place of the quote that closes a string, from inside it, byte by byte.
-fn quoted_end(s: &[u8], at: usize) -> Step
+// The place of the quote that closes a string, from inside it, byte by byte. A backslash takes a turn with the byte behind it, which a `for` over
+// the places could not pass by.
+fn quoted_end(s: &[u8], at: usize) -> Result<usize, Fault>
     ensures { (result ≡ step_of (quoted s.now at)) × Onward (length s.now) 0 at result }
 {
     let mut i = at;
     while i < s.len() {
         match s[i] {
             0x22 => {
-                return Step::At(i);
+                return Ok(i);
             }
             0x5c => {
                 i += 1;
@@ -33,19 +34,19 @@ fn quoted_end(s: &[u8], at: usize) -> Step
             }
         }
     }
-    Step::Refused(fault::fault_at(Reason::UnexpectedEof, i))
+    Err(fault::fault_at(Reason::UnexpectedEof, i))
 }
 
 // The place of the quote that closes a string, as `quoted_end` finds it, but quicker: a turn looks at two bytes, since escapes come close together
 // where there are any, and then at blocks.
-fn quoted(s: &[u8], at: usize) -> Step
+fn quoted(s: &[u8], at: usize) -> Result<usize, Fault>
     ensures { (result ≡ step_of (quoted s.now at)) × Onward (length s.now) 0 at result }
 {
     let mut i = at;
     while block::has(s, i, 16) {
         match s[i] {
             0x22 => {
-                return Step::At(i);
+                return Ok(i);
             }
             0x5c => {
                 i += 2;
@@ -54,7 +55,7 @@ fn quoted(s: &[u8], at: usize) -> Step
                 let j = i + 1;
                 match s[j] {
                     0x22 => {
-                        return Step::At(j);
+                        return Ok(j);
                     }
                     0x5c => {
                         i = j + 2;
@@ -70,45 +71,38 @@ fn quoted(s: &[u8], at: usize) -> Step
 }
 
 // Eat a string.
-pub fn string(s: &[u8], at: usize) -> Step
+pub fn string(s: &[u8], at: usize) -> Result<usize, Fault>
     ensures { (result ≡ step_of (string s.now at)) × Onward (length s.now) 2 at result }
 {
-    let r1 = token::quote(s, at);
-    let Step::At(p1) = r1 else {
-        return r1;
-    };
-    let r2 = quoted_end(s, p1);
-    let Step::At(p2) = r2 else {
-        return r2;
-    };
+    let p1 = token::quote(s, at)?;
+    let p2 = quoted_end(s, p1)?;
     token::quote(s, p2)
 }
 
 // Eat a number.
-fn number(s: &[u8], at: usize) -> Step
+fn number(s: &[u8], at: usize) -> Result<usize, Fault>
     ensures { (result ≡ step_of (number s.now at)) × Onward (length s.now) 0 at result }
 {
-    let mut i = at;
     let mut dot = false;
-    while i < s.len() {
+    for i in at..s.len() {
         let b = s[i];
         if (0x30 <= b) & (b <= 0x39) {
-            i += 1;
-        } else if b == 0x2e {
-            if dot {
-                return Step::Refused(fault::fault_at(Reason::UnexpectedDecimalPoint, i));
-            }
-            dot = true;
-            i += 1;
-        } else {
-            return Step::At(i);
+            continue;
         }
+        if b != 0x2e {
+            return Ok(i);
+        }
+        if dot {
+            return Err(fault::fault_at(Reason::UnexpectedDecimalPoint, i));
+        }
+        dot = true;
     }
-    Step::Refused(fault::fault_at(Reason::UnexpectedEof, i))
+    Err(fault::fault_at(Reason::UnexpectedEof, at.max(s.len())))
 }
 
-// The place of the brace that closes a braced value, from inside it: braces in it nest, and a backslash takes the next character with it.
-fn in_braces(s: &[u8], at: usize) -> Step
+// The place of the brace that closes a braced value, from inside it: braces in it nest, and a backslash takes the next character with it. A turn
+// goes on by one byte, by two or by blocks, so that no `for` fits.
+fn in_braces(s: &[u8], at: usize) -> Result<usize, Fault>
     ensures { (result ≡ step_of (in_braces s.now at)) × Onward (length s.now) 0 at result }
 {
     let mut i = at;
@@ -121,7 +115,7 @@ fn in_braces(s: &[u8], at: usize) -> Step
             }
             0x7d => {
                 if depth == 0 {
-                    return Step::At(i);
+                    return Ok(i);
                 }
                 depth -= 1;
                 i += 1;
@@ -129,7 +123,7 @@ fn in_braces(s: &[u8], at: usize) -> Step
             0x5c => {
                 if s.len() - i < 2 {
                     let end = i + 1;
-                    return Step::Refused(fault::fault_at(Reason::UnexpectedEof, end));
+                    return Err(fault::fault_at(Reason::UnexpectedEof, end));
                 }
                 i += 2;
             }
@@ -138,94 +132,95 @@ fn in_braces(s: &[u8], at: usize) -> Step
             }
         }
     }
-    Step::Refused(fault::fault_at(Reason::UnexpectedEof, i))
-}
-
-// The refusal of a reader without rows, as one of a reader with rows; there is no other.
-pub fn refused(r: Step) -> Answer
-    ensures { result ≡ refused_of r }
-{
-    match r {
-        Step::At(p) => Answer::Next { at: p, n: 0 },
-        Step::Refused(f) => Answer::Refused(f),
-    }
+    Err(fault::fault_at(Reason::UnexpectedEof, i))
 }
 
 // The literal between two delimiters: row n, at its place in the file, unless the delimiter that closes is refused.
-fn literal(base: usize, from: usize, to: usize, closed: Step, rows: &mut [u32], n: usize) -> Answer
+fn literal(
+    base: usize,
+    from: usize,
+    to: usize,
+    closed: Result<usize, Fault>,
+    rows: &mut [u32],
+    n: usize,
+) -> Result<(usize, usize), Fault>
     requires { (from ≤ to) × Ready base to to n }
     ensures { Says base (literal_of from to closed) n rows.old result rows.new }
 {
-    let Step::At(at) = closed else {
-        return refused(closed);
-    };
+    let at = closed?;
     form::put_row(rows, n, Kind::Literal, base, from, to);
-    Answer::Next { at, n: n + 1 }
+    Ok((at, n + 1))
 }
 
 // Eat a string whose inside is a literal: row n, at its place in the file.
-fn string_literal(s: &[u8], base: usize, at: usize, rows: &mut [u32], n: usize) -> Answer
+fn string_literal(
+    s: &[u8],
+    base: usize,
+    at: usize,
+    rows: &mut [u32],
+    n: usize,
+) -> Result<(usize, usize), Fault>
     requires { Ready base (length s.now) at n }
     ensures says { Says base (string_literal s.now at) n rows.old result rows.new }
     ensures within { Within (length s.now) 2 at n result }
 {
-    let r1 = token::quote(s, at);
-    let Step::At(p1) = r1 else {
-        return refused(r1);
-    };
-    let r2 = quoted(s, p1);
-    let Step::At(p2) = r2 else {
-        return refused(r2);
-    };
+    let p1 = token::quote(s, at)?;
+    let p2 = quoted(s, p1)?;
     literal(base, p1, p2, token::quote(s, p2), rows, n)
 }
 
 // Eat a braced value.
-fn braced(s: &[u8], base: usize, at: usize, rows: &mut [u32], n: usize) -> Answer
+fn braced(
+    s: &[u8],
+    base: usize,
+    at: usize,
+    rows: &mut [u32],
+    n: usize,
+) -> Result<(usize, usize), Fault>
     requires { Ready base (length s.now) at n }
     ensures says { Says base (braced s.now at) n rows.old result rows.new }
     ensures within { Within (length s.now) 2 at n result }
 {
-    let r1 = token::opening(s, at);
-    let Step::At(p1) = r1 else {
-        return refused(r1);
-    };
-    let r2 = in_braces(s, p1);
-    let Step::At(p2) = r2 else {
-        return refused(r2);
-    };
+    let p1 = token::opening(s, at)?;
+    let p2 = in_braces(s, p1)?;
     literal(base, p1, p2, token::closing(s, p2), rows, n)
 }
 
 // Eat an element of an abbreviation that begins with neither a brace nor a quote.
-fn bare_element(s: &[u8], base: usize, at: usize, rows: &mut [u32], n: usize) -> Answer
+fn bare_element(
+    s: &[u8],
+    base: usize,
+    at: usize,
+    rows: &mut [u32],
+    n: usize,
+) -> Result<(usize, usize), Fault>
     requires { Ready base (length s.now) at n × Undelimited s.now at }
     ensures says { Says base (abbr_element s.now at) n rows.old result rows.new }
     ensures within { Within (length s.now) 1 at n result }
 {
     let digit = scanner::eat_if(s, at, Test::Digit);
     if digit != at {
-        let r1 = number(s, at);
-        let Step::At(p1) = r1 else {
-            return refused(r1);
-        };
+        let p1 = number(s, at)?;
         form::put_row(rows, n, Kind::Literal, base, at, p1);
-        return Answer::Next { at: p1, n: n + 1 };
+        return Ok((p1, n + 1));
     }
     let start = scanner::eat_if(s, at, Test::IdStart);
     if start != at {
-        let r2 = token::ident(s, at);
-        let Step::At(p2) = r2 else {
-            return refused(r2);
-        };
+        let p2 = token::ident(s, at)?;
         form::put_row(rows, n, Kind::Name, base, at, p2);
-        return Answer::Next { at: p2, n: n + 1 };
+        return Ok((p2, n + 1));
     }
-    Answer::Refused(fault::fault_at(Reason::UnexpectedEof, at))
+    Err(fault::fault_at(Reason::UnexpectedEof, at))
 }
 
 // Eat an element of an abbreviation: most are in braces or quotes.
-fn abbr_element(s: &[u8], base: usize, at: usize, rows: &mut [u32], n: usize) -> Answer
+fn abbr_element(
+    s: &[u8],
+    base: usize,
+    at: usize,
+    rows: &mut [u32],
+    n: usize,
+) -> Result<(usize, usize), Fault>
     requires { Ready base (length s.now) at n }
     ensures says { Says base (abbr_element s.now at) n rows.old result rows.new }
     ensures within { Within (length s.now) 1 at n result }
@@ -243,40 +238,39 @@ fn abbr_element(s: &[u8], base: usize, at: usize, rows: &mut [u32], n: usize) ->
 }
 
 // Eat an element, and a number sign after it if another follows. Mostly a comma or a number sign stands right behind it.
-fn abbr_turn(s: &[u8], base: usize, at: usize, rows: &mut [u32], n: usize) -> Turn
+fn abbr_turn(s: &[u8], base: usize, at: usize, rows: &mut [u32], n: usize) -> Result<Turn, Fault>
     requires { Ready base (length s.now) at n }
     ensures says { SaysTurn base (abbr_turn 0 s.now at) n rows.old result rows.new }
     ensures within { WithinTurn (length s.now) 1 1 at n result }
 {
-    let r1 = abbr_element(s, base, at, rows, n);
-    match r1 {
-        Answer::Refused(f) => {
-            return Turn::Refused(f);
+    let (p1, n1) = abbr_element(s, base, at, rows, n)?;
+    if p1 < s.len() {
+        let b = s[p1];
+        if b == 0x2c {
+            return Ok(Turn::Done { at: p1, n: n1 });
         }
-        Answer::Next { at: p1, n: n1 } => {
-            if p1 < s.len() {
-                let b = s[p1];
-                if b == 0x2c {
-                    return Turn::Done { at: p1, n: n1 };
-                }
-                if b == 0x23 {
-                    let next = scanner::eat_whitespace(s, p1 + 1);
-                    return Turn::Again { at: next, n: n1 };
-                }
-            }
-            let p2 = scanner::eat_whitespace(s, p1);
-            let p3 = scanner::eat_byte(s, p2, 0x23);
-            if p3 == p2 {
-                return Turn::Done { at: p2, n: n1 };
-            }
-            let p4 = scanner::eat_whitespace(s, p3);
-            return Turn::Again { at: p4, n: n1 };
+        if b == 0x23 {
+            let next = scanner::eat_whitespace(s, p1 + 1);
+            return Ok(Turn::Again { at: next, n: n1 });
         }
     }
+    let p2 = scanner::eat_whitespace(s, p1);
+    let p3 = scanner::eat_byte(s, p2, 0x23);
+    if p3 == p2 {
+        return Ok(Turn::Done { at: p2, n: n1 });
+    }
+    let p4 = scanner::eat_whitespace(s, p3);
+    Ok(Turn::Again { at: p4, n: n1 })
 }
 
 // Eat an abbreviation field: a row over its elements and the white space after them.
-pub fn abbr_field(s: &[u8], base: usize, at: usize, rows: &mut [u32], n: usize) -> Answer
+pub fn abbr_field(
+    s: &[u8],
+    base: usize,
+    at: usize,
+    rows: &mut [u32],
+    n: usize,
+) -> Result<(usize, usize), Fault>
     requires { Ready base (length s.now) at (n + 1) }
     ensures says { Says base (abbr_field s.now at) n rows.old result rows.new }
     ensures within { Within (length s.now) 1 at (n + 1) result }
@@ -284,17 +278,14 @@ pub fn abbr_field(s: &[u8], base: usize, at: usize, rows: &mut [u32], n: usize) 
     let mut p = at;
     let mut m = n + 1;
     loop {
-        match abbr_turn(s, base, p, rows, m) {
+        match abbr_turn(s, base, p, rows, m)? {
             Turn::Again { at: q, n: k } => {
                 p = q;
                 m = k;
             }
             Turn::Done { at: q, n: k } => {
                 form::put_row(rows, n, Kind::Value, base, at, q);
-                return Answer::Next { at: q, n: k };
-            }
-            Turn::Refused(f) => {
-                return Answer::Refused(f);
+                return Ok((q, k));
             }
         }
     }

@@ -9,7 +9,6 @@ ghost use Rattle.text.specs.Scan.{see, next_of, skip, fails, Inside, Ahead};
 
 use text::class::Test;
 use text::scanner;
-use text::scanner::Seen;
 
 #[derive(Clone, Copy)]
 pub struct Reader<'a> {
@@ -29,7 +28,7 @@ fn place<'a>(r: Reader<'a>) -> usize
     r.at
 }
 
-fn peek<'a>(r: Reader<'a>) -> Seen
+fn peek<'a>(r: Reader<'a>) -> Option<(u32, usize)>
     ensures { (result ≡ see r.entry.file.now r.entry.at) × Inside r.entry.file.now r.entry.at result }
 {
     scanner::peek(r.file, r.at)
@@ -52,7 +51,7 @@ fn eat_until<'a>(r: Reader<'a>, t: Test) -> Reader<'a>
 }
 
 // What stands at a place.
-pub fn seen(file: &[u8], at: usize) -> Seen
+pub fn seen(file: &[u8], at: usize) -> Option<(u32, usize)>
     ensures { (result ≡ see file.now at) × Inside file.now at result }
 {
     peek(new(file, at))

@@ -12,9 +12,8 @@
 ghost use Rattle.std.specs.Prelude.{◌<◌, ◌≤◌, length, take, IfOk};
 ghost use Rattle.std.specs.Io.KnownBytes.{Consumes, IsAtEnd};
 
-use raw::answer::Reading;
 use raw::file;
-use resolve::answer::Answer;
+use resolve::answer::Chunks;
 use resolve::one_literal;
 use row::fault;
 use row::fault::Fault;
@@ -29,17 +28,11 @@ struct Case {
     same: bool,
 }
 
-fn wide(b: u8) -> u32
-    ensures { result < 256 }
-{
-    b as u32
-}
-
 // The number in the byte at a place; past the end of the list all bytes are 0.
 fn one(list: &[u8], at: usize) -> u32
     ensures { result < 256 }
 {
-    if at < list.len() { wide(list[at]) } else { 0 }
+    list.get(at).map_or(0, |b| u32::from(*b))
 }
 
 // The number in the two bytes from a place on.
@@ -51,31 +44,21 @@ fn two(list: &[u8], at: usize) -> u32
 }
 
 fn number(numbers: &[u32], i: usize) -> u32 {
-    if i < numbers.len() { numbers[i] } else { 0 }
+    numbers.get(i).copied().unwrap_or(0)
 }
 
 // Whether the first n numbers are those from a place of the list on.
 fn are_numbers(list: &[u8], at: usize, numbers: &[u32], n: usize) -> bool
     requires { (at < 700000) × (n < 65536) }
 {
-    for i in 0..n {
-        if number(numbers, i) != two(list, at + i * 2) {
-            return false;
-        }
-    }
-    true
+    (0..n).all(|i| number(numbers, i) == two(list, at + i * 2))
 }
 
 // Whether the first n bytes of a text are those from a place of the list on.
 fn is_text(list: &[u8], at: usize, text: &[u8], n: usize) -> bool
     requires { (at < 700000) × (n < 65536) }
 {
-    for i in 0..n {
-        if one(text, i) != one(list, at + i) {
-            return false;
-        }
-    }
-    true
+    (0..n).all(|i| one(text, i) == one(list, at + i))
 }
 
 fn is_refusal(list: &[u8], at: usize, f: Fault) -> bool
@@ -118,24 +101,28 @@ fn answer_end(list: &[u8], at: usize) -> usize
     }
 }
 
-fn is_reading(list: &[u8], at: usize, reading: Reading, rows: &[u32]) -> bool
+fn is_reading(list: &[u8], at: usize, reading: Result<usize, Fault>, rows: &[u32]) -> bool
     requires { at < 500000 }
 {
     match reading {
-        Reading::Refused(f) => is_refusal(list, at, f),
-        Reading::Rows(n) => {
-            (n == two(list, at + 1) as usize / 4) & are_rows(list, at, rows, b"", 0)
-        }
+        Err(f) => is_refusal(list, at, f),
+        Ok(n) => { (n == two(list, at + 1) as usize / 4) & are_rows(list, at, rows, b"", 0) }
     }
 }
 
 // No name is resolved in a literal.
-fn is_answer(list: &[u8], at: usize, answer: Answer, chunks: &[u32], text: &[u8]) -> bool
+fn is_answer(
+    list: &[u8],
+    at: usize,
+    answer: Result<Chunks, Fault>,
+    chunks: &[u32],
+    text: &[u8],
+) -> bool
     requires { at < 500000 }
 {
     match answer {
-        Answer::Refused(f) => is_refusal(list, at, f),
-        Answer::Chunks { rows, bytes, names } => {
+        Err(f) => is_refusal(list, at, f),
+        Ok(Chunks { rows, bytes, names }) => {
             (names == 0)
                 & (rows == two(list, at + 1) as usize / 5)
                 & are_rows(list, at, chunks, text, bytes)
@@ -205,13 +192,7 @@ struct Tally {
     differ: u64,
 }
 
-fn bit(b: bool) -> u64
-    ensures { result ≤ 1 }
-{
-    if b { 1 } else { 0 }
-}
-
-// Replays every case of the list. A list that is too long counts as one without cases.
+// Replays every case of the list, each of which says where the next one begins. A list that is too long counts as one without cases.
 fn replay_all(list: &[u8]) -> Tally {
     if 400000 < list.len() {
         return Tally {
@@ -226,7 +207,7 @@ fn replay_all(list: &[u8]) -> Tally {
         let case = replay(list, at);
         at = case.next;
         cases += 1;
-        same += bit(case.same);
+        same += u64::from(case.same);
     }
     Tally {
         cases,
@@ -236,6 +217,9 @@ fn replay_all(list: &[u8]) -> Tally {
 
 // Reads until buf is full or the input ends, and answers how many bytes it put at the start of buf. A read that fails, or that a signal
 // interrupts, ends it with that error.
+//
+// The program print_rows has the same function: no crate below both reads input. Of the library's, `read_exact` does not tell how many bytes a
+// shorter input has, `io::copy` not that they fit, and `read_to_end` takes a heap.
 fn read_full<R: Read>(input: &mut R, buf: &mut [u8]) -> io::Result<usize>
     ensures within { IfOk result (λ n. n ≤ length buf.new) }
     ensures bytes { IfOk result (λ n. Consumes (R.remaining input.old) (R.remaining input.new) (take n buf.new)) }

@@ -1,5 +1,8 @@
 -- Which refusals a call that resolves can answer, and their places: `calls` of any call, and `refusals`.
 -- Assumes nothing.
+use Rattle.resolve.specs.declared.answer.Chunks.{Chunks}
+use Rattle.text.specs.declared.utf8.IllFormed.{IllFormed}
+use Rattle.std.specs.Prelude.{Result, Ok, Err, ⊤}
 use Prim.Native.Nat.{ℕ, ◌+◌, ◌/◌, ◌≤◌, ◌<◌}
 use native.Mathlib.Omega.{arith}
 use mathlib.Core.Path.{◌≡◌, refl, sym, ap, subst, ◌∙◌}
@@ -11,14 +14,10 @@ use lib.Dec.{leb}
 use borrow.Author.Tests.{leb-true, leb-false, lt-leb}
 use Rattle.text.specs.Utf8.{validity_of}
 use Rattle.text.specs.Scan.{part}
-use Rattle.text.specs.declared.utf8.Validity.{Validity}
-use Rattle.text.specs.declared.utf8.Validity.TheVariants as validity
 use Rattle.row.specs.declared.fault.Fault.{Fault}
 use Rattle.row.specs.declared.fault.Reason.TheVariants.{TooLong, NotUtf8, NoRoom, BadRows}
 use Rattle.row.specs.Fault.{number_of, fault_at, nowhere}
 use Rattle.row.specs.Limits.{most_bytes, most_literal, least_scratch, most_arguments}
-use Rattle.chunk.specs.declared.answer.Checked.{Checked}
-use Rattle.chunk.specs.declared.answer.Checked.TheVariants as checked
 use Rattle.chunk.specs.Chunk.{Chunk}
 use Rattle.turn.specs.Content.{flatten, content}
 use Rattle.literal.specs.Literal.{Resolved, chunks, resolved_of, too_long, resolve_literal}
@@ -28,8 +27,6 @@ use Rattle.literal.specs.Rows.{most_number, texts_of}
 use Rattle.literal.proofs.WellFormed.{well-formed}
 use Rattle.literal.proofs.Flattening.{flattening}
 use Rattle.literal.proofs.Refusals.{refusals as literal-refusals}
-use Rattle.resolve.specs.declared.answer.Answer.{Answer}
-use Rattle.resolve.specs.declared.answer.Answer.TheVariants as answer
 use Rattle.resolve.specs.Resolves.{Value, resolved, refused, fits, told, of_utf8, checked_file, after, asked}
 use Rattle.resolve.specs.OneLiteral.{is_span, value_of}
 use Rattle.resolve.specs.Refusals.{FileFault, long, ill-formed, Admitted, CallFault, first, not_right, full, met, FullCall, Lacks, NeedsRoom, NeedsMore}
@@ -37,15 +34,15 @@ use Rattle.resolve.specs.Refusals.{Calls, Refusals}
 
 -- ---- a file
 
-file-fault : (file : List ℕ) (f : Fault) → checked_file file ≡ checked.Refused f → FileFault file f
+file-fault : (file : List ℕ) (f : Fault) → checked_file file ≡ Err f → FileFault file f
 unfolding checked_file
 file-fault file f =
     by (leb (length file) most_bytes) (leb-true (length file) most_bytes) (leb-false (length file) most_bytes) (validity_of file) refl
   where
-    by : (x : Bool) → (x ≡ true → length file ≤ most_bytes) → (x ≡ false → most_bytes < length file) → (v : Validity) → validity_of file ≡ v
-        → cond x (of_utf8 v) (checked.Refused (nowhere TooLong)) ≡ checked.Refused f → FileFault file f
-    by true h k validity.Valid p e = let z : ◌≡◌ {A = ℕ} 0 1 = cc in absurd (omega arith)
-    by true h k (validity.IllFormed n) p e = let q : fault_at NotUtf8 n ≡ f = cc in subst (FileFault file) q (ill-formed n (h refl) p)
+    by : (x : Bool) → (x ≡ true → length file ≤ most_bytes) → (x ≡ false → most_bytes < length file) → (v : Result ⊤ IllFormed) → validity_of file ≡ v
+        → cond x (of_utf8 v) (Err (nowhere TooLong)) ≡ Err f → FileFault file f
+    by true h k (Ok tt) p e = let z : ◌≡◌ {A = ℕ} 0 1 = cc in absurd (omega arith)
+    by true h k (Err n) p e = let q : fault_at NotUtf8 n.at ≡ f = cc in subst (FileFault file) q (ill-formed n.at (h refl) p)
     by false h k v p e = let q : nowhere TooLong ≡ f = cc in subst (FileFault file) q (long (k refl))
 
 abbrev number_in : Fault → ℕ
@@ -61,19 +58,19 @@ pub calls : Calls
 calls file good w value Met m b t f = by (checked_file file) refl good refl (leb least_scratch w) value refl
   where
     -- an answer that does not fit
-    room : Admitted file good → (i j n : ℕ) (x : Bool) → answer.Refused f ≡ cond x (answer.Chunks i j n) (answer.Refused (nowhere NoRoom))
+    room : Admitted file good → (i j n : ℕ) (x : Bool) → Err f ≡ cond {A = Result Chunks Fault} x (Ok (record { rows = i; bytes = j; names = n })) (Err (nowhere NoRoom))
         → CallFault file good Met f
     room p i j n true e = let z : ◌≡◌ {A = ℕ} 0 1 = cc in absurd (omega arith)
     room p i j n false e = let q : nowhere NoRoom ≡ f = cc in subst (CallFault file good Met) q (full p)
 
-    by : (c : Checked) → checked_file file ≡ c → (x : Bool) → good ≡ x → (y : Bool) (v : Value) → value ≡ v
-        → answer.Refused f ≡ told (after c (cond x (cond y v (refused (nowhere NoRoom))) (refused (nowhere BadRows)))) b t
+    by : (c : Result ⊤ Fault) → checked_file file ≡ c → (x : Bool) → good ≡ x → (y : Bool) (v : Value) → value ≡ v
+        → Err f ≡ told (after c (cond x (cond y v (refused (nowhere NoRoom))) (refused (nowhere BadRows)))) b t
         → CallFault file good Met f
-    by (checked.Refused g) p x q y v s e = let z : g ≡ f = cc in first f (file-fault file f (p ∙ ap checked.Refused z))
-    by checked.Passed p false q y v s e = let z : nowhere BadRows ≡ f = cc in subst (CallFault file good Met) z (not_right p q)
-    by checked.Passed p true q false v s e = let z : nowhere NoRoom ≡ f = cc in subst (CallFault file good Met) z (full (p, q))
-    by checked.Passed p true q true (resolved cs n) s e = room (p, q) _ _ n (fits cs b t) e
-    by checked.Passed p true q true (refused g) s e = let z : g ≡ f = cc in met f (p, q) (m f (s ∙ ap refused z))
+    by (Err g) p x q y v s e = let z : g ≡ f = cc in first f (file-fault file f (p ∙ ap Err z))
+    by (Ok tt) p false q y v s e = let z : nowhere BadRows ≡ f = cc in subst (CallFault file good Met) z (not_right p q)
+    by (Ok tt) p true q false v s e = let z : nowhere NoRoom ≡ f = cc in subst (CallFault file good Met) z (full (p, q))
+    by (Ok tt) p true q true (resolved cs n) s e = room (p, q) _ _ n (fits cs b t) e
+    by (Ok tt) p true q true (refused g) s e = let z : g ≡ f = cc in met f (p, q) (m f (s ∙ ap refused z))
 
 -- ---- 16
 
@@ -98,34 +95,34 @@ module _ (cs : List Chunk) (b t : List ℕ) where
 
 module _ (file : List ℕ) (good : Bool) (w : ℕ) (value : Value) (other : value ≡ refused (nowhere NoRoom) → ⊥) (b t : List ℕ) where
   -- where 16 is answered
-  is-full : told (asked file good w value) b t ≡ answer.Refused (nowhere NoRoom) → FullCall file good w (NeedsMore value b t)
+  is-full : told (asked file good w value) b t ≡ Err (nowhere NoRoom) → FullCall file good w (NeedsMore value b t)
   is-full = by (checked_file file) refl good refl (leb least_scratch w) (leb-false least_scratch w) value refl
     where
-      room : (i j n : ℕ) (x : Bool) → cond x (answer.Chunks i j n) (answer.Refused (nowhere NoRoom)) ≡ answer.Refused (nowhere NoRoom) → x ≡ false
+      room : (i j n : ℕ) (x : Bool) → cond {A = Result Chunks Fault} x (Ok (record { rows = i; bytes = j; names = n })) (Err (nowhere NoRoom)) ≡ Err (nowhere NoRoom) → x ≡ false
       room i j n true e = let z : ◌≡◌ {A = ℕ} 0 1 = cc in absurd (omega arith)
       room i j n false e = refl
 
-      by : (c : Checked) → checked_file file ≡ c → (x : Bool) → good ≡ x → (y : Bool) → (y ≡ false → w < least_scratch) → (v : Value) → value ≡ v
-          → told (after c (cond x (cond y v (refused (nowhere NoRoom))) (refused (nowhere BadRows)))) b t ≡ answer.Refused (nowhere NoRoom)
+      by : (c : Result ⊤ Fault) → checked_file file ≡ c → (x : Bool) → good ≡ x → (y : Bool) → (y ≡ false → w < least_scratch) → (v : Value) → value ≡ v
+          → told (after c (cond x (cond y v (refused (nowhere NoRoom))) (refused (nowhere BadRows)))) b t ≡ Err (nowhere NoRoom)
           → FullCall file good w (NeedsMore v b t)
-      by (checked.Refused g) p x q y l v s e =
+      by (Err g) p x q y l v s e =
           let z : g ≡ nowhere NoRoom = cc in absurd (omega (arith, ap number_in z, file-number file g (file-fault file g p)))
-      by checked.Passed p false q y l v s e = let z : nowhere BadRows ≡ nowhere NoRoom = cc in absurd (omega (arith, ap number_in z))
-      by checked.Passed p true q false l v s e = ((p, q), inl (l refl))
-      by checked.Passed p true q true l (resolved cs n) s e = ((p, q), inr (too_much cs b t (room _ _ n (fits cs b t) e)))
-      by checked.Passed p true q true l (refused g) s e = let z : g ≡ nowhere NoRoom = cc in absurd (other (s ∙ ap refused z))
+      by (Ok tt) p false q y l v s e = let z : nowhere BadRows ≡ nowhere NoRoom = cc in absurd (omega (arith, ap number_in z))
+      by (Ok tt) p true q false l v s e = ((p, q), inl (l refl))
+      by (Ok tt) p true q true l (resolved cs n) s e = ((p, q), inr (too_much cs b t (room _ _ n (fits cs b t) e)))
+      by (Ok tt) p true q true l (refused g) s e = let z : g ≡ nowhere NoRoom = cc in absurd (other (s ∙ ap refused z))
 
   -- and that it is answered then
-  then-full : FullCall file good w (NeedsMore value b t) → told (asked file good w value) b t ≡ answer.Refused (nowhere NoRoom)
+  then-full : FullCall file good w (NeedsMore value b t) → told (asked file good w value) b t ≡ Err (nowhere NoRoom)
   then-full ((p, q), inl h) = rw (p, q, lt-leb least_scratch w h) refl
   then-full ((p, q), inr h) = rw (p, q) (by value h (leb least_scratch w))
     where
-      by : (v : Value) → NeedsMore v b t → (y : Bool) → told (cond y v (refused (nowhere NoRoom))) b t ≡ answer.Refused (nowhere NoRoom)
+      by : (v : Value) → NeedsMore v b t → (y : Bool) → told (cond y v (refused (nowhere NoRoom))) b t ≡ Err (nowhere NoRoom)
       by (resolved cs n) h true = rw (not-fits cs b t h) refl
       by (resolved cs n) h false = refl
       by (refused f) h y = absurd h
 
-  call-full : (r : Answer) → r ≡ told (asked file good w value) b t → (r ≡ answer.Refused (nowhere NoRoom)) ↔ FullCall file good w (NeedsMore value b t)
+  call-full : (r : Result Chunks Fault) → r ≡ told (asked file good w value) b t → (r ≡ Err (nowhere NoRoom)) ↔ FullCall file good w (NeedsMore value b t)
   call-full r e = (λ q. is-full (sym e ∙ q), λ h. e ∙ then-full h)
 
 -- ---- one literal
@@ -167,8 +164,8 @@ module _ (file : List ℕ) (a e : ℕ) (verb : Bool) where
             only (inr h) = h
         by (literal.refused f) q = (λ h. h, λ h. h)
 
-    literal-full : (w : ℕ) (r : Answer) → r ≡ told (asked file (is_span file a e) w (value_of (resolve_literal verb s a))) b t
-        → (r ≡ answer.Refused (nowhere NoRoom)) ↔ FullCall file (is_span file a e) w (NeedsRoom (value_of (resolve_literal verb s a)) b t)
+    literal-full : (w : ℕ) (r : Result Chunks Fault) → r ≡ told (asked file (is_span file a e) w (value_of (resolve_literal verb s a))) b t
+        → (r ≡ Err (nowhere NoRoom)) ↔ FullCall file (is_span file a e) w (NeedsRoom (value_of (resolve_literal verb s a)) b t)
     literal-full w r p =
         let x = call-full file (is_span file a e) w (value_of (resolve_literal verb s a)) not_full b t r p in
         (λ q. there (x.0 q), λ h. x.1 (back h))

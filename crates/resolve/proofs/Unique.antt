@@ -38,7 +38,7 @@ one-are-lent κs a x y s t p q = p ∙ sym q
 pub one-is-value : One 1 is-value-kinds.ps is-value-kinds.r is-value.Post
 one-is-value κs a x y s t p q = p ∙ sym q
 
-pub one_single : Both 6 single-kinds.ps single-kinds.r single.Post
+pub one_single : Both 5 single-kinds.ps single-kinds.r single.Post
     (λ κs x s y t.
     (x ≡ y) × (s.1.1.1.1.0.now ≡ t.1.1.1.1.0.now) × (s.1.1.1.1.1.0.now ≡ t.1.1.1.1.1.0.now))
 one_single κs a x y s t p q = (p.0.answer ∙ sym q.0.answer, p.0.rows ∙ sym q.0.rows, p.0.text ∙ sym q.0.text)

@@ -3,10 +3,9 @@
 --     months_of               month words with their texts in lent numbers and bytes, four numbers to a word
 --     is_right                rows, chosen row and months are as resolving requires
 -- Assumes nothing.
-use Rattle.std.specs.Prelude.{ℕ, ◌%◌, Bool, true, false, ◌&&◌, List, [], ◌∷◌, map, length, drop, eqb, leb}
+use Rattle.text.specs.declared.utf8.IllFormed.{IllFormed}
+use Rattle.std.specs.Prelude.{ℕ, ◌%◌, Bool, true, false, ◌&&◌, List, [], ◌∷◌, map, length, drop, eqb, leb, Result, Ok, Err, ⊤}
 use Rattle.text.specs.Utf8.{validity_of}
-use Rattle.text.specs.declared.utf8.Validity.{Validity}
-use Rattle.text.specs.declared.utf8.Validity.TheVariants as validity
 use Rattle.text.specs.Scan.{part}
 use Rattle.text.specs.Every.{every}
 use Rattle.row.specs.declared.form.Kind.TheVariants.{Value}
@@ -44,9 +43,9 @@ month_in words r = record { word = part words r.kind r.detail; text = part words
 abbrev pub months_of : List ℕ → List ℕ → List Month
 months_of l words = map (month_in words) (rows_of l)
 
-abbrev pub is_valid : Validity → Bool
-is_valid validity.Valid = true
-is_valid (validity.IllFormed n) = false
+abbrev pub is_valid : Result ⊤ IllFormed → Bool
+is_valid (Ok tt) = true
+is_valid (Err n) = false
 
 -- "a month word or text reversed, outside its lent bytes or not UTF-8"
 abbrev pub is_text : List ℕ → ℕ → ℕ → Bool

@@ -3,9 +3,10 @@
 --     Has               the chunks so far, as the code has them
 --     SaysRun           what a function answers that takes a run further
 --     Counted           what a value came to that was counted and not written
---     ReadyTables       what the functions require
+--     ReadyTables       a scratch and the tables that content is resolved with
 -- Assumes nothing.
-use Rattle.std.specs.Prelude.{ℕ, ◌≤◌, ◌≡◌, Bool, false, not, ◌&&◌, List, ◌++◌, length, leb}
+use Rattle.resolve.specs.declared.answer.Chunks.{Chunks}
+use Rattle.std.specs.Prelude.{ℕ, ◌≤◌, ◌≡◌, Bool, false, not, ◌&&◌, List, ◌++◌, length, leb, Result, Ok, Err}
 use Rattle.std.proofs.lemmas.List.Edits.{sets}
 use Rattle.text.specs.Scan.{part}
 use Rattle.row.specs.declared.fault.Fault.{Fault}
@@ -17,11 +18,7 @@ use Rattle.compose.specs.Composites.{composites}
 use Rattle.command.specs.Names.{names as all_names}
 use Rattle.literal.specs.declared.rows.Rows.{Rows}
 use Rattle.literal.specs.Rows.{most_number, most_rows, RowsHold, texts_of}
-use Rattle.resolve.specs.declared.answer.Answer.{Answer}
-use Rattle.resolve.specs.declared.answer.Answer.TheVariants as answer
 use Rattle.resolve.specs.declared.progress.Progress.{Progress}
-use Rattle.resolve.specs.declared.progress.Went.{Went}
-use Rattle.resolve.specs.declared.progress.Went.TheVariants as went
 use Rattle.resolve.specs.Resolves.{Value, resolved, refused}
 use Rattle.resolve.specs.Runs.{Run, done, stop}
 
@@ -43,8 +40,8 @@ pub record Bounded (st : Progress) : Type 0 where
   pub rows : st.rows.n ≤ most_rows
   pub names : st.names ≤ most_names
 
-abbrev pub answer_of : Progress → Answer
-answer_of st = answer.Chunks st.rows.n st.bytes st.names
+abbrev pub answer_of : Progress → Chunks
+answer_of st = record { rows = st.rows.n; bytes = st.bytes; names = st.names }
 
 -- the chunks cs are appended
 abbrev pub Adds : List Chunk → Progress → List ℕ → List ℕ → Progress → List ℕ → List ℕ → Type 0
@@ -57,35 +54,36 @@ Appends k s a e st t st' t' =
     (ps cs : List Chunk) (b₀ t₀ b b' : List ℕ) → (st.over ≡ false → texts_of cs ≡ part s a e) → Has ps b₀ t₀ st b t
     → (st.over ≡ false → RowsHold (flatten (ps ++ cs)) b₀ k b') → Has (ps ++ cs) b₀ t₀ st' b' t'
 
-abbrev pub SaysRun : Run → Progress → List ℕ → List ℕ → Went → List ℕ → List ℕ → Type 0
-SaysRun (done cs n) st b t (went.Done st') b' t' = (st'.names ≡ n) × Adds cs st b t st' b' t'
-SaysRun (done cs n) st b t (went.Refused f) b' t' = ⊥
-SaysRun (stop g) st b t (went.Done st') b' t' = ⊥
-SaysRun (stop g) st b t (went.Refused f) b' t' = f ≡ g
+abbrev pub SaysRun : Run → Progress → List ℕ → List ℕ → Result Progress Fault → List ℕ → List ℕ → Type 0
+SaysRun (done cs n) st b t (Ok st') b' t' = (st'.names ≡ n) × Adds cs st b t st' b' t'
+SaysRun (done cs n) st b t (Err f) b' t' = ⊥
+SaysRun (stop g) st b t (Ok st') b' t' = ⊥
+SaysRun (stop g) st b t (Err f) b' t' = f ≡ g
 
 -- the places of a refusal have 32 bits
 abbrev pub Narrow : Fault → Type 0
 Narrow f = (f.start ≤ 4294967295) × (f.end ≤ 4294967295)
 
 -- the counts of what elements came to are small, and the places of their refusal have 32 bits
-abbrev pub BoundedWent : Went → Type 0
-BoundedWent (went.Done st) = Bounded st
-BoundedWent (went.Refused f) = Narrow f
+abbrev pub BoundedWent : Result Progress Fault → Type 0
+BoundedWent (Ok st) = Bounded st
+BoundedWent (Err f) = Narrow f
 
 -- the counts of an answer are small, and the places of a refusal have 32 bits
-abbrev pub BoundedAnswer : Answer → Type 0
-BoundedAnswer (answer.Chunks k n m) = (k ≤ most_rows) × (n ≤ most_number) × (m ≤ most_names)
-BoundedAnswer (answer.Refused f) = Narrow f
+abbrev pub BoundedAnswer : Result Chunks Fault → Type 0
+BoundedAnswer (Ok a) = (a.rows ≤ most_rows) × (a.bytes ≤ most_number) × (a.names ≤ most_names)
+BoundedAnswer (Err f) = Narrow f
 
 -- a value that was counted over no room: what it resolves to is counted exactly, or is more than can be written
-abbrev pub Counted : Value → Went → Type 0
-Counted (resolved cs n) (went.Done st) =
+abbrev pub Counted : Value → Result Progress Fault → Type 0
+Counted (resolved cs n) (Ok st) =
     (st.over ≡ not (small cs)) × (st.over ≡ false → (st.rows.n ≡ length cs) × (st.bytes ≡ length (texts_of cs)))
-Counted (resolved cs n) (went.Refused f) = ⊥
-Counted (refused g) (went.Done st) = ⊥
-Counted (refused g) (went.Refused f) = f ≡ g
+Counted (resolved cs n) (Err f) = ⊥
+Counted (refused g) (Ok st) = ⊥
+Counted (refused g) (Err f) = f ≡ g
 
--- what the functions require: a scratch that is long enough, and the tables
+-- a scratch that is long enough, and the two tables as lists: `ready_on` of specs/Asking.antt speaks of them. The functions take the tables as one
+-- value, whose type says what they hold
 pub record ReadyTables (w by_name by_mark : List ℕ) : Type 0 where
   pub scratch : least_scratch ≤ length w
   pub names : by_name ≡ all_names

@@ -5,10 +5,8 @@ ghost use Rattle.resolve.specs.Checks.{every_span, is_value, is_text, are_months
 
 use crate::one_literal;
 use row::check;
-use row::check::Checked;
 use row::form::VALUE;
 use text::utf8;
-use text::utf8::Validity;
 
 pub fn place(n: u32) -> usize
     ensures { result ≡ n }
@@ -37,10 +35,7 @@ fn is_text(words: &[u8], from: usize, to: usize) -> bool
     if (to < from) | (words.len() < to) {
         return false;
     }
-    match utf8::validate(&words[from..to]) {
-        Validity::Valid => true,
-        Validity::IllFormed(_) => false,
-    }
+    utf8::validate(&words[from..to]).is_ok()
 }
 
 // Whether there are four numbers for each month, and every word and every text is right.
@@ -66,13 +61,7 @@ fn are_months(months: &[u32], words: &[u8]) -> bool
 pub fn are_lent(file: &[u8], rows: &[u32], months: &[u32], words: &[u8]) -> bool
     ensures { result ≡ are_lent file.now rows.now months.now words.now }
 {
-    match check::check(rows) {
-        Checked::BadRows => {
-            return false;
-        }
-        Checked::Passed => {}
-    }
-    every_span(file, rows) & are_months(months, words)
+    check::check(rows).is_ok() & every_span(file, rows) & are_months(months, words)
 }
 
 // Whether a row is there and is a value.

@@ -6,21 +6,21 @@ ghost use Rattle.chunk.specs.Chunk.{chunk};
 ghost use Rattle.literal.specs.Literal.{resolve_literal};
 ghost use Rattle.literal.specs.Inner.{ReadTo};
 ghost use Rattle.resolve.specs.Resolves.{resolved, Writes, Resolves};
-ghost use Rattle.resolve.specs.Progress.{ReadyTables, BoundedAnswer};
+ghost use Rattle.resolve.specs.Progress.{BoundedAnswer};
 ghost use Rattle.resolve.specs.OneLiteral.{is_span, value_of, literal_of};
 
-use crate::answer::Answer;
+use crate::answer::Chunks;
 use crate::{answer, progress};
-use chunk::answer::Checked;
 use chunk::put;
+use command::tables::Tables;
 use command::{names as commands, stack};
 use compose;
 use literal::parse;
-use literal::parse::{Begun, Parsed};
+use literal::parse::Begun;
 use literal::rows::Rows;
 use row::fault::{Fault, Reason};
-use row::form;
 use row::limits::LEAST_SCRATCH;
+use row::{fault, form};
 use text::utf8;
 
 // Whether a span lies in the file and cuts no character.
@@ -42,10 +42,9 @@ fn write(
     scratch: &mut [u8],
     chunks: &mut [u32],
     text: &mut [u8],
-    names: &[u8],
-    marks: &[u32],
-) -> Answer
-    requires { (base + length s.now ≤ most_bytes) × ReadyTables scratch.old names.now marks.now × ReadTo verbatim s.now at len scratch.old }
+    tables: Tables,
+) -> Result<Chunks, Fault>
+    requires { (base + length s.now ≤ most_bytes) × (least_scratch ≤ length scratch.old) × ReadTo verbatim s.now at len scratch.old }
     ensures { Writes (value_of (resolve_literal verbatim s.now base)) chunks.old text.old result
         chunks.new text.new }
 {
@@ -56,33 +55,25 @@ fn write(
         start: 0,
     };
     let mut few = [0u32; 160];
-    match parse::rest(
-        s, base, verbatim, 0, none, at, len, scratch, &mut few, names, marks,
-    ) {
-        Parsed::Refused(f) => Answer::Refused(f),
-        Parsed::Chunks { rows, len } => {
-            let n = rows.n;
-            if (chunks.len() / 5 < n) | (text.len() < len) {
-                return Answer::Refused(Fault {
-                    reason: Reason::NoRoom,
-                    start: 0,
-                    end: 0,
-                });
-            }
-            put::copy(scratch, 0, len, text, 0);
-            let answer = Answer::Chunks {
-                rows: n,
-                bytes: len,
-                names: 0,
-            };
-            if n <= 32 {
-                form::copy_numbers(&few, n * 5, chunks);
-                return answer;
-            }
-            parse::parse(s, base, verbatim, 0, none, scratch, chunks, names, marks);
-            answer
-        }
+    let (rows, len) = parse::rest(
+        s, base, verbatim, 0, none, at, len, scratch, &mut few, tables,
+    )?;
+    let n = rows.n;
+    if (chunks.len() / 5 < n) | (text.len() < len) {
+        return Err(fault::nowhere(Reason::NoRoom));
     }
+    put::copy(scratch, 0, len, text, 0);
+    let answer = Ok(Chunks {
+        rows: n,
+        bytes: len,
+        names: 0,
+    });
+    if n <= 32 {
+        form::copy_numbers(&few, n * 5, chunks);
+        return answer;
+    }
+    let _ = parse::parse(s, base, verbatim, 0, none, scratch, chunks, tables);
+    answer
 }
 
 // A literal that is one Normal chunk, whose text is the first n bytes of t.
@@ -93,25 +84,21 @@ fn one_chunk(
     end: usize,
     chunks: &mut [u32],
     text: &mut [u8],
-) -> Answer
+) -> Result<Chunks, Fault>
     requires { (n ≤ least_scratch) × (n ≤ length t.now) × (start ≤ most_bytes) × (end ≤ most_bytes) }
     ensures { Writes (resolved (chunk Normal (take n t.now) start end ∷ []) 0) chunks.old text.old result
         chunks.new text.new }
 {
     if (chunks.len() / 5 < 1) | (text.len() < n) {
-        return Answer::Refused(Fault {
-            reason: Reason::NoRoom,
-            start: 0,
-            end: 0,
-        });
+        return Err(fault::nowhere(Reason::NoRoom));
     }
     parse::whole(start, end, 0, n, progress::none(), chunks);
     put::copy(t, 0, n, text, 0);
-    Answer::Chunks {
+    Ok(Chunks {
         rows: 1,
         bytes: n,
         names: 0,
-    }
+    })
 }
 
 // Resolves a literal that stands at `base` in its file, by tables that are lent.
@@ -122,19 +109,16 @@ pub fn single(
     scratch: &mut [u8],
     chunks: &mut [u32],
     text: &mut [u8],
-    names: &[u8],
-    marks: &[u32],
-) -> Answer
-    requires { (base + length s.now ≤ most_bytes) × ReadyTables scratch.old names.now marks.now }
+    tables: Tables,
+) -> Result<Chunks, Fault>
+    requires { (base + length s.now ≤ most_bytes) × (least_scratch ≤ length scratch.old) }
     ensures writes { Writes (value_of (resolve_literal verbatim s.now base)) chunks.old text.old result
         chunks.new text.new }
     ensures bounded_answer { BoundedAnswer result }
 {
     match parse::begin(s, verbatim, scratch) {
         Begun::Whole(n) => one_chunk(scratch, n, base, base + s.len(), chunks, text),
-        Begun::Part { at, len } => write(
-            s, base, verbatim, at, len, scratch, chunks, text, names, marks,
-        ),
+        Begun::Part { at, len } => write(s, base, verbatim, at, len, scratch, chunks, text, tables),
     }
 }
 
@@ -146,7 +130,7 @@ fn with_tables(
     scratch: &mut [u8],
     chunks: &mut [u32],
     text: &mut [u8],
-) -> Answer
+) -> Result<Chunks, Fault>
     requires { (base + length s.now ≤ most_bytes) × (least_scratch ≤ length scratch.old) }
     ensures { Writes (value_of (resolve_literal verbatim s.now base)) chunks.old text.old result
         chunks.new text.new }
@@ -156,9 +140,11 @@ fn with_tables(
         Begun::Part { at, len } => {
             let names = commands::names();
             let marks = compose::table();
-            write(
-                s, base, verbatim, at, len, scratch, chunks, text, &names, &marks,
-            )
+            let tables = Tables {
+                names: &names,
+                marks: &marks,
+            };
+            write(s, base, verbatim, at, len, scratch, chunks, text, tables)
         }
     }
 }
@@ -172,29 +158,16 @@ fn literal(
     scratch: &mut [u8],
     chunks: &mut [u32],
     text: &mut [u8],
-) -> Answer
+) -> Result<Chunks, Fault>
     ensures { Writes (literal_of file.now start end verbatim (length scratch.old)) chunks.old
         text.old result chunks.new text.new }
 {
-    match answer::check_file(file) {
-        Checked::Refused(f) => {
-            return Answer::Refused(f);
-        }
-        Checked::Passed => {}
-    }
+    answer::check_file(file)?;
     if !is_span(file, start, end) {
-        return Answer::Refused(Fault {
-            reason: Reason::BadRows,
-            start: 0,
-            end: 0,
-        });
+        return Err(fault::nowhere(Reason::BadRows));
     }
     if scratch.len() < LEAST_SCRATCH {
-        return Answer::Refused(Fault {
-            reason: Reason::NoRoom,
-            start: 0,
-            end: 0,
-        });
+        return Err(fault::nowhere(Reason::NoRoom));
     }
     with_tables(&file[start..end], start, verbatim, scratch, chunks, text)
 }
@@ -209,7 +182,7 @@ pub fn resolve_literal(
     scratch: &mut [u8],
     chunks: &mut [u32],
     text: &mut [u8],
-) -> Answer
+) -> Result<Chunks, Fault>
     ensures { Resolves (literal_of file.now start end verbatim (length scratch.old)) scratch.old
         chunks.old text.old result scratch.new chunks.new text.new }
 {

@@ -2,7 +2,7 @@
 ghost use Rattle.std.specs.Prelude.{◌≡◌, true, List, [], ◌∷◌, ◌++◌, ℕ, ◌+◌, ◌*◌, ◌≤◌, length, take, drop};
 ghost use Rattle.std.proofs.lemmas.List.Edits.{sets};
 ghost use Rattle.text.specs.Scan.{part};
-ghost use Rattle.row.specs.Limits.{most_bytes, most_names};
+ghost use Rattle.row.specs.Limits.{most_bytes, most_names, least_scratch};
 ghost use Rattle.chunk.specs.declared.form.Kind.TheVariants.{Normal};
 ghost use Rattle.chunk.specs.Chunk.{Chunk, chunk};
 ghost use Rattle.turn.specs.Content.{flatten};
@@ -10,12 +10,12 @@ ghost use Rattle.literal.specs.Rows.{RowsHold};
 ghost use Rattle.literal.specs.Literal.{resolve_literal};
 ghost use Rattle.resolve.specs.Resolves.{fits as fits_of};
 ghost use Rattle.resolve.specs.Runs.{of_literal};
-ghost use Rattle.resolve.specs.Progress.{small, Has, answer_of, Bounded, Adds, Appends, SaysRun, BoundedWent, ReadyTables};
+ghost use Rattle.resolve.specs.Progress.{small, Has, answer_of, Bounded, Adds, Appends, SaysRun, BoundedWent};
 
-use crate::answer::Answer;
+use crate::answer::Chunks;
 use chunk::form::Kind;
 use chunk::put;
-use literal::parse::Parsed;
+use command::tables::Tables;
 use literal::rows::{MOST_NUMBER, MOST_ROWS, Rows};
 use literal::{making, parse, rows};
 use row::fault::Fault;
@@ -28,13 +28,6 @@ pub struct Progress {
     pub bytes: usize,
     pub names: usize,
     pub over: bool,
-}
-
-// What elements came to.
-#[derive(Clone, Copy)]
-pub enum Went {
-    Done(Progress),
-    Refused(Fault),
 }
 
 // No row so far.
@@ -103,20 +96,17 @@ pub fn literal(
     scratch: &mut [u8],
     chunks: &mut [u32],
     text: &mut [u8],
-    known: &[u8],
-    marks: &[u32],
-) -> Went
-    requires { ReadyTables scratch.old known.now marks.now × Bounded st × (base + length s.now ≤ most_bytes) }
+    tables: Tables,
+) -> Result<Progress, Fault>
+    requires { (least_scratch ≤ length scratch.old) × Bounded st × (base + length s.now ≤ most_bytes) }
     ensures says_run { SaysRun (of_literal (resolve_literal verb s.now base) st.names) st chunks.old text.old result
         chunks.new text.new }
     ensures bounded_went { BoundedWent result }
 {
     let before = st.bytes;
     let have = st.rows;
-    match parse::parse(s, base, verb, before, have, scratch, chunks, known, marks) {
-        Parsed::Refused(f) => Went::Refused(f),
-        Parsed::Chunks { rows, len } => Went::Done(append(st, rows, scratch, 0, len, text)),
-    }
+    let (rows, len) = parse::parse(s, base, verb, before, have, scratch, chunks, tables)?;
+    Ok(append(st, rows, scratch, 0, len, text))
 }
 
 // Appends the text of a month word, which stands in `words`, as one Normal chunk. The word is used in the file from `start` to `end`.
@@ -189,11 +179,11 @@ pub fn copy_out(st: Progress, few: &[u32], short: &[u8], chunks: &mut [u32], tex
 }
 
 // What was counted, as an answer.
-pub fn answer(st: Progress) -> Answer
+pub fn answer(st: Progress) -> Chunks
     ensures { result ≡ answer_of st }
 {
     let rows = st.rows;
-    Answer::Chunks {
+    Chunks {
         rows: rows.n,
         bytes: st.bytes,
         names: st.names,

@@ -5,12 +5,18 @@ use mathlib.Core.Path.{◌≡◌, sym, ◌∙◌}
 use Rattle.text.proofs.general.Outcomes.{Both, One}
 use Rattle.row.proofs.fault.fault_at.Kinds as fault-at-kinds
 use Rattle.row.proofs.fault.fault_at.Reads as fault-at
+use Rattle.row.proofs.fault.nowhere.Kinds as nowhere-kinds
+use Rattle.row.proofs.fault.nowhere.Reads as nowhere
+use Rattle.row.proofs.fault.FaultFromIllFormed.from.Kinds as ill-formed-kinds
+use Rattle.row.proofs.fault.FaultFromIllFormed.from.Reads as ill-formed
 use Rattle.row.proofs.fault.number.Kinds as number-kinds
 use Rattle.row.proofs.fault.number.Reads as number
 use Rattle.row.proofs.check.is_detail.Kinds as is-detail-kinds
 use Rattle.row.proofs.check.is_detail.Reads as is-detail
 use Rattle.row.proofs.check.check.Kinds as check-kinds
 use Rattle.row.proofs.check.check.Reads as check
+use Rattle.row.proofs.form.U32FromKind.from.Kinds as number-of-kind-kinds
+use Rattle.row.proofs.form.U32FromKind.from.Reads as number-of-kind
 use Rattle.row.proofs.form.write_numbers.Kinds as write-numbers-kinds
 use Rattle.row.proofs.form.write_numbers.Reads as write-numbers
 use Rattle.row.proofs.form.write_row.Kinds as write-row-kinds
@@ -29,6 +35,12 @@ use Rattle.row.proofs.mask.is_whole.Reads as is_whole
 pub one-fault-at : One 0 fault-at-kinds.ps fault-at-kinds.r fault-at.Post
 one-fault-at κs a x y s t p q = p ∙ sym q
 
+pub one-nowhere : One 0 nowhere-kinds.ps nowhere-kinds.r nowhere.Post
+one-nowhere κs a x y s t p q = p ∙ sym q
+
+pub one-FaultFromIllFormed : One 0 ill-formed-kinds.ps ill-formed-kinds.r ill-formed.Post
+one-FaultFromIllFormed κs a x y s t p q = p ∙ sym q
+
 pub one_number : One 0 number-kinds.ps number-kinds.r number.Post
 one_number κs a x y s t p q = p ∙ sym q
 
@@ -46,6 +58,9 @@ one-step κs a x y s t p q = p ∙ sym q
 
 pub one-is-whole : One 0 is-whole-kinds.ps is-whole-kinds.r is_whole.Post
 one-is-whole κs a x y s t p q = p ∙ sym q
+
+pub one-U32FromKind : One 0 number-of-kind-kinds.ps number-of-kind-kinds.r number-of-kind.Post
+one-U32FromKind κs a x y s t p q = p ∙ sym q
 
 -- those that write leave the same numbers
 pub one-write-numbers : Both 1 write-numbers-kinds.ps write-numbers-kinds.r write-numbers.Post (λ κs x s y t. s.0.now ≡ t.0.now)

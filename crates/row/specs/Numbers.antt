@@ -4,14 +4,12 @@
 --     are_rows, check_of    what `check` answers
 --     await_of, state_of    the code's words for what may come next, and `Rules`' words
 -- Assumes nothing.
-use Rattle.std.specs.Prelude.{ℕ, ◌+◌, ◌%◌, Bool, cond, ◌&&◌, List, [], ◌∷◌, length, eqb}
+use Rattle.row.specs.declared.fault.Reason.TheVariants.{BadRows}
+use Rattle.row.specs.declared.fault.Reason.{Reason}
+use Rattle.std.specs.Prelude.{ℕ, ◌+◌, ◌%◌, Bool, cond, ◌&&◌, List, [], ◌∷◌, length, eqb, Option, Some, None, Result, Ok, Err, ⊤}
 use Rattle.row.specs.declared.form.Kind.TheVariants.{Value}
 use Rattle.row.specs.declared.check.State.{State}
 use Rattle.row.specs.declared.check.State.TheVariants as state
-use Rattle.row.specs.declared.check.Found.{Found}
-use Rattle.row.specs.declared.check.Found.TheVariants as found
-use Rattle.row.specs.declared.check.Checked.{Checked}
-use Rattle.row.specs.declared.check.Checked.TheVariants as checked
 use Rattle.row.specs.Row.{Row}
 use Rattle.row.specs.Rules.{Await, part, type, key, value, chunk, chunks, cause, wrong, is_kind, whole, is_rows}
 
@@ -26,8 +24,8 @@ rows_of (a ∷ b ∷ c ∷ d ∷ l) = record { kind = a; detail = b; start = c; 
 unfoldable pub are_rows : List ℕ → Bool
 are_rows l = eqb (length l % 4) 0 && is_rows (rows_of l)
 
-abbrev pub check_of : List ℕ → Checked
-check_of l = cond (are_rows l) checked.Passed checked.BadRows
+abbrev pub check_of : List ℕ → Result ⊤ Reason
+check_of l = cond (are_rows l) (Ok tt) (Err BadRows)
 
 -- ---- the code's words
 
@@ -58,6 +56,6 @@ abbrev pub or_wrong : Bool → State → State
 or_wrong b s = cond b s state.Wrong
 
 -- the rows stand from number i on: whether the first is a value row, and the number behind it
-unfoldable pub found_of : ℕ → List Row → Found
-found_of i [] = found.Other
-found_of i (r ∷ rs) = cond (is_kind Value r.kind && eqb r.detail 0) (found.Value (i + 4)) found.Other
+unfoldable pub found_of : ℕ → List Row → Option ℕ
+found_of i [] = None
+found_of i (r ∷ rs) = cond (is_kind Value r.kind && eqb r.detail 0) (Some (i + 4)) None

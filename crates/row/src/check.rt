@@ -7,6 +7,8 @@ ghost use Rattle.std.specs.Prelude.{◌≡◌, cond, ◌≤◌, length, drop};
 ghost use Rattle.row.specs.Rules.{is_detail, begun, next, wrong};
 ghost use Rattle.row.specs.Numbers.{await_of, state_of, whole_of, or_wrong, found_of, rows_of, check_of};
 
+use crate::fault::Reason;
+
 // What may come next, with the words of specs/Rules.antt. The flag says that a field may follow.
 #[derive(Clone, Copy)]
 pub enum State {
@@ -20,20 +22,7 @@ pub enum State {
     Wrong,
 }
 
-// What stands where a value row must stand: a value row, and the place after it; or anything else.
-#[derive(Clone, Copy)]
-pub enum Found {
-    Value(usize),
-    Other,
-}
-
-#[derive(Clone, Copy)]
-pub enum Checked {
-    Passed,
-    BadRows,
-}
-
-// Whether a row of the kind may have the detail.
+// Whether a row of the kind may have the detail. Kinds are numbers in this file, because any number may stand where a row has its kind.
 pub fn is_detail(kind: u32, detail: u32) -> bool
     ensures { result ≡ is_detail kind detail }
 {
@@ -100,38 +89,30 @@ fn step(state: State, kind: u32, detail: u32) -> State
 fn is_whole(state: State) -> bool
     ensures { result ≡ whole_of state }
 {
-    match state {
-        State::Part(_) => true,
-        State::Type => false,
-        State::Key => false,
-        State::Value(_) => false,
-        State::Chunk(_) => false,
-        State::Chunks(_) => true,
-        State::Cause => false,
-        State::Wrong => false,
-    }
+    matches!(state, State::Part(_) | State::Chunks(_))
 }
 
-// The row from number i on, taken as a value row.
-fn value_row(rows: &[u32], i: usize) -> Found
+// The place after the row from number i on, if that is a value row.
+fn value_row(rows: &[u32], i: usize) -> Option<usize>
     requires { i ≤ length rows.now }
     ensures { result ≡ found_of i (rows_of (drop i rows.now)) }
 {
     if rows.len() - i < 4 {
-        return Found::Other;
+        return None;
     }
     if (rows[i] == 5) & (rows[i + 1] == 0) {
-        return Found::Value(i + 4);
+        return Some(i + 4);
     }
-    Found::Other
+    None
 }
 
-// Whether the numbers are rows, a whole count of them, in 01's sequence and with 01's details.
-pub fn check(rows: &[u32]) -> Checked
+// Whether the numbers are rows, a whole count of them, in 01's sequence and with 01's details. A turn takes a row, or a name's row and its value's:
+// 01 asks for the `let .. else`.
+pub fn check(rows: &[u32]) -> Result<(), Reason>
     ensures { result ≡ check_of rows.now }
 {
     if rows.len() % 4 != 0 {
-        return Checked::BadRows;
+        return Err(Reason::BadRows);
     }
     let mut state = State::Part(false);
     let mut i = 0;
@@ -142,14 +123,14 @@ pub fn check(rows: &[u32]) -> Checked
             continue;
         };
         // After the name of a field or a definition.
-        let Found::Value(next) = value_row(rows, i) else {
-            return Checked::BadRows;
+        let Some(next) = value_row(rows, i) else {
+            return Err(Reason::BadRows);
         };
         state = State::Chunk(field);
         i = next;
     }
     if is_whole(state) {
-        return Checked::Passed;
+        return Ok(());
     }
-    Checked::BadRows
+    Err(Reason::BadRows)
 }

@@ -1,7 +1,9 @@
-// Why a call refuses, and where: one refusal for all calls [01:Numbers a caller can get]. And what a call comes to, where that is a count or
-// a refusal.
+// Why a call refuses, and where: one refusal for all calls [01:Numbers a caller can get].
 ghost use Rattle.std.specs.Prelude.{◌≡◌};
-ghost use Rattle.row.specs.Fault.{number_of, fault_at};
+ghost use Rattle.row.specs.Fault.{number_of, fault_at, nowhere};
+ghost use Rattle.row.specs.declared.fault.Reason.TheVariants.{NotUtf8};
+
+use text::utf8::IllFormed;
 
 // Document 01's table, in its order.
 #[derive(Clone, Copy)]
@@ -44,11 +46,20 @@ pub fn fault_at(reason: Reason, at: usize) -> Fault
     }
 }
 
-// What a call comes to: the count of what it wrote, or a refusal.
-#[derive(Clone, Copy)]
-pub enum Outcome {
-    Count(usize),
-    Refused(Fault),
+// A refusal to which 01 gives no place.
+pub fn nowhere(reason: Reason) -> Fault
+    ensures { result ≡ nowhere reason }
+{
+    fault_at(reason, 0)
+}
+
+// [01:Numbers a caller can get] 2, at the first ill-formed sequence.
+impl From<IllFormed> for Fault {
+    ghost from_gives = { λ e f. f ≡ fault_at NotUtf8 e.at };
+
+    fn from(e: IllFormed) -> Fault {
+        fault_at(Reason::NotUtf8, e.at)
+    }
 }
 
 // Document 01's number of a reason.

@@ -19,7 +19,7 @@ pub enum Kind {
     Cause,
 }
 
-// The numbers of the kinds that rows are searched for.
+// The numbers of the kinds that rows are searched for. What is searched are lent numbers, which a `Kind` need not be.
 pub const VALUE: u32 = 5;
 
 pub const LITERAL: u32 = 6;
@@ -28,21 +28,11 @@ pub const NAME: u32 = 7;
 
 pub const DEFINITION_NAME: u32 = 8;
 
-fn kind_number(kind: Kind) -> u32
-    ensures { result ≡ kind_of kind }
-{
-    match kind {
-        Kind::Preamble => 0,
-        Kind::Entry => 1,
-        Kind::EntryType => 2,
-        Kind::Key => 3,
-        Kind::FieldName => 4,
-        Kind::Value => VALUE,
-        Kind::Literal => LITERAL,
-        Kind::Name => NAME,
-        Kind::DefinitionName => DEFINITION_NAME,
-        Kind::Damage => 9,
-        Kind::Cause => 10,
+impl From<Kind> for u32 {
+    ghost from_gives = { λ k n. n ≡ kind_of k };
+
+    fn from(kind: Kind) -> u32 {
+        kind as u32
     }
 }
 
@@ -64,7 +54,7 @@ pub fn write_row(rows: &mut [u32], n: usize, kind: Kind, detail: u32, start: usi
     requires { (start ≤ most_bytes) × (end ≤ most_bytes) }
     ensures { rows.new ≡ put_row rows.old n (row_with kind detail start end) }
 {
-    write_numbers(rows, n, kind_number(kind), detail, start as u32, end as u32)
+    write_numbers(rows, n, u32::from(kind), detail, start as u32, end as u32)
 }
 
 // A row with detail 0, over a part of a text that stands base bytes into a file.
@@ -80,9 +70,5 @@ pub fn copy_numbers(from: &[u32], n: usize, out: &mut [u32])
     requires { (n ≤ length from.now) × (n ≤ length out.old) }
     ensures { out.new ≡ take n from.now ++ drop n out.old }
 {
-    let mut i = 0;
-    while i < n {
-        out[i] = from[i];
-        i += 1;
-    }
+    out[..n].copy_from_slice(&from[..n]);
 }

@@ -1,12 +1,6 @@
 -- The proof of specs/Demand3.antt: `demand3`.
 -- Assumes nothing.
-use Prim.Native.Nat.{ℕ, ◌+◌, ◌≤◌}
-use native.Mathlib.Omega.{arith}
-use mathlib.Core.Path.{◌≡◌, sym, subst}
-use mathlib.Core.Logic.{◌↔◌}
-use mathlib.Core.Bool.{true}
-use mathlib.Core.List.{List}
-use lib.ListN.{length}
+use Rattle.std.proofs.Common.{ℕ, ◌+◌, ◌≤◌, arith, ◌≡◌, sym, subst, ◌↔◌, true, List, length}
 use Rattle.row.specs.Limits.{most_bytes}
 use Rattle.row.specs.Row.{Row}
 use Rattle.row.specs.Rules.{is_rows, clean}

@@ -1,13 +1,6 @@
 -- Which refusals salvage can answer, and their places: `refusals`.
 -- Assumes nothing.
-use Prim.Native.Nat.{ℕ}
-use native.Mathlib.Omega.{arith}
-use mathlib.Core.Path.{◌≡◌, refl, ap, subst}
-use mathlib.Core.Logic.{⊎_elim}
-use mathlib.Core.Bool.{Bool, true, false, cond}
-use mathlib.Core.List.{List}
-use lib.ListN.{length}
-use lib.Dec.{leb}
+use Rattle.std.proofs.Common.{ℕ, arith, ◌≡◌, refl, ap, subst, ⊎_elim, Bool, true, false, cond, List, length, leb}
 use Rattle.row.specs.declared.fault.Reason.TheVariants.{TooLong, NoRoom}
 use Rattle.row.specs.declared.fault.Fault.{Fault}
 use Rattle.row.specs.Fault.{number_of, nowhere}
@@ -23,7 +16,7 @@ unfolding salvaged
 long-fault s f = by (leb (length s) most_bytes)
   where
     by : (x : Bool) → cond x (ok (length s) (salvage_of s)) (bad (nowhere TooLong)) ≡ bad f → SalvageFault f
-    by true e = let z : ◌≡◌ {A = ℕ} 0 1 = cc in absurd (omega arith)
+    by true e = cc
     by false e = let q : nowhere TooLong ≡ f = cc in subst SalvageFault q long
 
 -- that refusal is not 16
@@ -32,7 +25,7 @@ unfolding salvaged
 salvaged-not-full s = by (leb (length s) most_bytes)
   where
     by : (x : Bool) → cond x (ok (length s) (salvage_of s)) (bad (nowhere TooLong)) ≡ bad (nowhere NoRoom) → ⊥
-    by true e = let z : ◌≡◌ {A = ℕ} 0 1 = cc in absurd (omega arith)
+    by true e = cc
     by false e =
         let q : nowhere TooLong ≡ nowhere NoRoom = cc in
         let n : ◌≡◌ {A = ℕ} 1 16 = ap (λ (f : Fault). number_of f.reason) q in absurd (omega arith)

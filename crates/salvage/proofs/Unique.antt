@@ -4,12 +4,7 @@
 --     the same answer                                                               `piece_end`
 --     the same answer, and where the piece's rows fit, the same rows in front       `read_piece`
 -- Assumes nothing.
-use Prim.Native.Nat.{ℕ, ◌-◌, ◌*◌, ◌≤◌}
-use native.Mathlib.Omega.{arith}
-use mathlib.Core.Path.{◌≡◌, sym, ap, ◌∙◌}
-use mathlib.Core.List.{List, [], ◌∷◌}
-use lib.ListN.{length, take, drop, length-drop}
-use lib.Seq.{length-take-le}
+use Rattle.std.proofs.Common.{ℕ, ◌-◌, ◌*◌, ◌≤◌, arith, ◌≡◌, sym, ap, ◌∙◌, List, [], ◌∷◌, length, take, drop, length-drop, length-take-le}
 use contract.Lifetimes.{Lfts}
 use Rattle.text.proofs.general.Outcomes.{Both, One}
 use Rattle.raw.specs.Read.{strict}

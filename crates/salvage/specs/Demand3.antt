@@ -1,12 +1,9 @@
 -- Demand 3: one author's damaged file never costs another's entry. The proof is `demand3` of proofs/Demand3.antt.
 -- Assumes nothing.
-use Rattle.std.specs.Prelude.{ℕ, suc, ◌+◌, ◌/◌, ◌*◌, ◌≤◌, ◌<◌, ◌≡◌, ◌↔◌, Bool, true, false, List, [], ◌∷◌, ◌++◌, length, get_or, drop}
+use Rattle.std.specs.Prelude.{ℕ, suc, ◌+◌, ◌/◌, ◌*◌, ◌≤◌, ◌<◌, ◌≡◌, ◌↔◌, Bool, true, false, List, [], ◌∷◌, ◌++◌, length, get_or, drop, Some, Result, Ok}
 use Rattle.text.specs.Scan.{see}
-use Rattle.text.specs.declared.scanner.Seen.TheVariants.{Char}
 use Rattle.row.specs.declared.fault.Fault.{Fault}
 use Rattle.row.specs.Fault.{number_of}
-use Rattle.raw.specs.declared.answer.Reading.{Reading}
-use Rattle.raw.specs.declared.answer.Reading.TheVariants as reading
 use Rattle.row.specs.Row.{Row, row_of, moved, flat}
 use Rattle.row.specs.Spans.{SpansIn}
 use Rattle.raw.specs.Reader.{ok, again, bad}
@@ -31,8 +28,8 @@ fresh [] = true
 fresh (b ∷ s) = head (b ∷ s)
 
 -- the answer is the number of the rows, which stand in front of what was lent
-pub record Holds (rs : List Row) (b : List ℕ) (r : Reading) (b' : List ℕ) : Type 0 where
-  pub answer : r ≡ reading.Rows (length rs)
+pub record Holds (rs : List Row) (b : List ℕ) (r : Result ℕ Fault) (b' : List ℕ) : Type 0 where
+  pub answer : r ≡ Ok (length rs)
   pub rows : b' ≡ flat rs ++ drop (length rs * 4) b
 
 -- the bytes of texts, joined
@@ -64,7 +61,7 @@ pub data Boundary (s : List ℕ) : ℕ → Type 0 where
 
 -- strict reading, from p on, opens an entry at e: its "@" stands after the white space at p, or is opened after one more turn
 pub data Opens (s : List ℕ) : ℕ → ℕ → Type 0 where
-  here : {p e n : ℕ} → white s p ≡ ok e [] → see s e ≡ Char 0x40 n → Opens s p e
+  here : {p e n : ℕ} → white s p ≡ ok e [] → see s e ≡ Some (0x40, n) → Opens s p e
   later : {p q e a : ℕ} {rs : List Row} → file_turn 0 s p ≡ again q rs a → Opens s q e → Opens s p e
 
 -- strict reading accepts the whole file, with these rows, and every boundary opens one of its entries
@@ -84,10 +81,10 @@ pub record Demand3 : Type 0 where
   -- gives P's rows, then S's rows moved by P's length, however damaged P is."
   -- Of the definition, and of the call: here P is a, and S is s.
   pub parts : (a s : List ℕ) → lined a ≡ true → fresh s ≡ true → salvage_of (a ++ s) ≡ salvage_of a ++ moved (length a) (salvage_of s)
-  pub calls : (a s x y b x' y' b' : List ℕ) (m n : ℕ) (r : Reading)
+  pub calls : (a s x y b x' y' b' : List ℕ) (m n : ℕ) (r : Result ℕ Fault)
       → lined a ≡ true → fresh s ≡ true → length (a ++ s) ≤ most_bytes → m + n ≤ length b / 4
-      → Salvage a x (reading.Rows m) x' → Salvage s y (reading.Rows n) y' → Salvage (a ++ s) b r b'
-      → (rs : List Row) × (ss : List Row) × Holds rs x (reading.Rows m) x' × Holds ss y (reading.Rows n) y' × Holds (rs ++ moved (length a) ss) b r b'
+      → Salvage a x (Ok m) x' → Salvage s y (Ok n) y' → Salvage (a ++ s) b r b'
+      → (rs : List Row) × (ss : List Row) × Holds rs x (Ok m) x' × Holds ss y (Ok n) y' × Holds (rs ++ moved (length a) ss) b r b'
   -- "Each piece gives the strict rows of that piece alone, at their places in the file, or, exactly if strict reading refuses it, a damage row
   -- and its cause."
   pub each : (s : List ℕ) (ws : Texts) (w : List ℕ) (vs : Texts) → length s ≤ most_bytes → cut s ≡ ws ++ w ∷ vs → PieceGives s ws w vs
@@ -96,8 +93,8 @@ pub record Demand3 : Type 0 where
   -- Of the definition, and of the call, which leaves rows rs in front of what was lent.
   pub undamaged : (s : List ℕ) → length s ≤ most_bytes → (clean (salvage_of s) ≡ true) ↔ ((rs : List Row) × Whole s rs)
   pub strictly : (s : List ℕ) (rs : List Row) → Whole s rs → salvage_of s ≡ rs
-  pub shows : (s b b' : List ℕ) (n : ℕ) → Salvage s b (reading.Rows n) b'
-      → (rs : List Row) × Holds rs b (reading.Rows n) b' × ((clean rs ≡ true) ↔ ((ss : List Row) × Whole s ss)) × ((ss : List Row) → Whole s ss → rs ≡ ss)
+  pub shows : (s b b' : List ℕ) (n : ℕ) → Salvage s b (Ok n) b'
+      → (rs : List Row) × Holds rs b (Ok n) b' × ((clean rs ≡ true) ↔ ((ss : List Row) × Whole s ss)) × ((ss : List Row) → Whole s ss → rs ≡ ss)
   -- Besides: the rows pass the row check, their starts never fall, and their spans lie in the file
   pub checked : (s : List ℕ) → length s ≤ most_bytes → is_rows (salvage_of s) ≡ true
   pub rising : (s : List ℕ) → Rising 0 (salvage_of s)

@@ -1,6 +1,6 @@
 -- Definitions for the contracts of the inner functions of src/.
 -- Assumes nothing.
-use Rattle.std.specs.Prelude.{ℕ, ◌+◌, ◌-◌, ◌*◌, ◌≤◌, ◌<◌, ◌≡◌, Bool, true, cond, List, ◌∷◌, length, take, drop}
+use Rattle.std.specs.Prelude.{ℕ, ◌+◌, ◌-◌, ◌*◌, ◌≤◌, ◌<◌, ◌≡◌, Bool, true, List, ◌∷◌, length, take, drop}
 use Rattle.text.specs.Utf8.{Octets}
 use Rattle.row.specs.declared.fault.Fault.{Fault}
 use Rattle.row.specs.Row.{Row, moved, flat}
@@ -10,7 +10,6 @@ use Rattle.row.specs.Rules.{clean}
 use Rattle.salvage.specs.Salvage.{cut, told, salvage_of}
 use Rattle.salvage.specs.Demand3.{fresh}
 use Rattle.salvage.specs.declared.piece.Tally.{Tally}
-use Rattle.salvage.specs.declared.piece.Tally.TheVariants.{Sound, Damaged}
 
 -- ---- a piece
 
@@ -33,9 +32,9 @@ pub record DamageToWrite (w : List ℕ) (base : ℕ) (f : Fault) : Type 0 where
   pub from : f.start ≤ length w
   pub to : f.end ≤ length w
 
--- how many the rows are, and whether a damage row is among them
+-- how many the rows are, and whether no damage row is among them
 abbrev pub tally_of : List Row → Tally
-tally_of rs = cond (clean rs) (Sound (length rs)) (Damaged (length rs))
+tally_of rs = record { rows = length rs; sound = clean rs }
 
 -- the piece w, base bytes into the file, puts its rows in front of the lent numbers b where all of them fit. Nothing is said of the numbers
 -- behind them
@@ -60,8 +59,3 @@ pub record FileToRead (s : List ℕ) (n : ℕ) : Type 0 where
 pub record FillsRows (s b : List ℕ) (r : Tally) (b' : List ℕ) : Type 0 where
   pub tally : r ≡ tally_of (salvage_of s)
   pub rows : length b ≡ length (salvage_of s) * 4 → b' ≡ flat (salvage_of s)
-
--- what writing the rows requires: that the file is inside 01's limit, and that it has n rows
-pub record RowsToWrite (s : List ℕ) (n : ℕ) : Type 0 where
-  pub short : length s ≤ most_bytes
-  pub rows : n ≡ length (salvage_of s)

@@ -1,10 +1,9 @@
 -- Which refusals salvage can answer [01:Numbers a caller can get]: "Salvage itself refuses only with 1 and 16". The proof is `refusals` of
 -- proofs/Refusals.antt. Assumes nothing.
-use Rattle.std.specs.Prelude.{ℕ, List}
+use Rattle.std.specs.Prelude.{ℕ, List, Err}
 use Rattle.row.specs.declared.fault.Reason.TheVariants.{TooLong, NoRoom}
 use Rattle.row.specs.declared.fault.Fault.{Fault}
 use Rattle.row.specs.Fault.{nowhere}
-use Rattle.raw.specs.declared.answer.Reading.TheVariants.{Refused}
 use Rattle.raw.specs.Refusals.{Full}
 use Rattle.salvage.specs.Salvage.{Salvage}
 
@@ -15,6 +14,6 @@ pub data SalvageFault : Fault → Type 0 where
 
 pub record Refusals : Type 0 where
   -- `salvage` answers no others
-  pub salvages : (s b b' : List ℕ) (f : Fault) → Salvage s b (Refused f) b' → SalvageFault f
+  pub salvages : (s b b' : List ℕ) (f : Fault) → Salvage s b (Err f) b' → SalvageFault f
   -- "then 16 exactly if an answer exists and needs more rows or bytes than a lent output has"
   pub no_room : (s : List ℕ) → Full (Salvage s)

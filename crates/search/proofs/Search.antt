@@ -1,11 +1,6 @@
 -- The proof of specs/Search.antt: `search`.
 -- Assumes nothing.
-use Prim.Native.Nat.{ℕ, zero, suc, ◌+◌, ◌-◌, ◌≤◌, ◌<◌}
-use native.Mathlib.Omega.{arith}
-use mathlib.Core.Path.{◌≡◌, refl}
-use mathlib.Core.Bool.{Bool, true, false, cond}
-use lib.Dec.{ltb}
-use borrow.Author.Tests.{ltb-true, ltb-false}
+use Rattle.std.proofs.Common.{ℕ, zero, suc, ◌+◌, ◌-◌, ◌≤◌, ◌<◌, ◌≡◌, refl, Bool, true, false, cond, ltb, arith, ltb-true, ltb-false}
 use Rattle.search.specs.Halving.{middle, halving, between}
 use Rattle.search.specs.Search.{Search}
 use Rattle.search.proofs.halving.Order.{irreflexive, transitive}

@@ -1,7 +1,7 @@
 -- Each public contract allows one outcome only. This is said of the contract as the check reads it off the source, so that a contract
 -- which said less would fail here.
 -- Assumes nothing.
-use mathlib.Core.Path.{◌≡◌, sym, ◌∙◌}
+use Rattle.std.proofs.Common.{◌≡◌, sym, ◌∙◌}
 use contract.Lifetimes.{Lfts}
 use Rattle.search.proofs.place.Reads as place
 

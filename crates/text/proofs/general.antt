@@ -18,3 +18,5 @@ pub mod Stores
 pub mod SameBytes
 -- what it means that a contract allows one outcome only
 pub mod Outcomes
+-- what follows where two answers are equal
+pub mod Answers

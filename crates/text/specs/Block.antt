@@ -8,20 +8,20 @@ use Rattle.text.specs.declared.block.Interval.{Interval}
 use Rattle.text.specs.declared.block.Set.{Set}
 
 abbrev pub interval_of : ℕ → ℕ → Interval
-interval_of a b = record { first = a; last = b }
+interval_of a b = record { 0 = a; 1 = b }
 
 abbrev pub set_of : ℕ → ℕ → ℕ → ℕ → ℕ → ℕ → Set
 set_of a b c d e f = record { one = interval_of a b; two = interval_of c d; three = interval_of e f }
 
 abbrev pub inside : Interval → ℕ → Bool
-inside x b = within (x.first – x.last) b
+inside x b = within (x.0 – x.1) b
 
 unfoldable pub in_set : Set → ℕ → Bool
 in_set x b = inside x.one b || inside x.two b || inside x.three b
 
 -- how far b is from the interval
 abbrev pub apart : Interval → ℕ → ℕ
-apart x b = (x.first - b) + (b - x.last)
+apart x b = (x.0 - b) + (b - x.1)
 
 -- a brace, a backslash, or "|", which stands between the braces
 abbrev pub braces : Set

@@ -3,12 +3,10 @@
 use Rattle.std.specs.Prelude.{ℕ, ◌-◌, ◌/◌, ◌%◌, ◌^◌, ◌≤◌, ◌<◌, max, ◌≡◌, Bool, true, false, cond, not, ◌||◌, List, length, get_or, eqb, ltb, leb}
 use Rattle.std.specs.Bool.{beq}
 use Rattle.text.specs.Range.{Range, ◌–◌, within}
-use Rattle.text.specs.Walk.{walk}
-use Rattle.text.specs.Utf8.{tail, look_valid, validity_of}
+use Rattle.text.specs.Utf8.{tail}
 use Rattle.text.specs.Class.{holds_of}
 use Rattle.text.specs.declared.class.Masks.{Masks}
 use Rattle.text.specs.declared.class.Test.{Test}
-use Rattle.text.specs.declared.utf8.Validity.TheVariants.{Valid}
 
 -- the second octets that may follow the first octet a
 unfoldable pub seconds : ℕ → Range
@@ -18,12 +16,6 @@ seconds a =
 
 unfoldable pub goes_second : ℕ → ℕ → Bool
 goes_second a b = within (seconds a) b
-
--- r is the first octet that is not ASCII, or the end, and the walk over sequences comes there
-pub record WideAt (s : List ℕ) (r : ℕ) : Type 0 where
-  pub to : r ≤ length s
-  pub walked : validity_of s ≡ walk look_valid (λ n. Valid) s r
-  pub wide : r < length s → 0x80 ≤ get_or s r 0
 
 -- bit b of two words, the first 64 bits in the lower
 unfoldable pub has_bit : ℕ → ℕ → ℕ → Bool

@@ -1,8 +1,7 @@
 -- What the definitions of `Utf8` settle. Demand 2: "UTF-8, white space and accent composition are proved against RFC 3629 and Unicode".
 -- The proof is `rfc3629` of proofs/Rfc3629.antt. Assumes nothing.
-use Rattle.std.specs.Prelude.{ℕ, ◌+◌, ◌≤◌, ◌<◌, ◌≡◌, ◌↔◌, true, List, ◌++◌, length, get_or, take, drop}
+use Rattle.std.specs.Prelude.{ℕ, ◌+◌, ◌≤◌, ◌<◌, ◌≡◌, ◌↔◌, true, List, ◌++◌, length, get_or, take, drop, Ok, Err}
 use Rattle.text.specs.Utf8.{is_char, Octets, sequence_length, value, is_scalar, octets, validity_of, decode_at, is_boundary}
-use Rattle.text.specs.declared.utf8.Validity.TheVariants as validity
 use Rattle.text.specs.declared.utf8.Decoded.TheVariants as decoded
 
 -- n is the end of the longest beginning of s that is UTF-8, and not the end of s
@@ -19,8 +18,8 @@ pub record Cut (s : List ℕ) (n : ℕ) : Type 0 where
 
 pub record Rfc3629 : Type 0 where
   -- `validate` accepts exactly the concatenations of the grammar's sequences, and otherwise names the end of the longest such prefix
-  pub accepts : (s : List ℕ) → (validity_of s ≡ validity.Valid) ↔ Octets s
-  pub refuses : (s : List ℕ) (n : ℕ) → (validity_of s ≡ validity.IllFormed n) ↔ Longest s n
+  pub accepts : (s : List ℕ) → (validity_of s ≡ Ok tt) ↔ Octets s
+  pub refuses : (s : List ℕ) (n : ℕ) → (validity_of s ≡ Err (record { at = n })) ↔ Longest s n
   -- what `encode` writes is a sequence, and `decode` gives the scalar value back, wherever it stands
   pub writes : (c : ℕ) → is_scalar c ≡ true → is_char (octets c) ≡ true
   pub decodes : (c : ℕ) (before after : List ℕ) → is_scalar c ≡ true →

@@ -1,12 +1,10 @@
 -- The scanner, after unscanny: what stands at a place, and how far characters of a kind go. For src/scanner.rt.
 -- Assumes nothing.
-use Rattle.std.specs.Prelude.{ℕ, ◌+◌, ◌-◌, ◌≤◌, ◌<◌, min, max, Bool, cond, not, List, [], ◌∷◌, length, take, drop, eqb}
+use Rattle.std.specs.Prelude.{ℕ, ◌+◌, ◌-◌, ◌≤◌, ◌<◌, min, max, Bool, cond, not, List, [], ◌∷◌, length, take, drop, eqb, Option, Some, None}
 use Rattle.text.specs.Utf8.{width, value}
 use Rattle.text.specs.Class.{holds_of}
 use Rattle.text.specs.Walk.{Look, answer, pass, walk}
 use Rattle.text.specs.declared.class.Test.{Test}
-use Rattle.text.specs.declared.scanner.Seen.{Seen}
-use Rattle.text.specs.declared.scanner.Seen.TheVariants.{End, Char}
 
 -- ---- the first character of a text that has not ended. An octet that begins no sequence is U+FFFD by itself; a valid text has none
 
@@ -20,23 +18,23 @@ rest s = width s - 1
 
 -- ---- at a place
 
-unfoldable pub see_from : List ℕ → ℕ → Seen
-see_from [] i = End
-see_from (b ∷ s) i = Char (code (b ∷ s)) (i + 1 + rest (b ∷ s))
+unfoldable pub see_from : List ℕ → ℕ → Option (ℕ × ℕ)
+see_from [] i = None
+see_from (b ∷ s) i = Some (code (b ∷ s), i + 1 + rest (b ∷ s))
 
 -- what stands at i: a code point and the place after it, or the end
-abbrev pub see : List ℕ → ℕ → Seen
+abbrev pub see : List ℕ → ℕ → Option (ℕ × ℕ)
 see s i = see_from (drop i s) i
 
 -- the place after the character
-abbrev pub next_of : ℕ → Seen → ℕ
-next_of i End = i
-next_of i (Char c n) = n
+abbrev pub next_of : ℕ → Option (ℕ × ℕ) → ℕ
+next_of i None = i
+next_of i (Some (c, n)) = n
 
 -- the place after the character where it passes the test p
-abbrev pub past_one : (ℕ → Bool) → ℕ → Seen → ℕ
-past_one p i End = i
-past_one p i (Char c n) = cond (p c) n i
+abbrev pub past_one : (ℕ → Bool) → ℕ → Option (ℕ × ℕ) → ℕ
+past_one p i None = i
+past_one p i (Some (c, n)) = cond (p c) n i
 
 -- the character x
 abbrev pub single : ℕ → ℕ → Bool
@@ -65,6 +63,6 @@ pub record Ahead (s : List ℕ) (i r : ℕ) : Type 0 where
   pub to : r ≤ max i (length s)
 
 -- what is seen at i ends after i, and inside the text
-abbrev pub Inside : List ℕ → ℕ → Seen → Type 0
-Inside s i End = length s ≤ i
-Inside s i (Char c n) = (i < n) × (n ≤ length s)
+abbrev pub Inside : List ℕ → ℕ → Option (ℕ × ℕ) → Type 0
+Inside s i None = length s ≤ i
+Inside s i (Some (c, n)) = (i < n) × (n ≤ length s)

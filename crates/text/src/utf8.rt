@@ -1,19 +1,19 @@
 // UTF-8 by RFC 3629. `specs/Utf8.antt` has the RFC's grammar and table, `specs/Rfc3629.antt` what they settle.
-ghost use Rattle.std.specs.Prelude.{◌≡◌, true, ◌∷◌, ◌+◌, ◌-◌, ◌%◌, ◌≤◌, ◌<◌, max, length, take, drop, replicate};
+ghost use Rattle.std.specs.Prelude.{◌≡◌, true, ℕ, get_or, ◌∷◌, ◌+◌, ◌-◌, ◌%◌, ◌≤◌, ◌<◌, max, length, take, drop, replicate};
 ghost use Rattle.text.specs.Range.{within};
 ghost use Rattle.text.specs.Utf8.{tail, begins, width, sequence_length, value, is_scalar, further, validity_of, decode_at, Encode, is_boundary};
-ghost use Rattle.text.specs.Inner.{seconds, goes_second, WideAt};
+ghost use Rattle.text.specs.Inner.{seconds, goes_second};
 
 use crate::block;
 
-// Whether a text is valid, or where its first ill-formed sequence starts.
+// Where the first ill-formed sequence of a text starts.
 #[derive(Clone, Copy)]
-pub enum Validity {
-    Valid,
-    IllFormed(usize),
+pub struct IllFormed {
+    pub at: usize,
 }
 
-// What stands at a place: a code point and the place after it, an octet that starts no sequence, or the end.
+// What stands at a place: a code point and the place after it, an octet that starts no sequence, or the end. Three cases, of which none is a
+// refusal: `peek` makes U+FFFD of the second.
 #[derive(Clone, Copy)]
 pub enum Decoded {
     End,
@@ -21,10 +21,9 @@ pub enum Decoded {
     IllFormed,
 }
 
-// What became of a code point: its octets were written, that many; or nothing was.
+// Why no octets of a code point were written.
 #[derive(Clone, Copy)]
-pub enum Encoded {
-    Wrote(usize),
+pub enum EncodeError {
     NotScalar,
     NoRoom,
 }
@@ -124,8 +123,8 @@ fn is_three(s: &[u8], at: usize) -> bool
     (0xe1 <= s[at]) & (s[at] <= 0xec) & is_tail(s[at + 1]) & is_tail(s[at + 2])
 }
 
-// Whether all of s is UTF-8, or the first byte of its first ill-formed sequence.
-pub fn validate(s: &[u8]) -> Validity
+// Whether all of s is UTF-8, or the first byte of its first ill-formed sequence. A turn passes a sequence, or all the ASCII there.
+pub fn validate(s: &[u8]) -> Result<(), IllFormed>
     ensures { result ≡ validity_of s.now }
 {
     let mut at = 0;
@@ -139,41 +138,36 @@ pub fn validate(s: &[u8]) -> Validity
         } else {
             let n = sequence(s, at);
             if n == 0 {
-                return Validity::IllFormed(at);
+                return Err(IllFormed { at });
             }
             at += n;
         }
     }
-    Validity::Valid
+    Ok(())
 }
 
 // The first octet that is not ASCII, or the end.
 fn wide_at(s: &[u8]) -> usize
-    ensures { WideAt s.now result }
+    ensures to { result ≤ length s.now }
+    ensures narrow { (k : ℕ) → k < result → get_or s.now k 0 < 0x80 }
+    ensures wide { result < length s.now → 0x80 ≤ get_or s.now result 0 }
 {
-    let mut at = 0;
-    while at < s.len() {
-        if 0x80 <= s[at] {
-            return at;
-        }
-        at += 1;
-    }
-    at
+    s.iter().position(|b| 0x80 <= *b).unwrap_or(s.len())
 }
 
 // `validate`, quicker for a text of a few bytes: a text that is ASCII, or whose first octet beyond ASCII begins no sequence, is settled here,
 // with nothing prepared for blocks.
-pub fn validate_short(s: &[u8]) -> Validity
+pub fn validate_short(s: &[u8]) -> Result<(), IllFormed>
     ensures { result ≡ validity_of s.now }
 {
     if s.len() < 16 {
         let at = wide_at(s);
         if s.len() <= at {
-            return Validity::Valid;
+            return Ok(());
         }
         let a = s[at];
         if (a < 0xc2) | (0xf4 < a) {
-            return Validity::IllFormed(at);
+            return Err(IllFormed { at });
         }
     }
     validate(s)
@@ -236,45 +230,45 @@ fn further_of(c: u32) -> u8
 }
 
 // The octets of a scalar value, over the first of the lent bytes. Where c is no scalar value, or its octets have no room, nothing is written.
-pub fn encode(c: u32, out: &mut [u8]) -> Encoded
+pub fn encode(c: u32, out: &mut [u8]) -> Result<usize, EncodeError>
     ensures { Encode c out.old result out.new }
 {
     if !is_scalar(c) {
-        return Encoded::NotScalar;
+        return Err(EncodeError::NotScalar);
     }
     let room = out.len();
     if c <= 0x7f {
         if room < 1 {
-            return Encoded::NoRoom;
+            return Err(EncodeError::NoRoom);
         }
         out[0] = c as u8;
-        return Encoded::Wrote(1);
+        return Ok(1);
     }
     if c <= 0x7ff {
         if room < 2 {
-            return Encoded::NoRoom;
+            return Err(EncodeError::NoRoom);
         }
         out[0] = (0xc0 + c / 64) as u8;
         out[1] = further_of(c);
-        return Encoded::Wrote(2);
+        return Ok(2);
     }
     if c <= 0xffff {
         if room < 3 {
-            return Encoded::NoRoom;
+            return Err(EncodeError::NoRoom);
         }
         out[0] = (0xe0 + c / 64 / 64) as u8;
         out[1] = further_of(c / 64);
         out[2] = further_of(c);
-        return Encoded::Wrote(3);
+        return Ok(3);
     }
     if room < 4 {
-        return Encoded::NoRoom;
+        return Err(EncodeError::NoRoom);
     }
     out[0] = (0xf0 + c / 64 / 64 / 64) as u8;
     out[1] = further_of(c / 64 / 64);
     out[2] = further_of(c / 64);
     out[3] = further_of(c);
-    Encoded::Wrote(4)
+    Ok(4)
 }
 
 // Whether a place is the end, or one where no sequence is cut: in a valid text, a place between two characters.
@@ -288,12 +282,12 @@ pub fn is_boundary(s: &[u8], n: usize) -> bool
 }
 
 // `validate`, quicker for a text that is short and ASCII.
-pub fn validate_text(s: &[u8]) -> Validity
+pub fn validate_text(s: &[u8]) -> Result<(), IllFormed>
     ensures { result ≡ validity_of s.now }
 {
     if s.len() < 256 {
         if block::all_ascii(s) {
-            return Validity::Valid;
+            return Ok(());
         }
     }
     validate(s)

@@ -1,11 +1,10 @@
 // Every code point: through `encode`, `validate` and `decode`, and through the classes.
-use crate::samples::say;
 use std::io;
-use text::utf8::{Decoded, Encoded, Validity};
+use text::utf8::{Decoded, EncodeError};
 use text::{class, scanner, utf8};
 
 // How many code points there are with each number of octets; `none` counts those that are no scalar values.
-#[derive(Clone, Copy)]
+#[derive(Default, Drop)]
 struct Tally {
     none: u32,
     one: u32,
@@ -15,18 +14,25 @@ struct Tally {
     wrong: u32,
 }
 
-fn up(n: u32) -> u32 {
-    if n < 0xffff_ffff { n + 1 } else { n }
+impl Tally {
+    fn count(&mut self, octets: usize) {
+        let n = match octets {
+            0 => &mut self.none,
+            1 => &mut self.one,
+            2 => &mut self.two,
+            3 => &mut self.three,
+            4 => &mut self.four,
+            _ => &mut self.wrong,
+        };
+        *n = n.saturating_add(1);
+    }
 }
 
 // Whether the first n bytes are UTF-8 and decode to c and nothing more.
 fn is_back(bytes: &[u8], n: usize, c: u32) -> bool {
     let s = scanner::from(bytes, 0, n);
-    match utf8::validate(s) {
-        Validity::IllFormed(_) => {
-            return false;
-        }
-        Validity::Valid => {}
+    if utf8::validate(s).is_err() {
+        return false;
     }
     match utf8::decode(s, 0) {
         Decoded::Char { code, next } => (code == c) & (next == n),
@@ -39,9 +45,9 @@ fn is_back(bytes: &[u8], n: usize, c: u32) -> bool {
 fn round(c: u32) -> usize {
     let mut out = [0u8; 4];
     match utf8::encode(c, &mut out) {
-        Encoded::NotScalar => 0,
-        Encoded::NoRoom => 9,
-        Encoded::Wrote(n) => {
+        Err(EncodeError::NotScalar) => 0,
+        Err(EncodeError::NoRoom) => 9,
+        Ok(n) => {
             if is_back(&out, n, c) {
                 return n;
             }
@@ -50,89 +56,37 @@ fn round(c: u32) -> usize {
     }
 }
 
-fn counted(t: Tally, n: usize) -> Tally {
-    let mut next = t;
-    match n {
-        0 => {
-            next.none = up(t.none);
-        }
-        1 => {
-            next.one = up(t.one);
-        }
-        2 => {
-            next.two = up(t.two);
-        }
-        3 => {
-            next.three = up(t.three);
-        }
-        4 => {
-            next.four = up(t.four);
-        }
-        _ => {
-            next.wrong = up(t.wrong);
-        }
-    }
-    next
-}
-
-fn line(rt: &impl Print, name: &str, n: u64) -> io::Result<()> {
-    println!(rt; "{name}{n}")
-}
-
-fn tallied() -> Tally {
-    let mut t = Tally {
-        none: 0,
-        one: 0,
-        two: 0,
-        three: 0,
-        four: 0,
-        wrong: 0,
-    };
-    for c in 0..0x110000u32 {
-        t = counted(t, round(c));
-    }
-    t
-}
-
 pub fn all(rt: &impl Print) -> io::Result<()> {
-    let t = tallied();
-    line(rt, "one octet ", t.one as u64)?;
-    line(rt, "two octets ", t.two as u64)?;
-    line(rt, "three octets ", t.three as u64)?;
-    line(rt, "four octets ", t.four as u64)?;
-    line(rt, "no scalar value ", t.none as u64)?;
-    line(rt, "wrong ", t.wrong as u64)?;
-    line(rt, "octets of 110000: ", round(0x110000) as u64)?;
-    line(rt, "octets of ffffffff: ", round(0xffff_ffff) as u64)
-}
-
-fn is_listed(white: bool, c: u32) -> bool {
-    if white {
-        class::is_whitespace(c)
-    } else {
-        class::is_control(c)
+    let mut t = Tally::default();
+    for c in 0..0x110000 {
+        t.count(round(c));
     }
+    println!(rt; "one octet {}", t.one)?;
+    println!(rt; "two octets {}", t.two)?;
+    println!(rt; "three octets {}", t.three)?;
+    println!(rt; "four octets {}", t.four)?;
+    println!(rt; "no scalar value {}", t.none)?;
+    println!(rt; "wrong {}", t.wrong)?;
+    println!(rt; "octets of 110000: {}", round(0x110000))?;
+    println!(rt; "octets of ffffffff: {}", round(0xffff_ffff))
 }
 
-// Prints the code points that are white space, or control characters, and answers how many there are.
-fn list(rt: &impl Print, white: bool) -> io::Result<u32> {
-    let mut n: u32 = 0;
-    for c in 0..0x110000u32 {
-        if is_listed(white, c) {
+// Prints the code points that are in a class, and how many there are.
+fn list<F: Fn(u32) -> bool>(rt: &impl Print, name: &str, is_in: F) -> io::Result<()>
+    requires { F.IsAlwaysCallable is_in }
+{
+    print!(rt; "{name}:")?;
+    let mut n = 0u32;
+    for c in 0..0x110000 {
+        if is_in(c) {
             print!(rt; " {c:04x}")?;
-            n = up(n);
+            n = n.saturating_add(1);
         }
     }
-    Ok(n)
-}
-
-fn listed(rt: &impl Print, name: &str, white: bool) -> io::Result<()> {
-    say(rt, name)?;
-    let n = list(rt, white)?;
-    line(rt, "\nin all ", n as u64)
+    println!(rt; "\nin all {n}")
 }
 
 pub fn classes(rt: &impl Print) -> io::Result<()> {
-    listed(rt, "white space:", true)?;
-    listed(rt, "control:", false)
+    list(rt, "white space", class::is_whitespace)?;
+    list(rt, "control", class::is_control)
 }

@@ -1,22 +1,17 @@
 // Texts of the published documents: whether each is valid, and what the scanner sees in it.
 use std::io;
-use text::scanner::Seen;
-use text::utf8::Validity;
+use text::utf8::IllFormed;
 use text::{scanner, utf8};
 
-pub fn say(rt: &impl Print, s: &str) -> io::Result<()> {
-    rt.print(s)
-}
-
-// Prints the code points that the scanner sees, one after the other.
+// Prints the code points that the scanner sees, one after the other. Each says where the next one begins.
 fn walk(rt: &impl Print, s: &[u8]) -> io::Result<()> {
     let mut at = 0;
     loop {
         match scanner::peek(s, at) {
-            Seen::End => {
+            None => {
                 return Ok(());
             }
-            Seen::Char { code, next } => {
+            Some((code, next)) => {
                 print!(rt; " {code:04x}")?;
                 at = next;
             }
@@ -25,18 +20,18 @@ fn walk(rt: &impl Print, s: &[u8]) -> io::Result<()> {
 }
 
 fn show(rt: &impl Print, name: &str, s: &[u8]) -> io::Result<()> {
-    say(rt, name)?;
+    print!(rt; "{name}")?;
     match utf8::validate(s) {
-        Validity::Valid => {
-            say(rt, ": valid")?;
+        Ok(()) => {
+            print!(rt; ": valid")?;
         }
-        Validity::IllFormed(at) => {
+        Err(IllFormed { at }) => {
             print!(rt; ": ill-formed at {at}")?;
         }
     }
-    say(rt, ", seen as")?;
+    print!(rt; ", seen as")?;
     walk(rt, s)?;
-    say(rt, "\n")
+    println!(rt)
 }
 
 // RFC 3629: the examples of section 7, the surrogates of section 3, the attacks of section 10.

@@ -1,7 +1,7 @@
 -- Each contract of this crate that gives an answer alone allows one answer only. This is said of the contract as the check reads it off the
 -- source, so that a contract which said less would fail here.
 -- Assumes nothing.
-use mathlib.Core.Path.{sym, ◌∙◌}
+use Rattle.std.proofs.Common.{sym, ◌∙◌}
 use Rattle.text.proofs.general.Outcomes.{One}
 use Rattle.turn.proofs.turn.sign_at.Kinds as sign-at-kinds
 use Rattle.turn.proofs.turn.sign_at.Reads as sign_at

@@ -5,11 +5,9 @@
 --     inside, content                     content, with so many arguments left to open
 --     flatten                             [resolve.rs:flatten]
 -- Assumes nothing.
-use Rattle.std.specs.Prelude.{ℕ, zero, suc, ◌+◌, ◌-◌, Bool, true, false, cond, not, ◌&&◌, List, [], ◌∷◌, ◌++◌, length, take, eqb, ltb}
+use Rattle.std.specs.Prelude.{ℕ, zero, suc, ◌+◌, ◌-◌, Bool, true, false, cond, not, ◌&&◌, List, [], ◌∷◌, ◌++◌, length, take, eqb, ltb, Option, Some, None}
 use Rattle.text.specs.Class.{is_whitespace, is_control, is_id_continue, mark}
 use Rattle.text.specs.Scan.{see, next_of, skip, fails, part}
-use Rattle.text.specs.declared.scanner.Seen.{Seen}
-use Rattle.text.specs.declared.scanner.Seen.TheVariants.{End, Char}
 use Rattle.text.specs.declared.class.Test.TheVariants as test
 use Rattle.row.specs.declared.fault.Fault.{Fault}
 use Rattle.row.specs.declared.fault.Reason.{Reason}
@@ -131,9 +129,9 @@ braced argument name s b =
     ran b name (argument (take e s) b) (λ w. ok (e + 1) (put w ∷ [])))
 
 -- an opening brace is seen
-abbrev pub opens_at : Seen → Bool
-opens_at End = false
-opens_at (Char c n) = eqb c 0x7B
+abbrev pub opens_at : Option (ℕ × ℕ) → Bool
+opens_at None = false
+opens_at (Some (c, n)) = eqb c 0x7B
 
 -- whether a command takes the one character behind it as its argument. Its name begins with the character c, which ends at n; the name ends
 -- at e, and the white space behind it at w
@@ -167,12 +165,12 @@ abbrev pub begins : ℕ → Bool
 begins c = not (is_whitespace c) && not (is_control c)
 
 -- by what is seen behind the backslash
-abbrev pub backslash_at : Reader → Bool → List ℕ → ℕ → Seen → OutOf Part
-backslash_at argument true s p End = ok p (put (0x5C ∷ []) ∷ [])
-backslash_at argument false s p End = bad (fault_at UnexpectedEof p)
-backslash_at argument true s p (Char c n) =
+abbrev pub backslash_at : Reader → Bool → List ℕ → ℕ → Option (ℕ × ℕ) → OutOf Part
+backslash_at argument true s p None = ok p (put (0x5C ∷ []) ∷ [])
+backslash_at argument false s p None = bad (fault_at UnexpectedEof p)
+backslash_at argument true s p (Some (c, n)) =
     cond (is_escape true c) (ok n (put (part s p n) ∷ [])) (ok p (put (0x5C ∷ []) ∷ []))
-backslash_at argument false s p (Char c n) =
+backslash_at argument false s p (Some (c, n)) =
     cond (is_escape false c) (ok n (put (part s p n) ∷ []))
     (cond (begins c) (command argument c n s p)
     (ok p (put (0x5C ∷ part s p n) ∷ [])))

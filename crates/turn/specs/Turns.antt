@@ -7,21 +7,15 @@
 --     SaysText                                 what a function answers whose turns write text
 --     Grows, GrowsText, ReadyText              bounds: the text grows by at most two bytes for each byte read
 -- Assumes nothing.
-use Rattle.std.specs.Prelude.{ℕ, ◌+◌, ◌*◌, ◌≤◌, ◌<◌, max, ◌≡◌, Bool, true, false, not, ◌&&◌, ◌||◌, List, [], ◌∷◌, ◌++◌, map, length, take, get_or, eqb}
+use Rattle.turn.specs.declared.turn.Text.{Text}
+use Rattle.std.specs.Prelude.{ℕ, ◌+◌, ◌*◌, ◌≤◌, ◌<◌, max, ◌≡◌, Bool, true, false, not, ◌&&◌, ◌||◌, List, [], ◌∷◌, ◌++◌, map, length, take, get_or, eqb, Some, Result, Ok, Err}
 use Rattle.text.specs.Block.{is_simple}
 use Rattle.text.specs.Scan.{part, see}
-use Rattle.text.specs.declared.scanner.Seen.TheVariants.{Char}
 use Rattle.row.specs.declared.fault.Fault.{Fault}
-use Rattle.raw.specs.declared.answer.Step.{Step}
-use Rattle.raw.specs.declared.answer.Step.TheVariants as step
 use Rattle.raw.specs.Reader.{OutOf, ok, again, bad, more, many}
-use Rattle.compose.specs.Lookup.{numbers}
-use Rattle.compose.specs.Composites.{composites}
 use Rattle.command.specs.Stack.{Lays}
 use Rattle.command.specs.Commands.{meaning_of}
-use Rattle.command.specs.Names.{names as all_names}
 use Rattle.command.specs.Execute.{Argument, execute_command}
-use Rattle.turn.specs.declared.turn.Text.{Text}
 use Rattle.turn.specs.declared.turn.Text.TheVariants as text
 use Rattle.turn.specs.Content.{Part, put, Reader, content_turn, ran, is_escape}
 
@@ -43,7 +37,7 @@ Ordinary verb b = (b ≡ 0x7B → ⊥) × (b ≡ 0x7D → ⊥) × (b ≡ 0x24 �
 pub record Behind (s : List ℕ) (p c n : ℕ) : Type 0 where
   pub inside : p < length s
   pub backslash : get_or s p 0 ≡ 0x5C
-  pub seen : see s (p + 1) ≡ Char c n
+  pub seen : see s (p + 1) ≡ Some (c, n)
   pub from : p + 2 ≤ n
   pub to : n ≤ length s
   -- the character c does not stand for itself
@@ -89,10 +83,10 @@ pub record WordRun (s : List ℕ) (p r : ℕ) : Type 0 where
   pub single : (k : ℕ) → p ≤ k → k < r → get_or s k 0 ≡ 0x20 → (k + 1 < r) × (get_or s (k + 1) 0 ≡ 0x20 → ⊥)
 
 -- where an argument ends, or why it is refused, as the code says it
-abbrev pub end_of : OutOf Part → Step
-end_of (ok e xs) = step.At e
-end_of (again e xs a) = step.At e
-end_of (bad f) = step.Refused f
+abbrev pub end_of : OutOf Part → Result ℕ Fault
+end_of (ok e xs) = Ok e
+end_of (again e xs a) = Ok e
+end_of (bad f) = Err f
 
 -- an argument that begins at p ends inside the text of `len` bytes, or is refused
 abbrev pub ArgumentEnds : ℕ → ℕ → OutOf Part → Type 0
@@ -105,9 +99,9 @@ abbrev pub Placed : ℕ → Fault → Type 0
 Placed len f = (f.start ≤ len) × (f.end ≤ len)
 
 -- an argument that begins at p ends inside the text, or its refusal has a place inside it
-abbrev pub EndInside : ℕ → ℕ → Step → Type 0
-EndInside len p (step.At e) = (p ≤ e) × (e < len)
-EndInside len p (step.Refused f) = Placed len f
+abbrev pub EndInside : ℕ → ℕ → Result ℕ Fault → Type 0
+EndInside len p (Ok e) = (p ≤ e) × (e < len)
+EndInside len p (Err f) = Placed len f
 
 -- whatever arguments come to, the turns from p to q write text only, which is laid onto what ends at n
 pub record Wrote (verb : Bool) (s : List ℕ) (p n : ℕ) (o : List ℕ) (q l : ℕ) (o' : List ℕ) : Type 0 where
@@ -122,18 +116,18 @@ opened argument verb d s p end a e =
 
 -- what the answer to a turn at p says: the content has ended; text was written; the content is refused; or a command has an argument in
 -- braces, for which nothing is written yet
-abbrev pub SaysText : Bool → List ℕ → ℕ → ℕ → List ℕ → Text → List ℕ → Type 0
-SaysText verb s p n o text.End o' = ((argument : Reader) (d : ℕ) → turns argument verb d s p ≡ ok p []) × (o' ≡ o)
-SaysText verb s p n o (text.Put q l) o' = Wrote verb s p n o q l o'
-SaysText verb s p n o (text.Refused f) o' = (argument : Reader) (d : ℕ) → turns argument verb d s p ≡ bad f
-SaysText verb s p n o (text.Argument k end a e) o' =
+abbrev pub SaysText : Bool → List ℕ → ℕ → ℕ → List ℕ → Result Text Fault → List ℕ → Type 0
+SaysText verb s p n o (Ok text.End) o' = ((argument : Reader) (d : ℕ) → turns argument verb d s p ≡ ok p []) × (o' ≡ o)
+SaysText verb s p n o (Ok (text.Put q l)) o' = Wrote verb s p n o q l o'
+SaysText verb s p n o (Err f) o' = (argument : Reader) (d : ℕ) → turns argument verb d s p ≡ bad f
+SaysText verb s p n o (Ok (text.Argument k end a e)) o' =
     ((argument : Reader) (d : ℕ) → turns argument verb d s p ≡ opened argument verb d s p end a e)
     × (k ≡ meaning_of (part s (p + 1) end)) × (o' ≡ o)
 
 -- a command whose name ends at `end` is written with the argument `arg`, and the content goes on at q
-pub record Took (s : List ℕ) (p end : ℕ) (arg : Argument) (q n : ℕ) (o : List ℕ) (r : Text) (o' : List ℕ) : Type 0 where
+pub record Took (s : List ℕ) (p end : ℕ) (arg : Argument) (q n : ℕ) (o : List ℕ) (r : Result Text Fault) (o' : List ℕ) : Type 0 where
   pub len : ℕ
-  pub told : r ≡ text.Put q len
+  pub told : r ≡ Ok (text.Put q len)
   pub lays : Lays n (execute_command (part s (p + 1) end) arg) o len o'
 
 -- ---- bounds
@@ -150,15 +144,13 @@ abbrev pub CommandSpans : ℕ → ℕ → ℕ → ℕ → ℕ → Type 0
 CommandSpans len p end a e = (p + 2 ≤ end) × (end + 1 ≡ a) × (a ≤ e) × (e < len)
 
 -- the bounds of each answer
-abbrev pub GrowsText : ℕ → ℕ → ℕ → Text → Type 0
-GrowsText len p n text.End = Unit {0}
-GrowsText len p n (text.Put q l) = Grows len 1 p n q l
-GrowsText len p n (text.Refused f) = Placed len f
-GrowsText len p n (text.Argument k end a e) = CommandSpans len p end a e
+abbrev pub GrowsText : ℕ → ℕ → ℕ → Result Text Fault → Type 0
+GrowsText len p n (Ok text.End) = Unit {0}
+GrowsText len p n (Ok (text.Put q l)) = Grows len 1 p n q l
+GrowsText len p n (Err f) = Placed len f
+GrowsText len p n (Ok (text.Argument k end a e)) = CommandSpans len p end a e
 
--- what a function requires that writes text from p on: room for twice what is left to read, and the two tables
-pub record ReadyText (s : List ℕ) (p n : ℕ) (o by_name by_mark : List ℕ) : Type 0 where
+-- what a function requires that writes text from p on: room for twice what is left to read
+pub record ReadyText (s : List ℕ) (p n : ℕ) (o : List ℕ) : Type 0 where
   pub place : p ≤ length s
   pub room : n + 2 * length s ≤ length o + 2 * p
-  pub names : by_name ≡ all_names
-  pub marks : by_mark ≡ numbers composites

@@ -10,15 +10,15 @@ ghost use Rattle.turn.specs.Turns.{Grows, Took, SaysText, GrowsText, ReadyText, 
 
 use chunk::biblatex;
 use command::meaning::Meaning;
+use command::tables::Tables;
 use command::{execute, meaning, stack};
-use raw::answer::Step;
+use row::fault;
 use row::fault::{Fault, Reason};
 use text::class::Test;
-use text::scanner::Seen;
 use text::{block, class, scanner};
 
-// What came of a turn: the content has ended; text was written, up to a place of the content and a new end of the text; the content is refused;
-// or a command has an argument in braces: what its name means, where the name ends, and where the argument begins and ends.
+// What came of a turn: the content has ended; text was written, up to a place of the content and a new end of the text; or a command has an
+// argument in braces: what its name means, where the name ends, and where the argument begins and ends.
 #[derive(Clone, Copy)]
 pub enum Text {
     End,
@@ -26,7 +26,6 @@ pub enum Text {
         next: usize,
         len: usize,
     },
-    Refused(Fault),
     Argument {
         m: Meaning,
         end: usize,
@@ -76,8 +75,8 @@ fn past_rare(s: &[u8], at: usize) -> usize
         return at;
     }
     match scanner::peek(s, at) {
-        Seen::End => at,
-        Seen::Char { code, next } => {
+        None => at,
+        Some((code, next)) => {
             if is_white(code) {
                 return at;
             }
@@ -106,7 +105,8 @@ fn by_blocks(s: &[u8], at: usize) -> usize
     at
 }
 
-// The place after the simple bytes from a place on, none of them a blank behind a blank.
+// The place after the simple bytes from a place on, none of them a blank behind a blank. `position` over the bytes would still ask for the place, to
+// look at the byte before.
 fn past_simple(s: &[u8], at: usize) -> usize
     requires { 0 < at }
     ensures { PlainRun s.now at result }
@@ -141,7 +141,8 @@ fn words(s: &[u8], at: usize) -> usize
     end
 }
 
-// The place after the characters from a place on that stand for themselves, and single blanks between them.
+// The place after the characters from a place on that stand for themselves, and single blanks between them. A turn passes words, and then something
+// rarer.
 fn run(s: &[u8], at: usize) -> usize
     ensures { CopiesAll s.now at result }
 {
@@ -187,8 +188,8 @@ fn other(s: &[u8], verb: bool, at: usize, out: &mut [u8], len: usize) -> Grown
     ensures grows { Grows (length s.now) 1 at len result.at result.len }
 {
     match scanner::peek(s, at) {
-        Seen::End => Grown { at, len },
-        Seen::Char { code, next } => {
+        None => Grown { at, len },
+        Some((code, next)) => {
             if class::is_whitespace(code) {
                 let l = stack::push(out, len, 0x20);
                 let after = scanner::eat_whitespace(s, at);
@@ -237,7 +238,8 @@ fn ends_text(b: u8, verb: bool) -> bool
     (b == 0x5c) | is_sign(b, verb)
 }
 
-// Text from a place on, up to the end, a backslash, a brace, or a dollar sign unless the field is verbatim.
+// Text from a place on, up to the end, a backslash, a brace, or a dollar sign unless the field is verbatim. A turn copies a run, and then passes what
+// ended it.
 pub fn texts(s: &[u8], verb: bool, at: usize, out: &mut [u8], len: usize) -> Grown
     requires { (at ≤ length s.now) × (len + 2 * length s.now ≤ length out.old + 2 * at) }
     ensures wrote { Wrote verb s.now at len out.old result.at result.len out.new }
@@ -263,7 +265,14 @@ pub fn texts(s: &[u8], verb: bool, at: usize, out: &mut [u8], len: usize) -> Gro
 
 // A backslash before white space. Both are written, and then one blank for the white space, which the backslash does not eat: `\ ` gives two
 // blanks.
-fn back_blank(s: &[u8], at: usize, code: u32, next: usize, out: &mut [u8], len: usize) -> Text
+fn back_blank(
+    s: &[u8],
+    at: usize,
+    code: u32,
+    next: usize,
+    out: &mut [u8],
+    len: usize,
+) -> Result<Text, Fault>
     requires { Behind s.now at code next × (is_whitespace code ≡ true) × (len + 2 * length s.now ≤ length out.old + 2 * at) }
     ensures says_text { SaysText false s.now at len out.old result out.new }
     ensures grows_text { GrowsText (length s.now) at len result }
@@ -271,14 +280,21 @@ fn back_blank(s: &[u8], at: usize, code: u32, next: usize, out: &mut [u8], len: 
     let k = stack::copy(s, at, next, out, len);
     let l = stack::push(out, k, 0x20);
     let after = scanner::eat_whitespace(s, at + 1);
-    Text::Put {
+    Ok(Text::Put {
         next: after,
         len: l,
-    }
+    })
 }
 
 // A backslash before a control character. Both are written, and then the character again, which the backslash does not eat.
-fn back_control(s: &[u8], at: usize, code: u32, next: usize, out: &mut [u8], len: usize) -> Text
+fn back_control(
+    s: &[u8],
+    at: usize,
+    code: u32,
+    next: usize,
+    out: &mut [u8],
+    len: usize,
+) -> Result<Text, Fault>
     requires { Behind s.now at code next × (is_whitespace code ≡ false) × (is_control code ≡ true) ×
         (len + 2 * length s.now ≤ length out.old + 2 * at) }
     ensures says_text { SaysText false s.now at len out.old result out.new }
@@ -286,11 +302,12 @@ fn back_control(s: &[u8], at: usize, code: u32, next: usize, out: &mut [u8], len
 {
     let k = stack::copy(s, at, next, out, len);
     let l = stack::copy(s, at + 1, next, out, k);
-    Text::Put { next, len: l }
+    Ok(Text::Put { next, len: l })
 }
 
-// The end of an argument that begins at a place: the brace that closes it, with no regard for backslashes.
-fn argument_end(s: &[u8], at: usize) -> Step
+// The end of an argument that begins at a place: the brace that closes it, with no regard for backslashes. A turn goes on from the brace that was
+// found.
+fn argument_end(s: &[u8], at: usize) -> Result<usize, Fault>
     requires { at ≤ length s.now }
     ensures value { result ≡ end_of (argument_end s.now at) }
     ensures end_inside { EndInside (length s.now) at result }
@@ -300,17 +317,13 @@ fn argument_end(s: &[u8], at: usize) -> Step
     loop {
         let j = scanner::eat_until(s, i, Test::Brace);
         if s.len() <= j {
-            return Step::Refused(Fault {
-                reason: Reason::UnexpectedEof,
-                start: j,
-                end: j,
-            });
+            return Err(fault::fault_at(Reason::UnexpectedEof, j));
         }
         if s[j] == 0x7b {
             depth += 1;
             i = j + 1;
         } else if depth == 0 {
-            return Step::At(j);
+            return Ok(j);
         } else {
             depth -= 1;
             i = j + 1;
@@ -333,8 +346,8 @@ fn opens_at(s: &[u8], at: usize) -> bool
     ensures { result ≡ opens_at (see s.now at) }
 {
     match scanner::peek(s, at) {
-        Seen::End => false,
-        Seen::Char { code, next: _ } => code == 0x7b,
+        None => false,
+        Some((code, _)) => code == 0x7b,
     }
 }
 
@@ -355,20 +368,19 @@ fn one(
     after: usize,
     out: &mut [u8],
     len: usize,
-    names: &[u8],
-    marks: &[u32],
-) -> Text
-    requires { Command s.now at end after × ReadyText s.now at len out.old names.now marks.now }
+    tables: Tables,
+) -> Result<Text, Fault>
+    requires { Command s.now at end after × ReadyText s.now at len out.old }
     ensures took { Took s.now at end (given (part s.now after (next_of after (see s.now after))))
         (next_of after (see s.now after)) len out.old result out.new }
     ensures grows_text { GrowsText (length s.now) at len result }
 {
     let to = scanner::eat(s, after);
-    let m = meaning::meaning_of(names, s, at + 1, end);
+    let m = meaning::meaning_of(tables, s, at + 1, end);
     let from = execute::execute_before(m, s, at + 1, end, out, len);
     let e = stack::copy(s, after, to, out, from);
-    let l = execute::execute_command(marks, m, s, at + 1, end, out, len, from, e);
-    Text::Put { next: to, len: l }
+    let l = execute::execute_command(tables, m, s, at + 1, end, out, len, from, e);
+    Ok(Text::Put { next: to, len: l })
 }
 
 // A command without an argument.
@@ -379,19 +391,18 @@ fn bare(
     after: usize,
     out: &mut [u8],
     len: usize,
-    names: &[u8],
-    marks: &[u32],
-) -> Text
-    requires { Command s.now at end after × ReadyText s.now at len out.old names.now marks.now }
+    tables: Tables,
+) -> Result<Text, Fault>
+    requires { Command s.now at end after × ReadyText s.now at len out.old }
     ensures took { Took s.now at end absent after len out.old result out.new }
     ensures grows_text { GrowsText (length s.now) at len result }
 {
-    let m = meaning::meaning_of(names, s, at + 1, end);
+    let m = meaning::meaning_of(tables, s, at + 1, end);
     let l = execute::execute_bare(m, s, at + 1, end, out, len);
-    Text::Put {
+    Ok(Text::Put {
         next: after,
         len: l,
-    }
+    })
 }
 
 // A command, whose name begins with the character behind the backslash.
@@ -402,31 +413,24 @@ fn command(
     next: usize,
     out: &mut [u8],
     len: usize,
-    names: &[u8],
-    marks: &[u32],
-) -> Text
-    requires { Behind s.now at code next × (begins code ≡ true) × ReadyText s.now at len out.old names.now marks.now }
+    tables: Tables,
+) -> Result<Text, Fault>
+    requires { Behind s.now at code next × (begins code ≡ true) × ReadyText s.now at len out.old }
     ensures says_text { SaysText false s.now at len out.old result out.new }
     ensures grows_text { GrowsText (length s.now) at len result }
 {
     let end = name_end(s, code, next);
     let after = scanner::eat_whitespace(s, end);
     if takes_one(s, code, next, end, after) {
-        return one(s, at, end, after, out, len, names, marks);
+        return one(s, at, end, after, out, len, tables);
     }
     if !((end == after) & opens_at(s, after)) {
-        return bare(s, at, end, after, out, len, names, marks);
+        return bare(s, at, end, after, out, len, tables);
     }
-    let m = meaning::meaning_of(names, s, at + 1, end);
-    match argument_end(s, after + 1) {
-        Step::At(to) => Text::Argument {
-            m,
-            end,
-            from: after + 1,
-            to,
-        },
-        Step::Refused(f) => Text::Refused(f),
-    }
+    let m = meaning::meaning_of(tables, s, at + 1, end);
+    let from = after + 1;
+    let to = argument_end(s, from)?;
+    Ok(Text::Argument { m, end, from, to })
 }
 
 // A backslash, and what follows it.
@@ -436,39 +440,34 @@ fn backslash(
     at: usize,
     out: &mut [u8],
     len: usize,
-    names: &[u8],
-    marks: &[u32],
-) -> Text
-    requires { (at < length s.now) × (get_or s.now at 0 ≡ 0x5C) × ReadyText s.now at len out.old names.now marks.now }
+    tables: Tables,
+) -> Result<Text, Fault>
+    requires { (at < length s.now) × (get_or s.now at 0 ≡ 0x5C) × ReadyText s.now at len out.old }
     ensures says_text { SaysText verb s.now at len out.old result out.new }
     ensures grows_text { GrowsText (length s.now) at len result }
 {
     match scanner::peek(s, at + 1) {
-        Seen::End => {
+        None => {
             if verb {
                 let l = stack::push(out, len, 0x5c);
-                return Text::Put {
+                return Ok(Text::Put {
                     next: at + 1,
                     len: l,
-                };
+                });
             }
-            Text::Refused(Fault {
-                reason: Reason::UnexpectedEof,
-                start: at + 1,
-                end: at + 1,
-            })
+            Err(fault::fault_at(Reason::UnexpectedEof, at + 1))
         }
-        Seen::Char { code, next } => {
+        Some((code, next)) => {
             if is_escape(code, verb) {
                 let l = stack::copy(s, at + 1, next, out, len);
-                return Text::Put { next, len: l };
+                return Ok(Text::Put { next, len: l });
             }
             if verb {
                 let l = stack::push(out, len, 0x5c);
-                return Text::Put {
+                return Ok(Text::Put {
                     next: at + 1,
                     len: l,
-                };
+                });
             }
             if class::is_whitespace(code) {
                 return back_blank(s, at, code, next, out, len);
@@ -476,7 +475,7 @@ fn backslash(
             if class::is_control(code) {
                 return back_control(s, at, code, next, out, len);
             }
-            command(s, at, code, next, out, len, names, marks)
+            command(s, at, code, next, out, len, tables)
         }
     }
 }
@@ -488,30 +487,29 @@ pub fn text_at(
     at: usize,
     out: &mut [u8],
     len: usize,
-    names: &[u8],
-    marks: &[u32],
-) -> Text
-    requires { Ordinary verb (get_or s.now at 0) × ReadyText s.now at len out.old names.now marks.now }
+    tables: Tables,
+) -> Result<Text, Fault>
+    requires { Ordinary verb (get_or s.now at 0) × ReadyText s.now at len out.old }
     ensures says_text { SaysText verb s.now at len out.old result out.new }
     ensures grows_text { GrowsText (length s.now) at len result }
 {
     if s.len() <= at {
-        return Text::End;
+        return Ok(Text::End);
     }
     if s[at] == 0x5c {
-        let r = backslash(s, verb, at, out, len, names, marks);
-        let Text::Put { next, len: l } = r else {
-            return r;
+        let text = backslash(s, verb, at, out, len, tables)?;
+        let Text::Put { next, len: l } = text else {
+            return Ok(text);
         };
         let t = texts(s, verb, next, out, l);
-        return Text::Put {
+        return Ok(Text::Put {
             next: t.at,
             len: t.len,
-        };
+        });
     }
     let t = texts(s, verb, at, out, len);
-    Text::Put {
+    Ok(Text::Put {
         next: t.at,
         len: t.len,
-    }
+    })
 }

@@ -1,5 +1,6 @@
 -- How much text a value can need: `enough-text`.
 -- Assumes nothing.
+use Rattle.std.specs.Prelude.{Option, Some, None}
 use Prim.Native.Nat.{ℕ, zero, suc, ◌+◌, ◌-◌, ◌*◌, ◌≤◌}
 use native.Mathlib.Nat.{add-mul}
 use native.Mathlib.Omega.{arith}
@@ -8,12 +9,11 @@ use mathlib.Core.Bool.{Bool, true, false, cond}
 use mathlib.Core.List.{List, [], ◌∷◌, ◌++◌}
 use lib.ListN.{length, drop, length-append}
 use lib.Dec.{ltb}
+use Rattle.std.proofs.Common.{Option, Some, None}
 use Rattle.row.specs.declared.form.Kind.TheVariants.{Literal}
 use Rattle.row.specs.declared.fault.Fault.{Fault}
 use Rattle.row.specs.Row.{Row}
 use Rattle.row.specs.Rules.{is_kind}
-use Rattle.lookup.specs.declared.plain.Found.{Found}
-use Rattle.lookup.specs.declared.plain.Found.TheVariants as found
 use Rattle.text.specs.SameBytes.{same_bytes}
 use Rattle.text.proofs.general.Parts.{part-size}
 use Rattle.row.specs.Limits.{most_open, most_names}
@@ -173,9 +173,9 @@ module _ (l : Lent) (verb : Bool) where
       tag (month t) = 1
       tag unknown = 2
 
-      by : (f : Found) (m : Meaning) → (m ≡ month t → length t ≤ month_bytes l.months) → or_month f m ≡ month t → length t ≤ B
-      by (found.Row i) m h e = absurd (omega (arith, ap tag e))
-      by found.Nothing m h e = let a = h e in omega arith
+      by : (f : Option ℕ) (m : Meaning) → (m ≡ month t → length t ≤ month_bytes l.months) → or_month f m ≡ month t → length t ≤ B
+      by (Some i) m h e = absurd (omega (arith, ap tag e))
+      by None m h e = let a = h e in omega arith
 
   name-costs : (left : ℕ) (path : List ℕ) → Each (name l verb left path)
   unfolding name

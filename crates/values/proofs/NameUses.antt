@@ -8,6 +8,7 @@
 --     walk-on, walk-stops, stops        elements one after the other: where one is refused, all are
 --     name-small, most                  a value resolves at most 4,096 names
 -- Assumes nothing.
+use Rattle.std.specs.Prelude.{Option, Some, None, Result, Ok, Err, ⊤}
 use Prim.Native.Nat.{ℕ, zero, suc, ◌-◌, ◌≤◌, ◌<◌}
 use native.Mathlib.Omega.{arith}
 use mathlib.Core.Path.{◌≡◌, refl, sym, ap, subst, ◌∙◌}
@@ -19,6 +20,7 @@ use mathlib.Core.List.{append_assoc}
 use lib.ListN.{length, drop, length-append}
 use lib.Dec.{eqb, ltb}
 use borrow.Author.Tests.{eqb-true, eq-eqb, ltb-true, ltb-false, le-ltb}
+use Rattle.std.proofs.Common.{Option, Some, None}
 use Rattle.text.specs.SameBytes.{same_bytes}
 use Rattle.text.proofs.general.Tests.{both_true, true-not-false}
 use Rattle.text.proofs.general.SameBytes.{same_true, same_self}
@@ -29,8 +31,6 @@ use Rattle.row.specs.declared.fault.Reason.TheVariants.{UnknownAbbreviation, Cyc
 use Rattle.row.specs.Row.{Row}
 use Rattle.row.specs.Rules.{is_kind}
 use Rattle.row.specs.Limits.{most_open, most_names}
-use Rattle.lookup.specs.declared.plain.Found.{Found}
-use Rattle.lookup.specs.declared.plain.Found.TheVariants as found
 use Rattle.lookup.specs.Names.{is_named, last_named, row_no}
 use Rattle.lookup.proofs.Lookup.{lookup}
 use Rattle.chunk.specs.Chunk.{Chunk}
@@ -39,8 +39,6 @@ use Rattle.literal.specs.Literal as literal
 use Rattle.resolve.specs.Resolves.{resolved, refused}
 use Rattle.resolve.specs.Checks.{Month, Lent}
 use Rattle.resolve.specs.Runs.{Run, done, stop, of_literal}
-use Rattle.values.specs.declared.elements.Allowed.{Allowed}
-use Rattle.values.specs.declared.elements.Allowed.TheVariants as allowed
 use Rattle.values.specs.Field.{elements, behind, onward, walk, flattened, parse_field, element, Meaning, definition, month, unknown, month_of}
 use Rattle.values.specs.Field.{or_month, spelt, meaning_of, on_path, at_use, known, elements_of, opened, name, of_run, field_of}
 use Rattle.values.specs.Uses.{limits}
@@ -51,7 +49,7 @@ use Rattle.values.proofs.ways.NameWays.{name_by, some-limits}
 -- ---- the definitions and months with a name
 
 module _ (l : Lent) (r : Row) where
-  named-of : (j : ℕ) → last_named l.file (spelt l r) l.rows ≡ found.Row j → Defines l r j
+  named-of : (j : ℕ) → last_named l.file (spelt l r) l.rows ≡ Some j → Defines l r j
   unfolding is_named
   named-of j e =
       let s = lookup.found-last l.file (spelt l r) l.rows j e in
@@ -59,10 +57,10 @@ module _ (l : Lent) (r : Row) where
       let b = both_true (is_kind DefinitionName q.kind) (same_bytes (spelt l q) (spelt l r)) s.named in
       record { there = s.below; kind = b.0; same = same_true (spelt l q) (spelt l r) b.1 }
 
-  of-named : (i : ℕ) → Defines l r i → Counts l i → last_named l.file (spelt l r) l.rows ≡ found.Row i
+  of-named : (i : ℕ) → Defines l r i → Counts l i → last_named l.file (spelt l r) l.rows ≡ Some i
   of-named i d e = ap (λ (w : List ℕ). last_named l.file w l.rows) (sym d.same) ∙ e
 
-  unnamed : last_named l.file (spelt l r) l.rows ≡ found.Nothing → (i : ℕ) → Defines l r i → ⊥
+  unnamed : last_named l.file (spelt l r) l.rows ≡ None → (i : ℕ) → Defines l r i → ⊥
   unfolding is_named
   unnamed e i d =
       true-not-false (is_named l.file (spelt l r) (row_no l.rows i))
@@ -112,16 +110,16 @@ module _ (l : Lent) (path : List ℕ) (r : Row) (h : Counting l path) where
   said : Said l path r (meaning_of l r)
   said = by (last_named l.file (spelt l r) l.rows) refl (month_of (spelt l r) l.months) refl
     where
-      one : (j : ℕ) → last_named l.file (spelt l r) l.rows ≡ found.Row j → (i : ℕ) → Memᴰ i path → Defines l r i → i ≡ j
-      one j e i d n = let x : found.Row i ≡ found.Row j = sym (of-named l r i n (h i d)) ∙ e in cc
+      one : (j : ℕ) → last_named l.file (spelt l r) l.rows ≡ Some j → (i : ℕ) → Memᴰ i path → Defines l r i → i ≡ j
+      one j e i d n = let x : Some i ≡ Some j = sym (of-named l r i n (h i d)) ∙ e in cc
 
-      by : (f : Found) → last_named l.file (spelt l r) l.rows ≡ f → (m : Meaning) → month_of (spelt l r) l.months ≡ m
+      by : (f : Option ℕ) → last_named l.file (spelt l r) l.rows ≡ f → (m : Meaning) → month_of (spelt l r) l.months ≡ m
           → Said l path r (or_month f m)
-      by (found.Row j) e m p = by-definition j (named-of l r j e) (one j e)
-      by found.Nothing e (definition j) p = absurd (not-defined (spelt l r) l.months j p)
-      by found.Nothing e (month t) p =
+      by (Some j) e m p = by-definition j (named-of l r j e) (one j e)
+      by None e (definition j) p = absurd (not-defined (spelt l r) l.months j p)
+      by None e (month t) p =
           let x = word_of (spelt l r) l.months t p in by-month t (a-month x.0 x.1 x.2) (λ b. unnamed l r e b.0 b.2)
-      by found.Nothing e unknown p = by-none none
+      by None e unknown p = by-none none
         where
           none : Known l r → ⊥
           none (defined i d) = unnamed l r e i d
@@ -146,35 +144,35 @@ on-path j (i ∷ is) = let on = on-path j is in (there (eqb j i) refl on.0, here
 
 module _ (l : Lent) (path : List ℕ) (r : Row) (n : ℕ) where
   -- a name that is neither unknown nor cyclic
-  limited : Known l r → (BeingResolved l path r → ⊥) → (reason : Reason) → (limits (left path) n ≡ allowed.No reason) ↔ UseFault l path r n reason
+  limited : Known l r → (BeingResolved l path r → ⊥) → (reason : Reason) → (limits (left path) n ≡ Err reason) ↔ UseFault l path r n reason
   limited k c reason = (there (left path) refl, λ u. back u)
     where
       many : (reason : Reason) → length path < most_open → (b : Bool) → ltb n most_names ≡ b
-          → cond b allowed.Yes (allowed.No TooManyNames) ≡ allowed.No reason → UseFault l path r n reason
+          → cond {A = Result ⊤ Reason} b (Ok tt) (Err TooManyNames) ≡ Err reason → UseFault l path r n reason
       many reason s true e p = let z : ◌≡◌ {A = ℕ} 0 1 = cc in absurd (omega arith)
       many reason s false e p =
           let q : TooManyNames ≡ reason = cc in subst (UseFault l path r n) q (too_many k c s (ltb-false n most_names e))
 
-      there : (d : ℕ) → left path ≡ d → limits d n ≡ allowed.No reason → UseFault l path r n reason
+      there : (d : ℕ) → left path ≡ d → limits d n ≡ Err reason → UseFault l path r n reason
       there zero e p = let q : TooDeep ≡ reason = cc in subst (UseFault l path r n) q (too-deep k c (omega arith))
       there (suc d) e p = many reason (omega arith) (ltb n most_names) refl p
 
-      less : (d : ℕ) → left path ≡ d → length path < most_open → most_names ≤ n → limits d n ≡ allowed.No TooManyNames
+      less : (d : ℕ) → left path ≡ d → length path < most_open → most_names ≤ n → limits d n ≡ Err TooManyNames
       less zero e s m = absurd (omega arith)
       less (suc d) e s m = rw (le-ltb n most_names m) refl
 
-      back : {reason : Reason} → UseFault l path r n reason → limits (left path) n ≡ allowed.No reason
+      back : {reason : Reason} → UseFault l path r n reason → limits (left path) n ≡ Err reason
       back (not_known x) = absurd (x k)
       back (cyclic x b) = absurd (c b)
       back (too-deep x y d) = let z : left path ≡ 0 = omega arith in rw z refl
       back (too_many x y s m) = less (left path) refl s m
 
-  decided : {m : Meaning} → Said l path r m → (reason : Reason) → (allowed_by m path n ≡ allowed.No reason) ↔ UseFault l path r n reason
+  decided : {m : Meaning} → Said l path r m → (reason : Reason) → (allowed_by m path n ≡ Err reason) ↔ UseFault l path r n reason
   decided (by-month t k c) reason = limited k c reason
   decided (by-none x) reason =
       (λ p. (let q : UnknownAbbreviation ≡ reason = cc in subst (UseFault l path r n) q (not_known x)), λ u. back u)
     where
-      back : {reason : Reason} → UseFault l path r n reason → allowed.No UnknownAbbreviation ≡ allowed.No reason
+      back : {reason : Reason} → UseFault l path r n reason → ◌≡◌ {A = Result ⊤ Reason} (Err UnknownAbbreviation) (Err reason)
       back (not_known y) = refl
       back (cyclic k b) = absurd (x k)
       back (too-deep k y d) = absurd (x k)
@@ -184,23 +182,23 @@ module _ (l : Lent) (path : List ℕ) (r : Row) (n : ℕ) where
       member : (b : BeingResolved l path r) → on_path j path ≡ true
       member b = (on-path j path).1 (subst (λ (i : ℕ). Memᴰ i path) (one b.0 b.1 b.2) b.1)
 
-      back : BeingResolved l path r → {reason : Reason} → UseFault l path r n reason → allowed.No Cyclic ≡ allowed.No reason
+      back : BeingResolved l path r → {reason : Reason} → UseFault l path r n reason → ◌≡◌ {A = Result ⊤ Reason} (Err Cyclic) (Err reason)
       back b (not_known y) = absurd (y (defined j d))
       back b (cyclic k c) = refl
       back b (too-deep k y s) = absurd (y b)
       back b (too_many k y s m) = absurd (y b)
 
       by : (w : Bool) → on_path j path ≡ w
-          → (cond w (allowed.No Cyclic) (limits (left path) n) ≡ allowed.No reason) ↔ UseFault l path r n reason
+          → (cond w (Err Cyclic) (limits (left path) n) ≡ Err reason) ↔ UseFault l path r n reason
       by true e =
           let b : BeingResolved l path r = (j, (on-path j path).0 e, d) in
           (λ p. (let q : Cyclic ≡ reason = cc in subst (UseFault l path r n) q (cyclic (defined j d) b)), λ u. back b u)
       by false e = limited (defined j d) (λ b. true-not-false (on_path j path) (member b) e) reason
 
-  exactly : (reason : Reason) → Counting l path → (use_of l path r n ≡ allowed.No reason) ↔ UseFault l path r n reason
+  exactly : (reason : Reason) → Counting l path → (use_of l path r n ≡ Err reason) ↔ UseFault l path r n reason
   exactly reason h = decided (said l path r h) reason
 
-  cyclic-by-name : Counting l path → (use_of l path r n ≡ allowed.No Cyclic) ↔ BeingResolved l path r
+  cyclic-by-name : Counting l path → (use_of l path r n ≡ Err Cyclic) ↔ BeingResolved l path r
   cyclic-by-name h =
       (λ e. resolving ((exactly Cyclic h).0 e) refl, λ b. (exactly Cyclic h).1 (cyclic (defined b.0 b.2) b))
     where
@@ -211,14 +209,14 @@ module _ (l : Lent) (path : List ℕ) (r : Row) (n : ℕ) where
       resolving (too_many k y s m) e = let z : ◌≡◌ {A = ℕ} 0 1 = cc in absurd (omega arith)
 
 -- a use that is allowed has names left to open
-pub use-left : (l : Lent) (path : List ℕ) (r : Row) (n : ℕ) → use_of l path r n ≡ allowed.Yes → 1 ≤ left path
+pub use-left : (l : Lent) (path : List ℕ) (r : Row) (n : ℕ) → use_of l path r n ≡ Ok tt → 1 ≤ left path
 use-left l path r n = by (meaning_of l r)
   where
-    asked : (w : Bool) → cond w (allowed.No Cyclic) (limits (left path) n) ≡ allowed.Yes → 1 ≤ left path
+    asked : (w : Bool) → cond w (Err Cyclic) (limits (left path) n) ≡ Ok tt → 1 ≤ left path
     asked true e = let z : ◌≡◌ {A = ℕ} 0 1 = cc in absurd (omega arith)
     asked false e = (some-limits (left path) n e).0
 
-    by : (m : Meaning) → allowed_by m path n ≡ allowed.Yes → 1 ≤ left path
+    by : (m : Meaning) → allowed_by m path n ≡ Ok tt → 1 ≤ left path
     by (definition j) e = asked (on_path j path) e
     by (month t) e = (some-limits (left path) n e).0
     by unknown e = let z : ◌≡◌ {A = ℕ} 0 1 = cc in absurd (omega arith)
@@ -237,7 +235,7 @@ module _ (l : Lent) (verb : Bool) (path : List ℕ) (r : Row) (n : ℕ) where
   goes = name_by l verb path r n (left path) ∙ by (meaning_of l r)
     where
       asked : (b : Bool) (x : Run)
-          → cond b (at_use Cyclic r) (or_refused (limits (left path) n) r x) ≡ or_refused (cond b (allowed.No Cyclic) (limits (left path) n)) r x
+          → cond b (at_use Cyclic r) (or_refused (limits (left path) n) r x) ≡ or_refused (cond b (Err Cyclic) (limits (left path) n)) r x
       asked true x = refl
       asked false x = refl
 
@@ -249,13 +247,13 @@ module _ (l : Lent) (verb : Bool) (path : List ℕ) (r : Row) (n : ℕ) where
           (opened r n m (λ j. parse_field (element l verb (name l verb (left path - 1) (path ++ j ∷ []))) (elements_of l j) (suc n))))
           ≡ or_refused (allowed_by m path n) r (opened r n m value)
       by (definition j) =
-          asked (on_path j path) _ ∙ ap (λ (x : Run). or_refused (cond (on_path j path) (allowed.No Cyclic) (limits (left path) n)) r x) (deeper j)
+          asked (on_path j path) _ ∙ ap (λ (x : Run). or_refused (cond (on_path j path) (Err Cyclic) (limits (left path) n)) r x) (deeper j)
       by (month t) = refl
       by unknown = refl
 
-  use-refused : (reason : Reason) → use_of l path r n ≡ allowed.No reason
+  use-refused : (reason : Reason) → use_of l path r n ≡ Err reason
       → name l verb (left path) path r n ≡ stop (record { reason = reason; start = r.start; end = r.end })
-  use-refused reason u = goes ∙ ap (λ (w : Allowed). or_refused w r (opened r n (meaning_of l r) value)) u
+  use-refused reason u = goes ∙ ap (λ (w : Result ⊤ Reason). or_refused w r (opened r n (meaning_of l r) value)) u
 
 -- ---- the elements that are met
 
@@ -265,11 +263,11 @@ counting l verb i path r n (in-definition {path = p} {q = q} {m = m} t a y j e x
     ⊎_elim (λ (b : Memᴰ k p). counting l verb i p q m t k b)
     (λ (b : Memᴰ k (j ∷ [])). subst (Counts l) (sym (Memᴰ.eq_of_singleton b)) last) (Memᴰ.append_cases p d)
   where
-    found-row : (f : Found) (m : Meaning) → ((g : ℕ) → m ≡ definition g → ⊥) → or_month f m ≡ definition j → f ≡ found.Row j
-    found-row (found.Row g) m other e = let z : g ≡ j = cc in ap found.Row z
-    found-row found.Nothing m other e = absurd (other j e)
+    found-row : (f : Option ℕ) (m : Meaning) → ((g : ℕ) → m ≡ definition g → ⊥) → or_month f m ≡ definition j → f ≡ Some j
+    found-row (Some g) m other e = let z : g ≡ j = cc in ap Some z
+    found-row None m other e = absurd (other j e)
 
-    at : last_named l.file (spelt l q) l.rows ≡ found.Row j
+    at : last_named l.file (spelt l q) l.rows ≡ Some j
     at = found-row (last_named l.file (spelt l q) l.rows) (month_of (spelt l q) l.months) (not-defined (spelt l q) l.months) e
 
     last : Counts l j
@@ -325,14 +323,14 @@ module _ (l : Lent) (verb : Bool) (i : ℕ) where
       (walk-stops (each l verb []) (elements (drop (suc i) l.rows)) 0 r n f x (name-element l verb (name l verb most_open []) r n h ∙ e))
   stops path r n (in-definition {path = p} {q = q} {m = m} t a y j d x) h f e =
       stops p q m t a f
-      (goes l verb p q m ∙ ap (λ (w : Allowed). or_refused w q (opened q m (meaning_of l q) (value l verb p q m))) y
+      (goes l verb p q m ∙ ap (λ (w : Result ⊤ Reason). or_refused w q (opened q m (meaning_of l q) (value l verb p q m))) y
       ∙ ap (λ (w : Meaning). opened q m w (value l verb p q m)) d
       ∙ ap flattened
       (walk-stops (each l verb (p ++ j ∷ [])) (elements_of l j) (suc m) r n f x
       (name-element l verb (name l verb (left (p ++ j ∷ [])) (p ++ j ∷ [])) r n h ∙ e)))
 
   refuses : (path : List ℕ) (r : Row) (n : ℕ) (reason : Reason) → Met l verb i path r n → is_kind Name r.kind ≡ true
-      → use_of l path r n ≡ allowed.No reason → field_of l verb i ≡ refused (record { reason = reason; start = r.start; end = r.end })
+      → use_of l path r n ≡ Err reason → field_of l verb i ≡ refused (record { reason = reason; start = r.start; end = r.end })
   refuses path r n reason t h u =
       stops path r n t h (record { reason = reason; start = r.start; end = r.end }) (use-refused l verb path r n reason u)
 

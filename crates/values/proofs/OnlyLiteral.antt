@@ -1,5 +1,8 @@
 -- A value that is one literal: `only-literal`.
 -- Assumes nothing.
+use Rattle.std.proofs.lemmas.Option.{some_pair_parts}
+use Rattle.std.specs.Prelude.{Option, Some, None}
+use Rattle.values.specs.declared.elements.Element.{Element}
 use Prim.Native.Nat.{ℕ, ◌+◌}
 use native.Mathlib.Omega.{arith}
 use mathlib.Core.Path.{◌≡◌, refl, ap, ◌∙◌}
@@ -17,27 +20,25 @@ use Rattle.literal.specs.Literal as literal
 use Rattle.resolve.specs.OneLiteral.{value_of}
 use Rattle.resolve.specs.Checks.{Lent}
 use Rattle.resolve.specs.Runs.{Run, done, of_literal}
-use Rattle.values.specs.declared.elements.Element.{Element}
 use Rattle.values.specs.declared.elements.Element.TheVariants as element
-use Rattle.values.specs.declared.elements.Only.TheVariants as only
 use Rattle.values.specs.Field.{onward, flattened, of_run}
 use Rattle.values.specs.Uses.{first_element, only_of, only_at, value_from}
 use Rattle.values.specs.OnlyLiteral.{OnlyLiteral}
 use Rattle.values.proofs.ways.ElementWays.{from-none, from-literal, spans-from, placed}
 
 -- the first element is the literal, and there is no second
-only-both : (v w : Element) (a e : ℕ) → only_of v w ≡ only.Literal a e → (v ≡ element.Literal a e) × (w ≡ element.Nothing)
-only-both (element.Literal b f) element.Nothing a e h = (cc, refl)
-only-both (element.Literal b f) (element.Literal c g) a e h = let z : ◌≡◌ {A = ℕ} 0 1 = cc in absurd (omega arith)
-only-both (element.Literal b f) (element.Name c g) a e h = let z : ◌≡◌ {A = ℕ} 0 1 = cc in absurd (omega arith)
-only-both (element.Name b f) w a e h = let z : ◌≡◌ {A = ℕ} 0 1 = cc in absurd (omega arith)
-only-both element.Nothing w a e h = let z : ◌≡◌ {A = ℕ} 0 1 = cc in absurd (omega arith)
+only-both : (v w : Option Element) (a e : ℕ) → only_of v w ≡ Some (a, e) → (v ≡ Some (element.Literal a e)) × (w ≡ None)
+only-both (Some (element.Literal b f)) None a e h = let p = some_pair_parts b a f e h in (cc, refl)
+only-both (Some (element.Literal b f)) (Some (element.Literal c g)) a e h = let z : ◌≡◌ {A = ℕ} 0 1 = cc in absurd (omega arith)
+only-both (Some (element.Literal b f)) (Some (element.Name c g)) a e h = let z : ◌≡◌ {A = ℕ} 0 1 = cc in absurd (omega arith)
+only-both (Some (element.Name b f)) w a e h = let z : ◌≡◌ {A = ℕ} 0 1 = cc in absurd (omega arith)
+only-both None w a e h = let z : ◌≡◌ {A = ℕ} 0 1 = cc in absurd (omega arith)
 
-module _ (rows : List ℕ) (i a e : ℕ) (h : only_at rows i ≡ only.Literal a e) where
-  here : first_element (rows_of (drop i rows)) ≡ element.Literal a e
+module _ (rows : List ℕ) (i a e : ℕ) (h : only_at rows i ≡ Some (a, e)) where
+  here : first_element (rows_of (drop i rows)) ≡ Some (element.Literal a e)
   here = (only-both (first_element (rows_of (drop i rows))) (first_element (rows_of (drop (i + 4) rows))) a e h).0
 
-  none-next : first_element (rows_of (drop (i + 4) rows)) ≡ element.Nothing
+  none-next : first_element (rows_of (drop (i + 4) rows)) ≡ None
   none-next = (only-both (first_element (rows_of (drop i rows))) (first_element (rows_of (drop (i + 4) rows))) a e h).1
 
   -- the literal's row is one of the rows
@@ -68,7 +69,7 @@ module _ (rows : List ℕ) (i a e : ℕ) (h : only_at rows i ≡ only.Literal a 
 pub only-literal : OnlyLiteral
 only-literal = record {
   inside = λ file rows months words i a e lent whole h.
-      let at = placed file rows i (spans-from file rows months words i lent whole) _ refl (element.Literal a e) (here rows i a e h) in
+      let at = placed file rows i (spans-from file rows months words i lent whole) _ refl (Some (element.Literal a e)) (here rows i a e h) in
       (at.1, at.2);
   value = λ l verb left path rows i a e h. one_value rows i a e h l verb left path;
 }

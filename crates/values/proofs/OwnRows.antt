@@ -1,5 +1,6 @@
 -- What a value resolves to depends on its own elements, the definitions and the month words alone: `own-rows`.
 -- Assumes nothing.
+use Rattle.std.specs.Prelude.{Option, Some, None}
 use Prim.Native.Nat.{ℕ, zero, suc, ◌+◌}
 use native.Mathlib.Omega.{arith}
 use mathlib.Core.Path.{◌≡◌, refl, sym, ap, ap₂, subst, ◌∙◌}
@@ -7,13 +8,12 @@ use mathlib.Core.Bool.{Bool, true, false, cond, ◌&&◌, ◌||◌}
 use mathlib.Core.List.{List, [], ◌∷◌, ◌++◌, map, map-append}
 use lib.ListN.{length, drop}
 use lib.Dec.{eqb, leb, ltb, eqb-zero-suc, eqb-suc-zero, eqb-suc-suc}
+use Rattle.std.proofs.Common.{Option, Some, None}
 use Rattle.row.specs.declared.form.Kind.TheVariants.{Literal, DefinitionName}
 use Rattle.row.specs.declared.fault.Reason.{Reason}
 use Rattle.row.specs.declared.fault.Reason.TheVariants.{UnknownAbbreviation, Cyclic, TooDeep, TooManyNames}
 use Rattle.row.specs.Row.{Row}
 use Rattle.row.specs.Rules.{is_kind}
-use Rattle.lookup.specs.declared.plain.Found.{Found}
-use Rattle.lookup.specs.declared.plain.Found.TheVariants as found
 use Rattle.text.specs.SameBytes.{same_bytes}
 use Rattle.text.proofs.general.Tests.{true-not-false}
 use Rattle.row.specs.Limits.{most_literal, most_arguments, most_open, most_names}
@@ -58,22 +58,22 @@ same_row (pass {i = i} p x) (pass {i = j} q y) = eqb-suc-suc i j ∙ same_row x 
 
 -- ---- the search for a name, among rows and among definitions
 
-unfoldable last_in : List ℕ → List Definition → Found
-last_in w [] = found.Nothing
+unfoldable last_in : List ℕ → List Definition → Option ℕ
+last_in w [] = None
 last_in w (d ∷ ds) = later (last_in w ds) (same_bytes d.name w)
 
 -- both find nothing, or the row and the number of one definition
-data Met (rs : List Row) : Found → Found → Type 0 where
-  none : Met rs found.Nothing found.Nothing
-  some : {i k : ℕ} → At rs i k → Met rs (found.Row i) (found.Row k)
+data Met (rs : List Row) : Option ℕ → Option ℕ → Type 0 where
+  none : Met rs None None
+  some : {i k : ℕ} → At rs i k → Met rs (Some i) (Some k)
 
-met_next : {r : Row} {rs : List Row} {f g : Found} → is_definition r ≡ true → Met rs f g → (x : Bool) → Met (r ∷ rs) (later f x) (later g x)
+met_next : {r : Row} {rs : List Row} {f g : Option ℕ} → is_definition r ≡ true → Met rs f g → (x : Bool) → Met (r ∷ rs) (later f x) (later g x)
 unfolding later
 met_next e none true = some (here e)
 met_next e none false = none
 met_next e (some a) x = some (next e a)
 
-met-pass : {r : Row} {rs : List Row} {f g : Found} → is_definition r ≡ false → Met rs f g → Met (r ∷ rs) (later f false) g
+met-pass : {r : Row} {rs : List Row} {f g : Option ℕ} → is_definition r ≡ false → Met rs f g → Met (r ∷ rs) (later f false) g
 unfolding later
 met-pass e none = none
 met-pass e (some a) = some (pass e a)
@@ -238,7 +238,7 @@ module _ (tell : ℕ → ℕ) (steady : Steady tell) (verb : Bool) (l l' : Lent)
       by (finds tell l w l.rows)
       (subst (λ (xs : List Definition). Met l'.rows (last_named l'.file w l'.rows) (last_in w xs)) (sym ds) (finds tell l' w l'.rows))
     where
-      by : {f g o : Found} → Met l.rows f o → Met l'.rows g o → MeansSame (or_month f (month_of w l.months)) (or_month g (month_of w l'.months))
+      by : {f g o : Option ℕ} → Met l.rows f o → Met l'.rows g o → MeansSame (or_month f (month_of w l.months)) (or_month g (month_of w l'.months))
       by none none = subst (λ (xs : List Month). MeansSame (month_of w l.months) (month_of w xs)) ms (month-same w l.months)
       by (some x) (some y) = one x y
 

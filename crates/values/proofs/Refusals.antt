@@ -1,5 +1,6 @@
 -- Which refusals a value can come to, and their places: `refusals`.
 -- Assumes nothing.
+use Rattle.std.specs.Prelude.{Result, Ok, Err, ⊤}
 use Prim.Native.Nat.{ℕ, zero, suc, ◌+◌, ◌≤◌}
 use native.Mathlib.Omega.{arith}
 use mathlib.Core.Path.{◌≡◌, refl, sym, ap, subst, ◌∙◌}
@@ -21,8 +22,6 @@ use Rattle.literal.proofs.Refusals.{refusals as literal-refusals}
 use Rattle.resolve.specs.Resolves.{refused}
 use Rattle.resolve.specs.Checks.{Lent}
 use Rattle.resolve.specs.Runs.{Run, done, stop, of_literal}
-use Rattle.values.specs.declared.elements.Allowed.{Allowed}
-use Rattle.values.specs.declared.elements.Allowed.TheVariants as allowed
 use Rattle.values.specs.Field.{is_element, elements, behind, onward, walk, flattened, parse_field, Meaning, definition, month, unknown}
 use Rattle.values.specs.Field.{spelt, meaning_of, elements_of, opened, name, of_run, field_of}
 use Rattle.values.specs.NameUses.{UseFault, not_known, cyclic, too-deep, too_many, left, allowed_by, use_of, or_refused, each, Reached, Met, in-value}
@@ -110,18 +109,18 @@ module _ (l : Lent) (verb : Bool) (i : ℕ) where
 
   -- where the names of the definition that is opened are fair
   name-step : (path : List ℕ) (r : Row) (n : ℕ) → Met l verb i path r n → is_kind Name r.kind ≡ true
-      → ((j : ℕ) → use_of l path r n ≡ allowed.Yes → Each (path ++ j ∷ [])) → Fair (name l verb (left path) path r n)
+      → ((j : ℕ) → use_of l path r n ≡ Ok tt → Each (path ++ j ∷ [])) → Fair (name l verb (left path) path r n)
   name-step path r n t h on = subst Fair (sym (name-uses.goes l verb path r n)) (by (use_of l path r n) refl (meaning_of l r) refl)
     where
-      by : (a : Allowed) → use_of l path r n ≡ a → (m : Meaning) → meaning_of l r ≡ m
+      by : (a : Result ⊤ Reason) → use_of l path r n ≡ a → (m : Meaning) → meaning_of l r ≡ m
           → Fair (or_refused a r (opened r n m (λ j. parse_field (each l verb (path ++ j ∷ [])) (elements_of l j) (suc n))))
-      by (allowed.No reason) u m q =
+      by (Err reason) u m q =
           used path r n reason t h ((name-uses.exactly l path r n reason (name-uses.counting l verb i path r n t)).0 u)
-      by allowed.Yes u (definition j) q =
+      by (Ok tt) u (definition j) q =
           parse-fair (path ++ j ∷ []) (on j u) (drop (j + 2) l.rows) (suc n) (λ p m x. in-definition t h u j q x)
-      by allowed.Yes u (month x) q = tt
-      by allowed.Yes u unknown q =
-          let y : allowed_by unknown path n ≡ allowed.Yes = ap (λ (m : Meaning). allowed_by m path n) (sym q) ∙ u in
+      by (Ok tt) u (month x) q = tt
+      by (Ok tt) u unknown q =
+          let y : allowed_by unknown path n ≡ Ok tt = ap (λ (m : Meaning). allowed_by m path n) (sym q) ∙ u in
           let z : ◌≡◌ {A = ℕ} 0 1 = cc in
           absurd (omega arith)
 

@@ -4,15 +4,13 @@
 --     field_of                    the value of a row
 -- Field and name call each other in the Rust; here a field takes as a parameter what names come to, and a name's depth falls.
 -- Assumes nothing.
-use Rattle.std.specs.Prelude.{ℕ, zero, suc, ◌+◌, Bool, false, cond, ◌||◌, List, [], ◌∷◌, ◌++◌, drop, eqb, ltb}
+use Rattle.std.specs.Prelude.{ℕ, zero, suc, ◌+◌, Bool, false, cond, ◌||◌, List, [], ◌∷◌, ◌++◌, drop, eqb, ltb, Option, Some, None}
 use Rattle.text.specs.Scan.{part}
 use Rattle.row.specs.declared.form.Kind.TheVariants.{Literal, Name}
 use Rattle.row.specs.declared.fault.Reason.{Reason}
 use Rattle.row.specs.declared.fault.Reason.TheVariants.{UnknownAbbreviation, Cyclic, TooDeep, TooManyNames}
 use Rattle.row.specs.Row.{Row}
 use Rattle.row.specs.Rules.{is_kind}
-use Rattle.lookup.specs.declared.plain.Found.{Found}
-use Rattle.lookup.specs.declared.plain.Found.TheVariants as found
 use Rattle.text.specs.SameBytes.{same_bytes}
 use Rattle.row.specs.Limits.{most_open, most_names}
 use Rattle.lookup.specs.Names.{last_named}
@@ -77,9 +75,9 @@ month_of name [] = unknown
 month_of name (m ∷ ms) = cond (same_bytes m.word name) (month m.text) (month_of name ms)
 
 -- "The month list is asked only if there is none"
-abbrev pub or_month : Found → Meaning → Meaning
-or_month (found.Row i) m = definition i
-or_month found.Nothing m = m
+abbrev pub or_month : Option ℕ → Meaning → Meaning
+or_month (Some i) m = definition i
+or_month None m = m
 
 -- the bytes of a row
 abbrev pub spelt : Lent → Row → List ℕ

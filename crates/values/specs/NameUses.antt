@@ -7,7 +7,7 @@
 --     Counts, Counting                a definition is the one of its name that counts
 --     NameUses                        the theorems
 -- Assumes nothing.
-use Rattle.std.specs.Prelude.{ℕ, suc, ◌-◌, ◌≤◌, ◌<◌, ◌≡◌, ◌↔◌, Bool, true, cond, length, drop}
+use Rattle.std.specs.Prelude.{ℕ, suc, ◌-◌, ◌≤◌, ◌<◌, ◌≡◌, ◌↔◌, Bool, true, cond, length, drop, Some, Result, Ok, Err, ⊤}
 use mathlib.Core.List.{List, [], ◌∷◌, ◌++◌, Memᴰ}
 use Rattle.row.specs.declared.form.Kind.TheVariants.{Name, DefinitionName}
 use Rattle.row.specs.declared.fault.Reason.{Reason}
@@ -15,14 +15,11 @@ use Rattle.row.specs.declared.fault.Reason.TheVariants.{UnknownAbbreviation, Cyc
 use Rattle.row.specs.Row.{Row}
 use Rattle.row.specs.Rules.{is_kind}
 use Rattle.row.specs.Limits.{most_open, most_names}
-use Rattle.lookup.specs.declared.plain.Found.TheVariants as found
 use Rattle.lookup.specs.Names.{last_named, row_no}
 use Rattle.chunk.specs.Chunk.{Chunk}
 use Rattle.resolve.specs.Resolves.{resolved, refused}
 use Rattle.resolve.specs.Checks.{Month, Lent}
 use Rattle.resolve.specs.Runs.{Run, done}
-use Rattle.values.specs.declared.elements.Allowed.{Allowed}
-use Rattle.values.specs.declared.elements.Allowed.TheVariants as allowed
 use Rattle.values.specs.Field.{elements, walk, parse_field, element, Meaning, definition, month, unknown, spelt, meaning_of, on_path, at_use}
 use Rattle.values.specs.Field.{elements_of, opened, name, field_of}
 use Rattle.values.specs.Uses.{limits}
@@ -57,18 +54,18 @@ pub data UseFault (l : Lent) (path : List ℕ) (r : Row) (n : ℕ) : Reason → 
 abbrev pub left : List ℕ → ℕ
 left path = most_open - length path
 
-abbrev pub allowed_by : Meaning → List ℕ → ℕ → Allowed
-allowed_by (definition i) path n = cond (on_path i path) (allowed.No Cyclic) (limits (left path) n)
+abbrev pub allowed_by : Meaning → List ℕ → ℕ → Result ⊤ Reason
+allowed_by (definition i) path n = cond (on_path i path) (Err Cyclic) (limits (left path) n)
 allowed_by (month t) path n = limits (left path) n
-allowed_by unknown path n = allowed.No UnknownAbbreviation
+allowed_by unknown path n = Err UnknownAbbreviation
 
-abbrev pub use_of : Lent → List ℕ → Row → ℕ → Allowed
+abbrev pub use_of : Lent → List ℕ → Row → ℕ → Result ⊤ Reason
 use_of l path r n = allowed_by (meaning_of l r) path n
 
 -- a use that is allowed goes on, and one that is not is refused
-abbrev pub or_refused : Allowed → Row → Run → Run
-or_refused allowed.Yes r go = go
-or_refused (allowed.No reason) r go = at_use reason r
+abbrev pub or_refused : Result ⊤ Reason → Row → Run → Run
+or_refused (Ok tt) r go = go
+or_refused (Err reason) r go = at_use reason r
 
 -- ---- the elements that are met
 
@@ -88,7 +85,7 @@ pub record Reached (one : Row → ℕ → Run) (rs : List Row) (k : ℕ) (r : Ro
 -- reached in the value itself, or in the definition j of a name whose use was met and is allowed
 pub data Met (l : Lent) (verb : Bool) (i : ℕ) : List ℕ → Row → ℕ → Type 0 where
   in-value : {r : Row} {n : ℕ} → Reached (each l verb []) (elements (drop (suc i) l.rows)) 0 r n → Met l verb i [] r n
-  in-definition : {path : List ℕ} {q : Row} {m : ℕ} → Met l verb i path q m → is_kind Name q.kind ≡ true → use_of l path q m ≡ allowed.Yes
+  in-definition : {path : List ℕ} {q : Row} {m : ℕ} → Met l verb i path q m → is_kind Name q.kind ≡ true → use_of l path q m ≡ Ok tt
       → (j : ℕ) → meaning_of l q ≡ definition j
       → {r : Row} {n : ℕ} → Reached (each l verb (path ++ j ∷ [])) (elements_of l j) (suc m) r n → Met l verb i (path ++ j ∷ []) r n
 
@@ -96,7 +93,7 @@ pub data Met (l : Lent) (verb : Bool) (i : ℕ) : List ℕ → Row → ℕ → T
 
 -- "the last definition of a name counts": row i is that of its name, and so is every row of the path
 abbrev pub Counts : Lent → ℕ → Type 0
-Counts l i = last_named l.file (spelt l (row_no l.rows i)) l.rows ≡ found.Row i
+Counts l i = last_named l.file (spelt l (row_no l.rows i)) l.rows ≡ Some i
 
 abbrev pub Counting : Lent → List ℕ → Type 0
 Counting l path = (i : ℕ) → Memᴰ i path → Counts l i
@@ -106,9 +103,9 @@ pub record NameUses : Type 0 where
   pub counting : (l : Lent) (verb : Bool) (i : ℕ) (path : List ℕ) (r : Row) (n : ℕ) → Met l verb i path r n → Counting l path
   -- 12, 13, 14 and 15, each exactly if
   pub exactly : (l : Lent) (path : List ℕ) (r : Row) (n : ℕ) (reason : Reason) → Counting l path
-      → (use_of l path r n ≡ allowed.No reason) ↔ UseFault l path r n reason
+      → (use_of l path r n ≡ Err reason) ↔ UseFault l path r n reason
   -- "A name is cyclic exactly if it is already being resolved"
-  pub cyclic : (l : Lent) (path : List ℕ) (r : Row) (n : ℕ) → Counting l path → (use_of l path r n ≡ allowed.No Cyclic) ↔ BeingResolved l path r
+  pub cyclic : (l : Lent) (path : List ℕ) (r : Row) (n : ℕ) → Counting l path → (use_of l path r n ≡ Err Cyclic) ↔ BeingResolved l path r
   -- `name` goes by what the use answers: it is refused, or its meaning is opened
   pub goes : (l : Lent) (verb : Bool) (path : List ℕ) (r : Row) (n : ℕ)
       → name l verb (left path) path r n
@@ -116,7 +113,7 @@ pub record NameUses : Type 0 where
       (opened r n (meaning_of l r) (λ j. parse_field (each l verb (path ++ j ∷ [])) (elements_of l j) (suc n)))
   -- a value in which a use is met that is refused is refused so, at the use
   pub refuses : (l : Lent) (verb : Bool) (i : ℕ) (path : List ℕ) (r : Row) (n : ℕ) (reason : Reason)
-      → Met l verb i path r n → is_kind Name r.kind ≡ true → use_of l path r n ≡ allowed.No reason
+      → Met l verb i path r n → is_kind Name r.kind ≡ true → use_of l path r n ≡ Err reason
       → field_of l verb i ≡ refused (record { reason = reason; start = r.start; end = r.end })
   -- "a field resolves at most 4,096 names"
   pub most : (l : Lent) (verb : Bool) (i n : ℕ) (cs : List Chunk) → field_of l verb i ≡ resolved cs n → n ≤ most_names

@@ -3,3 +3,4 @@
 
 pub mod elements;
 pub mod months;
+pub mod resolver;

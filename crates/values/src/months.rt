@@ -6,15 +6,8 @@ ghost use Rattle.values.specs.Uses.{MonthFound};
 use lookup::plain;
 use resolve::lent;
 
-// A month word's text in the lent bytes, or that there is no such word.
-#[derive(Clone, Copy)]
-pub enum Month {
-    Text { from: usize, to: usize },
-    Nothing,
-}
-
-// The text of a month word: of equal words the first counts.
-pub fn find_month(months: &[u32], words: &[u8], name: &[u8]) -> Month
+// Where the text of a month word stands in the lent bytes, if there is such a word: of equal words the first counts.
+pub fn find_month(months: &[u32], words: &[u8], name: &[u8]) -> Option<(usize, usize)>
     requires { are_months months.now words.now ≡ true }
     ensures { MonthFound months.now words.now name.now result }
 {
@@ -23,12 +16,9 @@ pub fn find_month(months: &[u32], words: &[u8], name: &[u8]) -> Month
         let from = lent::place(months[i]);
         let to = lent::place(months[i + 1]);
         if plain::equal(&words[from..to], name) {
-            return Month::Text {
-                from: lent::place(months[i + 2]),
-                to: lent::place(months[i + 3]),
-            };
+            return Some((lent::place(months[i + 2]), lent::place(months[i + 3])));
         }
         i += 4;
     }
-    Month::Nothing
+    None
 }

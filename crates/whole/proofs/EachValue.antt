@@ -1,5 +1,6 @@
 -- The call over a whole file answers for each value what `resolve_field` answers for it: `each-value`.
 -- Assumes nothing.
+use Rattle.std.specs.Prelude.{Ok}
 use Prim.Native.Nat.{ℕ, zero, suc, ◌<◌}
 use native.Mathlib.Omega.{arith}
 use native.Mathlib.Numerals.{add-one}
@@ -14,7 +15,6 @@ use Rattle.row.specs.Fault.{nowhere}
 use Rattle.row.specs.Row.{Row}
 use Rattle.row.specs.Numbers.{rows_of}
 use Rattle.row.specs.Limits.{least_scratch}
-use Rattle.chunk.specs.declared.answer.Checked.TheVariants as checked
 use Rattle.resolve.specs.Resolves.{Value, refused, checked_file, after}
 use Rattle.resolve.specs.Checks.{Lent, are_lent, is_value, is_right, lent_of}
 use Rattle.values.specs.Field.{field_of}
@@ -79,7 +79,7 @@ row_at rs (r ∷ ss) i k e h = by (is_value_row r) refl k (λ k. row_at rs ss (s
 -- ---- the call
 
 -- a call for one value, lent the same, passes its checks and comes to the value
-value-is : (file rows months words : List ℕ) (i : ℕ) (verb : Bool) (w : ℕ) → checked_file file ≡ checked.Passed → are_lent file rows months words ≡ true
+value-is : (file rows months words : List ℕ) (i : ℕ) (verb : Bool) (w : ℕ) → checked_file file ≡ Ok tt → are_lent file rows months words ≡ true
     → leb least_scratch w ≡ true → is_value (drop i (rows_of rows)) ≡ true
     → field_of (lent_of file rows months words) verb i ≡ value_at file rows i verb months words w
 value-is file rows months words i verb w p q r y = sym (same (field_of (lent_of file rows months words) verb i))

@@ -1,5 +1,7 @@
 -- Which refusals `resolve_file` can answer for itself and for each value, and their places: `refusals`.
 -- Assumes nothing.
+use Rattle.std.specs.Prelude.{Result, Ok, Err, ⊤}
+use Rattle.whole.specs.declared.file.Filed.{Filed}
 use Prim.Native.Nat.{ℕ, ◌/◌, ◌<◌}
 use native.Mathlib.Omega.{arith}
 use mathlib.Core.Path.{◌≡◌, refl, sym, ap, subst, ◌∙◌}
@@ -13,16 +15,12 @@ use Rattle.row.specs.declared.fault.Fault.{Fault}
 use Rattle.row.specs.declared.fault.Reason.TheVariants.{NoRoom, BadRows}
 use Rattle.row.specs.Fault.{number_of, nowhere}
 use Rattle.row.specs.Limits.{least_scratch}
-use Rattle.chunk.specs.declared.answer.Checked.{Checked}
-use Rattle.chunk.specs.declared.answer.Checked.TheVariants as checked
 use Rattle.literal.specs.Rows.{most_number}
 use Rattle.resolve.specs.Resolves.{Value, checked_file}
 use Rattle.resolve.specs.Checks.{lent_of}
 use Rattle.resolve.specs.Refusals.{CallFault, first, not_right, full, FullCall}
 use Rattle.resolve.proofs.Refusals.{refusals as call-refusals}
 use Rattle.values.proofs.Refusals.{refusals as value-refusals}
-use Rattle.whole.specs.declared.file.Filed.{Filed}
-use Rattle.whole.specs.declared.file.Filed.TheVariants as filed
 use Rattle.whole.specs.WholeFile.{flag, results, texts, count_rows, small_all, fits_all, all, none, tell_all, are_filed, after_all}
 use Rattle.whole.specs.EachValue.{value_rows}
 use Rattle.whole.specs.Refusals.{NeedsMoreAll, Refusals}
@@ -60,54 +58,54 @@ module _ (vs : List Value) (q b t : List ℕ) where
 
 module _ (file : List ℕ) (good : Bool) (w : ℕ) (vs : List Value) (q b t : List ℕ) where
   -- what the call comes to, by what it asks
-  abbrev call : Checked → Bool → Bool → Filed
+  abbrev call : Result ⊤ Fault → Bool → Bool → Result Filed Fault
   call c x y = tell_all (after_all c (cond x (cond y (all vs) (none (nowhere NoRoom))) (none (nowhere BadRows)))) q b t
 
-  call-fault : (f : Fault) → filed.Refused f ≡ call (checked_file file) good (leb least_scratch w) → CallFault file good (λ g. ⊥) f
+  call-fault : (f : Fault) → Err f ≡ call (checked_file file) good (leb least_scratch w) → CallFault file good (λ g. ⊥) f
   call-fault f = by (checked_file file) refl good refl (leb least_scratch w)
     where
-      by : (c : Checked) → checked_file file ≡ c → (x : Bool) → good ≡ x → (y : Bool) → filed.Refused f ≡ call c x y → CallFault file good (λ g. ⊥) f
-      by (checked.Refused g) p x r y e = let z : g ≡ f = cc in first f (call-refusals.file file f (p ∙ ap checked.Refused z))
-      by checked.Passed p false r y e = let z : nowhere BadRows ≡ f = cc in subst (CallFault file good (λ g. ⊥)) z (not_right p r)
-      by checked.Passed p true r false e = let z : nowhere NoRoom ≡ f = cc in subst (CallFault file good (λ g. ⊥)) z (full (p, r))
-      by checked.Passed p true r true e = room _ _ _ (fits_all vs q b t) e
+      by : (c : Result ⊤ Fault) → checked_file file ≡ c → (x : Bool) → good ≡ x → (y : Bool) → Err f ≡ call c x y → CallFault file good (λ g. ⊥) f
+      by (Err g) p x r y e = let z : g ≡ f = cc in first f (call-refusals.file file f (p ∙ ap Err z))
+      by (Ok tt) p false r y e = let z : nowhere BadRows ≡ f = cc in subst (CallFault file good (λ g. ⊥)) z (not_right p r)
+      by (Ok tt) p true r false e = let z : nowhere NoRoom ≡ f = cc in subst (CallFault file good (λ g. ⊥)) z (full (p, r))
+      by (Ok tt) p true r true e = room _ _ _ (fits_all vs q b t) e
         where
-          room : (i j k : ℕ) (x : Bool) → filed.Refused f ≡ cond x (filed.Values i j k) (filed.Refused (nowhere NoRoom))
+          room : (i j k : ℕ) (x : Bool) → Err f ≡ cond {A = Result Filed Fault} x (Ok (record { values = i; rows = j; bytes = k })) (Err (nowhere NoRoom))
               → CallFault file good (λ g. ⊥) f
           room i j k true e = let z : ◌≡◌ {A = ℕ} 0 1 = cc in absurd (omega arith)
           room i j k false e = let z : nowhere NoRoom ≡ f = cc in subst (CallFault file good (λ g. ⊥)) z (full (p, r))
 
   -- where 16 is answered
-  is-full : call (checked_file file) good (leb least_scratch w) ≡ filed.Refused (nowhere NoRoom) → FullCall file good w (NeedsMoreAll vs q b t)
+  is-full : call (checked_file file) good (leb least_scratch w) ≡ Err (nowhere NoRoom) → FullCall file good w (NeedsMoreAll vs q b t)
   is-full = by (checked_file file) refl good refl (leb least_scratch w) (leb-false least_scratch w)
     where
-      room : (i j k : ℕ) (x : Bool) → cond x (filed.Values i j k) (filed.Refused (nowhere NoRoom)) ≡ filed.Refused (nowhere NoRoom) → x ≡ false
+      room : (i j k : ℕ) (x : Bool) → cond {A = Result Filed Fault} x (Ok (record { values = i; rows = j; bytes = k })) (Err (nowhere NoRoom)) ≡ Err (nowhere NoRoom) → x ≡ false
       room i j k true e = let z : ◌≡◌ {A = ℕ} 0 1 = cc in absurd (omega arith)
       room i j k false e = refl
 
-      by : (c : Checked) → checked_file file ≡ c → (x : Bool) → good ≡ x → (y : Bool) → (y ≡ false → w < least_scratch)
-          → call c x y ≡ filed.Refused (nowhere NoRoom) → FullCall file good w (NeedsMoreAll vs q b t)
-      by (checked.Refused g) p x r y l e =
+      by : (c : Result ⊤ Fault) → checked_file file ≡ c → (x : Bool) → good ≡ x → (y : Bool) → (y ≡ false → w < least_scratch)
+          → call c x y ≡ Err (nowhere NoRoom) → FullCall file good w (NeedsMoreAll vs q b t)
+      by (Err g) p x r y l e =
           let z : g ≡ nowhere NoRoom = cc in
           let n : number_of g.reason ≡ 16 = ap (λ (f : Fault). number_of f.reason) z in
           absurd (omega (arith, n, call-refusals.file-own file g (call-refusals.file file g p)))
-      by checked.Passed p false r y l e =
+      by (Ok tt) p false r y l e =
           let z : nowhere BadRows ≡ nowhere NoRoom = cc in
           let n : ◌≡◌ {A = ℕ} 17 16 = ap (λ (f : Fault). number_of f.reason) z in absurd (omega (arith, n))
-      by checked.Passed p true r false l e = ((p, r), inl (l refl))
-      by checked.Passed p true r true l e = ((p, r), inr (too_much vs q b t (room _ _ _ (fits_all vs q b t) e)))
+      by (Ok tt) p true r false l e = ((p, r), inl (l refl))
+      by (Ok tt) p true r true l e = ((p, r), inr (too_much vs q b t (room _ _ _ (fits_all vs q b t) e)))
 
   -- and that it is answered then
-  then-full : FullCall file good w (NeedsMoreAll vs q b t) → call (checked_file file) good (leb least_scratch w) ≡ filed.Refused (nowhere NoRoom)
+  then-full : FullCall file good w (NeedsMoreAll vs q b t) → call (checked_file file) good (leb least_scratch w) ≡ Err (nowhere NoRoom)
   then-full ((p, r), inl h) = rw (p, r, lt-leb least_scratch w h) refl
   then-full ((p, r), inr h) = rw (p, r) (by (leb least_scratch w))
     where
-      by : (y : Bool) → call checked.Passed true y ≡ filed.Refused (nowhere NoRoom)
+      by : (y : Bool) → call (Ok tt) true y ≡ Err (nowhere NoRoom)
       by true = rw (not-fits vs q b t h) refl
       by false = refl
 
-  call-full : (r : Filed) → r ≡ call (checked_file file) good (leb least_scratch w)
-      → (r ≡ filed.Refused (nowhere NoRoom)) ↔ FullCall file good w (NeedsMoreAll vs q b t)
+  call-full : (r : Result Filed Fault) → r ≡ call (checked_file file) good (leb least_scratch w)
+      → (r ≡ Err (nowhere NoRoom)) ↔ FullCall file good w (NeedsMoreAll vs q b t)
   call-full r e = (λ z. is-full (sym e ∙ z), λ h. e ∙ then-full h)
 
 pub refusals : Refusals

@@ -4,28 +4,27 @@
 --     SoFar, CountedTo        the values of the rows before a row
 --     WroteAll, WroteTo       what the lent outputs hold when the values are written, all of them or those before a row
 -- Assumes nothing.
-use Rattle.std.specs.Prelude.{ℕ, ◌+◌, ◌*◌, ◌≤◌, ◌≡◌, Bool, true, false, not, List, [], ◌∷◌, ◌++◌, length, drop}
+use Rattle.row.specs.declared.fault.Fault.{Fault}
+use Rattle.resolve.specs.declared.progress.Progress.{Progress}
+use Rattle.resolve.specs.declared.answer.Chunks.{Chunks}
+use Rattle.std.specs.Prelude.{ℕ, ◌+◌, ◌*◌, ◌≤◌, ◌≡◌, Bool, false, not, List, [], ◌∷◌, ◌++◌, length, drop, Result, Ok, Err}
 use Rattle.row.specs.Fault.{number_of}
 use Rattle.row.specs.Numbers.{rows_of}
-use Rattle.row.specs.Limits.{most_bytes}
-use Rattle.lookup.specs.RowIndex.{Indexed}
+use Rattle.row.specs.Limits.{least_scratch}
 use Rattle.literal.specs.Rows.{most_number, texts_of}
-use Rattle.resolve.specs.declared.answer.Answer.{Answer}
-use Rattle.resolve.specs.declared.answer.Answer.TheVariants as answer
-use Rattle.resolve.specs.declared.progress.Went.{Went}
-use Rattle.resolve.specs.declared.progress.Went.TheVariants as went
 use Rattle.resolve.specs.Resolves.{Value}
-use Rattle.resolve.specs.Checks.{Lent, are_lent}
-use Rattle.resolve.specs.Progress.{small, ReadyTables}
+use Rattle.resolve.specs.Checks.{Lent}
+use Rattle.resolve.specs.Progress.{small}
+use Rattle.values.specs.declared.resolver.Resolver.{Resolver}
+use Rattle.values.specs.Uses.{IndexOf}
 use Rattle.whole.specs.declared.file.Totals.{Totals}
 use Rattle.whole.specs.WholeFile.{results_from, results, values, chunks_in, texts, chunk_numbers, count_rows, answer_numbers, small_all}
 
-pub record Filing (file rows flags months words heads next w by_name by_mark : List ℕ) : Type 0 where
-  pub short : length file ≤ most_bytes
-  pub lent : are_lent file rows months words ≡ true
-  pub index : Indexed file rows heads next
-  pub ready : ReadyTables w by_name by_mark
-  pub flagged : values (rows_of rows) ≤ length flags
+-- what is required where values are counted or written: a flag for each, and a scratch that is long enough
+pub record Filing (r : Resolver) (flags w : List ℕ) : Type 0 where
+  pub index : IndexOf r
+  pub scratch : least_scratch ≤ length w
+  pub flagged : values (rows_of r.rows.now) ≤ length flags
 
 -- the counts are small, so that none overflows
 pub record BoundedTotals (t : Totals) : Type 0 where
@@ -59,24 +58,24 @@ abbrev pub AddsTo : Totals → ℕ → ℕ → Bool → Totals → Type 0
 AddsTo t n m over r = (vs : List Value) (v : Value) → CountsAll vs t → Sized v n m over → CountsAll (vs ++ v ∷ []) r
 
 -- t with one value more is r. The value was counted; where it was refused it has no chunks
-abbrev pub AddsCounted : Totals → Went → Totals → Type 0
-AddsCounted t (went.Done st) r = AddsTo t st.rows.n st.bytes st.over r
-AddsCounted t (went.Refused f) r = AddsTo t 0 0 false r
+abbrev pub AddsCounted : Totals → Result Progress Fault → Totals → Type 0
+AddsCounted t (Ok st) r = AddsTo t st.rows.n st.bytes st.over r
+AddsCounted t (Err f) r = AddsTo t 0 0 false r
 
 -- the answer row of a value, six numbers. The value's rows and text stand behind those that t has counted
-abbrev pub six_of : Totals → Answer → List ℕ
-six_of t (answer.Chunks n m names) = 0 ∷ names ∷ t.rows ∷ (t.rows + n) ∷ t.bytes ∷ (t.bytes + m) ∷ []
-six_of t (answer.Refused f) = number_of f.reason ∷ 0 ∷ f.start ∷ f.end ∷ 0 ∷ 0 ∷ []
+abbrev pub six_of : Totals → Result Chunks Fault → List ℕ
+six_of t (Ok a) = 0 ∷ a.names ∷ t.rows ∷ (t.rows + a.rows) ∷ t.bytes ∷ (t.bytes + a.bytes) ∷ []
+six_of t (Err f) = number_of f.reason ∷ 0 ∷ f.start ∷ f.end ∷ 0 ∷ 0 ∷ []
 
 -- t with one value more is r. The value was written, with this answer
-abbrev pub AddsAnswer : Totals → Answer → Totals → Type 0
-AddsAnswer t (answer.Chunks n m names) r = AddsTo t n m false r
-AddsAnswer t (answer.Refused f) r = AddsTo t 0 0 false r
+abbrev pub AddsAnswer : Totals → Result Chunks Fault → Totals → Type 0
+AddsAnswer t (Ok a) r = AddsTo t a.rows a.bytes false r
+AddsAnswer t (Err f) r = AddsTo t 0 0 false r
 
 -- what is written of a value fits behind what was written before
-abbrev pub FitsBehind : Totals → Answer → Type 0
-FitsBehind t (answer.Chunks n m names) = (t.rows + n ≤ most_number) × (t.bytes + m ≤ most_number)
-FitsBehind t (answer.Refused f) = Unit {0}
+abbrev pub FitsBehind : Totals → Result Chunks Fault → Type 0
+FitsBehind t (Ok a) = (t.rows + a.rows ≤ most_number) × (t.bytes + a.bytes ≤ most_number)
+FitsBehind t (Err f) = Unit {0}
 
 -- the values vs are written over the answers q, the chunk rows b and the text t, which become q', b' and t'
 pub record WroteAll (vs : List Value) (q b t q' b' t' : List ℕ) : Type 0 where

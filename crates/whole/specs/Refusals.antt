@@ -3,7 +3,8 @@
 --     LacksAll, NeedsMoreAll      what the values need and is not lent
 --     Refusals                    the refusals of the call and of each value
 -- Assumes nothing.
-use Rattle.std.specs.Prelude.{ℕ, ◌/◌, ◌<◌, ◌≡◌, ◌↔◌, ◌⊎◌, List, length, get_or, drop}
+use Rattle.whole.specs.declared.file.Filed.{Filed}
+use Rattle.std.specs.Prelude.{ℕ, ◌/◌, ◌<◌, ◌≡◌, ◌↔◌, ◌⊎◌, List, length, get_or, drop, Result, Err}
 use Rattle.row.specs.declared.fault.Fault.{Fault}
 use Rattle.row.specs.declared.fault.Reason.TheVariants.{NoRoom}
 use Rattle.row.specs.Fault.{nowhere}
@@ -12,8 +13,6 @@ use Rattle.resolve.specs.Resolves.{Value, refused}
 use Rattle.resolve.specs.Checks.{lent_of}
 use Rattle.resolve.specs.Refusals.{CallFault, FullCall}
 use Rattle.values.specs.Refusals.{FieldFault}
-use Rattle.whole.specs.declared.file.Filed.{Filed}
-use Rattle.whole.specs.declared.file.Filed.TheVariants as filed
 use Rattle.whole.specs.WholeFile.{flag, results, texts, count_rows, all, are_filed, all_of, ResolvesFile}
 use Rattle.whole.specs.EachValue.{value_rows, value_no}
 
@@ -28,12 +27,12 @@ NeedsMoreAll vs q b t = ((most_number < count_rows vs) ⊎ (most_number < length
 pub record Refusals : Type 0 where
   -- the call itself answers 1, 2, 17 and 16 alone: what its work meets is the answer of a value
   pub file : (file rows flags months words w h x q b t w' h' x' q' b' t' : List ℕ) (f : Fault)
-      → ResolvesFile (all_of file rows flags months words (length w)) w h x q b t (filed.Refused f) w' h' x' q' b' t'
+      → ResolvesFile (all_of file rows flags months words (length w)) w h x q b t (Err f) w' h' x' q' b' t'
       → CallFault file (are_filed file rows flags months words) (λ g. ⊥) f
   -- 16 exactly if the scratch is too small, or the answers need more than is lent
-  pub file-full : (file rows flags months words w h x q b t w' h' x' q' b' t' : List ℕ) (r : Filed)
+  pub file-full : (file rows flags months words w h x q b t w' h' x' q' b' t' : List ℕ) (r : Result Filed Fault)
       → ResolvesFile (all_of file rows flags months words (length w)) w h x q b t r w' h' x' q' b' t'
-      → (r ≡ filed.Refused (nowhere NoRoom))
+      → (r ≡ Err (nowhere NoRoom))
       ↔ FullCall file (are_filed file rows flags months words) (length w) (NeedsMoreAll (results (lent_of file rows months words) flags) q b t)
   -- value k, if it is refused, is so as the value of its row can be
   pub values : (file rows flags months words : List ℕ) (w : ℕ) (vs : List Value) → all_of file rows flags months words w ≡ all vs

@@ -3,7 +3,8 @@
 --     answer_numbers, chunk_numbers, texts    what is written: an answer row for each value, the rows of their chunks, their texts
 --     ResolvesFile                            the contract
 -- Assumes nothing.
-use Rattle.std.specs.Prelude.{ℕ, suc, ◌+◌, ◌*◌, ◌/◌, ◌≡◌, Bool, false, cond, not, ◌&&◌, List, [], ◌∷◌, ◌++◌, length, drop, replicate, eqb, leb}
+use Rattle.whole.specs.declared.file.Filed.{Filed}
+use Rattle.std.specs.Prelude.{ℕ, suc, ◌+◌, ◌*◌, ◌/◌, ◌≡◌, Bool, false, cond, not, ◌&&◌, List, [], ◌∷◌, ◌++◌, length, drop, replicate, eqb, leb, Result, Ok, Err, ⊤}
 use Rattle.row.specs.declared.form.Kind.TheVariants as kind
 use Rattle.row.specs.declared.fault.Fault.{Fault}
 use Rattle.row.specs.declared.fault.Reason.TheVariants.{NoRoom, BadRows}
@@ -13,11 +14,7 @@ use Rattle.row.specs.Rules.{is_kind}
 use Rattle.row.specs.Numbers.{rows_of}
 use Rattle.row.specs.Limits.{least_scratch}
 use Rattle.chunk.specs.Chunk.{Chunk, flat_chunks}
-use Rattle.chunk.specs.declared.answer.Checked.{Checked}
-use Rattle.chunk.specs.declared.answer.Checked.TheVariants as checked
 use Rattle.literal.specs.Rows.{most_number, rows_from, texts_of}
-use Rattle.whole.specs.declared.file.Filed.{Filed}
-use Rattle.whole.specs.declared.file.Filed.TheVariants as filed
 use Rattle.resolve.specs.Resolves.{Value, resolved, refused, checked_file}
 use Rattle.resolve.specs.Checks.{Lent, are_lent, lent_of}
 use Rattle.values.specs.Field.{field_of}
@@ -94,9 +91,9 @@ pub data All : Type 0 where
   none : Fault → All
 
 -- the answer of the call: "16 exactly if an answer exists and needs more rows or bytes than a lent output has" [01:Numbers a caller can get]
-abbrev pub tell_all : All → List ℕ → List ℕ → List ℕ → Filed
-tell_all (all vs) q b t = cond (fits_all vs q b t) (filed.Values (length vs) (count_rows vs) (length (texts vs))) (filed.Refused (nowhere NoRoom))
-tell_all (none f) q b t = filed.Refused f
+abbrev pub tell_all : All → List ℕ → List ℕ → List ℕ → Result Filed Fault
+tell_all (all vs) q b t = cond (fits_all vs q b t) (Ok (record { values = length vs; rows = count_rows vs; bytes = length (texts vs) })) (Err (nowhere NoRoom))
+tell_all (none f) q b t = Err f
 
 -- what the answers, the chunk rows and the text hold afterwards: what is written, and behind it what they held; or all as it was
 abbrev pub answers_left : All → List ℕ → List ℕ → List ℕ → List ℕ
@@ -115,9 +112,9 @@ texts_left (none f) q b t = t
 unfoldable pub are_filed : List ℕ → List ℕ → List ℕ → List ℕ → List ℕ → Bool
 are_filed file rows flags months words = are_lent file rows months words && leb (values (rows_of rows)) (length flags)
 
-abbrev pub after_all : Checked → All → All
-after_all checked.Passed a = a
-after_all (checked.Refused f) a = none f
+abbrev pub after_all : Result ⊤ Fault → All → All
+after_all (Ok tt) a = a
+after_all (Err f) a = none f
 
 -- the values, or the first refusal of the call itself, in the order of 01: 1, 2, 17, and 16 for a scratch that is too short
 abbrev pub all_of : List ℕ → List ℕ → List ℕ → List ℕ → List ℕ → ℕ → All
@@ -128,14 +125,14 @@ all_of file rows flags months words w =
     (none (nowhere BadRows)))
 
 -- the answer r, and what the call leaves in the answers q, the chunk rows b and the text t
-pub record WritesAll (a : All) (q b t : List ℕ) (r : Filed) (q' b' t' : List ℕ) : Type 0 where
+pub record WritesAll (a : All) (q b t : List ℕ) (r : Result Filed Fault) (q' b' t' : List ℕ) : Type 0 where
   pub answer : r ≡ tell_all a q b t
   pub answers : q' ≡ answers_left a q b t
   pub chunks : b' ≡ chunks_left a q b t
   pub text : t' ≡ texts_left a q b t
 
 -- "scratch is zeroed on every return" [01:Numbers a caller can get]: the scratch w, and the numbers h and x of the index too
-pub record ResolvesFile (a : All) (w h x q b t : List ℕ) (r : Filed) (w' h' x' q' b' t' : List ℕ) : Type 0 where
+pub record ResolvesFile (a : All) (w h x q b t : List ℕ) (r : Result Filed Fault) (w' h' x' q' b' t' : List ℕ) : Type 0 where
   pub writes : WritesAll a q b t r q' b' t'
   pub scratch : w' ≡ replicate (length w) 0
   pub heads : h' ≡ replicate (length h) 0

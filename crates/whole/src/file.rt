@@ -4,7 +4,6 @@
 // little work where much room is lent. Only where it does not, the values are counted before they are written.
 ghost use Rattle.std.specs.Prelude.{◌≡◌, true, false, List, [], ◌∷◌, ℕ, ◌+◌, ◌*◌, ◌/◌, ◌≤◌, ◌<◌, length, drop};
 ghost use Rattle.std.proofs.lemmas.List.Edits.{sets};
-ghost use Rattle.row.specs.Fault.{nowhere as nowhere_of};
 ghost use Rattle.row.specs.Numbers.{rows_of};
 ghost use Rattle.row.specs.Limits.{most_bytes, least_scratch};
 ghost use Rattle.literal.specs.Rows.{most_number, most_rows};
@@ -12,37 +11,35 @@ ghost use Rattle.lookup.specs.Names.{row_no};
 ghost use Rattle.lookup.specs.RowIndex.{Indexed};
 ghost use Rattle.resolve.specs.Resolves.{Value};
 ghost use Rattle.resolve.specs.Checks.{lent_of, are_lent};
+ghost use Rattle.values.specs.Uses.{lent_in};
 ghost use Rattle.resolve.specs.Progress.{BoundedWent, BoundedAnswer};
-ghost use Rattle.whole.specs.declared.file.Filed.TheVariants as filed;
 ghost use Rattle.whole.specs.WholeFile.{is_value_row, flag, values as values_of, results, fits_all, all, WritesAll, all_of, ResolvesFile};
 ghost use Rattle.whole.specs.Filing.{Filing, BoundedTotals, CountsAll, AddsTo, AddsCounted, AddsAnswer, FitsBehind, six_of, WroteAll, CountedTo, WroteTo};
 ghost use Rattle.whole.specs.Bounds.{UseAtMost, CoversAll, CoversTo, CoversCounted, Covered};
 
 use crate::bound;
 use crate::bound::Most;
-use chunk::answer::Checked;
+use command::tables::Tables;
 use command::{names as commands, stack};
 use compose;
 use fields::field;
 use literal::rows::MOST_NUMBER;
 use lookup::index;
-use resolve::answer::Answer;
-use resolve::progress::Went;
+use resolve::answer::Chunks;
+use resolve::progress::Progress;
 use resolve::{answer, lent};
 use row::fault;
 use row::fault::{Fault, Reason};
 use row::form::VALUE;
 use row::limits::LEAST_SCRATCH;
+use values::resolver::Resolver;
 
-// The values, chunk rows and bytes of text that were written; or a refusal of the whole call.
+// The values, chunk rows and bytes of text that were written.
 #[derive(Clone, Copy)]
-pub enum Filed {
-    Values {
-        values: usize,
-        rows: usize,
-        bytes: usize,
-    },
-    Refused(Fault),
+pub struct Filed {
+    pub values: usize,
+    pub rows: usize,
+    pub bytes: usize,
 }
 
 // The values so far, and the chunk rows and bytes of text that they have together; or that there is more of these than can be written.
@@ -73,11 +70,8 @@ fn values(rows: &[u32]) -> usize
     ensures { result ≡ values_of (rows_of rows.now) }
 {
     let mut n = 0;
-    let mut i = 0;
-    while i < rows.len() / 4 {
-        let at = i;
-        i += 1;
-        if is_value(rows, at) {
+    for i in 0..rows.len() / 4 {
+        if is_value(rows, i) {
             n += 1;
         }
     }
@@ -116,13 +110,13 @@ fn add(t: Totals, rows: usize, bytes: usize, over: bool) -> Totals
 }
 
 // Adds what a value came to that was counted.
-fn add_counted(t: Totals, w: Went) -> Totals
+fn add_counted(t: Totals, w: Result<Progress, Fault>) -> Totals
     requires { BoundedTotals t × BoundedWent w × (t.values ≤ 4611686018427387904) }
     ensures { AddsCounted t w result × BoundedTotals result × CoversCounted t w result }
 {
     match w {
-        Went::Refused(_) => add(t, 0, 0, false),
-        Went::Done(st) => {
+        Err(_) => add(t, 0, 0, false),
+        Ok(st) => {
             let rows = st.rows;
             add(t, rows.n, st.bytes, st.over)
         }
@@ -154,38 +148,27 @@ fn fits(t: Totals, answers: &[u32], chunks: &[u32], text: &[u8]) -> bool
 
 // Whether there is room for all values. They are counted over no room, and no further than to where there is more than is lent.
 fn counted_fits(
-    file: &[u8],
-    rows: &[u32],
+    resolver: &Resolver,
     flags: &[u8],
-    months: &[u32],
-    words: &[u8],
-    heads: &[u32],
-    next: &[u32],
-    known: &[u8],
-    marks: &[u32],
     scratch: &mut [u8],
     answers: &[u32],
     chunks: &[u32],
     text: &[u8],
 ) -> bool
-    requires { Filing file.now rows.now flags.now months.now words.now heads.now next.now scratch.old known.now marks.now }
-    ensures { result ≡ fits_all (results (lent_of file.now rows.now months.now words.now) flags.now)
+    requires { Filing resolver.now flags.now scratch.old }
+    ensures { result ≡ fits_all (results (lent_in resolver.now) flags.now)
         answers.now chunks.now text.now }
 {
     let mut t = none();
-    let mut i = 0;
-    while i < rows.len() / 4 {
-        let at = i;
-        i += 1;
-        if is_value(rows, at) {
-            let verbatim = flag_at(flags, t.values);
-            let w = field::count(
-                file, rows, months, words, heads, next, known, marks, verbatim, at, scratch,
-            );
-            t = add_counted(t, w);
-            if !fits(t, answers, chunks, text) {
-                return false;
-            }
+    for i in 0..resolver.rows.len() / 4 {
+        if !is_value(resolver.rows, i) {
+            continue;
+        }
+        let verbatim = flag_at(flags, t.values);
+        let w = field::count(resolver, verbatim, i, scratch);
+        t = add_counted(t, w);
+        if !fits(t, answers, chunks, text) {
+            return false;
         }
     }
     fits(t, answers, chunks, text)
@@ -194,36 +177,27 @@ fn counted_fits(
 // Adds what row i comes to at most, if it is a value, to what the rows before it come to at most. A use of a name comes to at most `name`. A value
 // of which nothing is known is counted.
 fn bound_row(
-    file: &[u8],
-    rows: &[u32],
+    resolver: &Resolver,
     flags: &[u8],
-    months: &[u32],
-    words: &[u8],
-    heads: &[u32],
-    next: &[u32],
-    known: &[u8],
-    marks: &[u32],
     i: usize,
     t: Totals,
-    name: Most,
+    name: Option<Most>,
     scratch: &mut [u8],
 ) -> Totals
-    requires { Filing file.now rows.now flags.now months.now words.now heads.now next.now scratch.old known.now marks.now ×
-        (i < length rows.now / 4) × BoundedTotals t × Covered (lent_of file.now rows.now months.now words.now) flags.now i t ×
-        UseAtMost (lent_of file.now rows.now months.now words.now) name }
-    ensures { Covered (lent_of file.now rows.now months.now words.now) flags.now (i + 1) result
+    requires { Filing resolver.now flags.now scratch.old ×
+        (i < length resolver.now.rows.now / 4) × BoundedTotals t × Covered (lent_in resolver.now) flags.now i t ×
+        UseAtMost (lent_in resolver.now) name }
+    ensures { Covered (lent_in resolver.now) flags.now (i + 1) result
         × BoundedTotals result }
 {
-    if !is_value(rows, i) {
+    if !is_value(resolver.rows, i) {
         return t;
     }
-    match bound::most_of(rows, i, name) {
-        Most::Literals { rows: n, bytes: m } => add(t, n, m, false),
-        Most::Unknown => {
+    match bound::most_of(resolver.rows, i, name) {
+        Some(most) => add(t, most.rows, most.bytes, false),
+        None => {
             let flag = flag_at(flags, t.values);
-            let w = field::count(
-                file, rows, months, words, heads, next, known, marks, flag, i, scratch,
-            );
+            let w = field::count(resolver, flag, i, scratch);
             add_counted(t, w)
         }
     }
@@ -232,116 +206,69 @@ fn bound_row(
 // Whether there surely is room for all values, told from what they come to at most, where a use of a name comes to at most `name`. It goes no
 // further than to where that is more than is lent.
 fn surely_fits(
-    file: &[u8],
-    rows: &[u32],
+    resolver: &Resolver,
     flags: &[u8],
-    months: &[u32],
-    words: &[u8],
-    heads: &[u32],
-    next: &[u32],
-    known: &[u8],
-    marks: &[u32],
-    name: Most,
+    name: Option<Most>,
     scratch: &mut [u8],
     answers: &[u32],
     chunks: &[u32],
     text: &[u8],
 ) -> bool
-    requires { Filing file.now rows.now flags.now months.now words.now heads.now next.now scratch.old known.now marks.now ×
-        UseAtMost (lent_of file.now rows.now months.now words.now) name }
-    ensures { result ≡ true → fits_all (results (lent_of file.now rows.now months.now words.now) flags.now)
+    requires { Filing resolver.now flags.now scratch.old ×
+        UseAtMost (lent_in resolver.now) name }
+    ensures { result ≡ true → fits_all (results (lent_in resolver.now) flags.now)
         answers.now chunks.now text.now ≡ true }
 {
-    let mut t = none();
-    let mut i = 0;
-    while i < rows.len() / 4 {
-        t = bound_row(
-            file, rows, flags, months, words, heads, next, known, marks, i, t, name, scratch,
-        );
-        if !fits(t, answers, chunks, text) {
+    let mut most = none();
+    for i in 0..resolver.rows.len() / 4 {
+        most = bound_row(resolver, flags, i, most, name, scratch);
+        if !fits(most, answers, chunks, text) {
             return false;
         }
-        i += 1;
     }
-    fits(t, answers, chunks, text)
+    fits(most, answers, chunks, text)
 }
 
 // Whether there surely is room for all values. Where the bound of names does not say so, values with names are counted.
 fn surely_has_room(
-    file: &[u8],
-    rows: &[u32],
+    resolver: &Resolver,
     flags: &[u8],
-    months: &[u32],
-    words: &[u8],
-    heads: &[u32],
-    next: &[u32],
-    known: &[u8],
-    marks: &[u32],
     scratch: &mut [u8],
     answers: &[u32],
     chunks: &[u32],
     text: &[u8],
 ) -> bool
-    requires { Filing file.now rows.now flags.now months.now words.now heads.now next.now scratch.old known.now marks.now }
-    ensures { result ≡ true → fits_all (results (lent_of file.now rows.now months.now words.now) flags.now)
+    requires { Filing resolver.now flags.now scratch.old }
+    ensures { result ≡ true → fits_all (results (lent_in resolver.now) flags.now)
         answers.now chunks.now text.now ≡ true }
 {
-    let name = bound::most_of_names(rows, months);
-    if surely_fits(
-        file, rows, flags, months, words, heads, next, known, marks, name, scratch, answers,
-        chunks, text,
-    ) {
+    let name = bound::most_of_names(resolver.rows, resolver.months);
+    if surely_fits(resolver, flags, name, scratch, answers, chunks, text) {
         return true;
     }
-    match name {
-        Most::Unknown => false,
-        Most::Literals { rows: _, bytes: _ } => surely_fits(
-            file,
-            rows,
-            flags,
-            months,
-            words,
-            heads,
-            next,
-            known,
-            marks,
-            Most::Unknown,
-            scratch,
-            answers,
-            chunks,
-            text,
-        ),
+    if name.is_none() {
+        return false;
     }
+    surely_fits(resolver, flags, None, scratch, answers, chunks, text)
 }
 
 // Whether there is room for all values. Where no bound says so, all are counted.
 fn has_room(
-    file: &[u8],
-    rows: &[u32],
+    resolver: &Resolver,
     flags: &[u8],
-    months: &[u32],
-    words: &[u8],
-    heads: &[u32],
-    next: &[u32],
-    known: &[u8],
-    marks: &[u32],
     scratch: &mut [u8],
     answers: &[u32],
     chunks: &[u32],
     text: &[u8],
 ) -> bool
-    requires { Filing file.now rows.now flags.now months.now words.now heads.now next.now scratch.old known.now marks.now }
-    ensures { result ≡ fits_all (results (lent_of file.now rows.now months.now words.now) flags.now)
+    requires { Filing resolver.now flags.now scratch.old }
+    ensures { result ≡ fits_all (results (lent_in resolver.now) flags.now)
         answers.now chunks.now text.now }
 {
-    if surely_has_room(
-        file, rows, flags, months, words, heads, next, known, marks, scratch, answers, chunks, text,
-    ) {
+    if surely_has_room(resolver, flags, scratch, answers, chunks, text) {
         return true;
     }
-    counted_fits(
-        file, rows, flags, months, words, heads, next, known, marks, scratch, answers, chunks, text,
-    )
+    counted_fits(resolver, flags, scratch, answers, chunks, text)
 }
 
 // Writes the answer row of value k.
@@ -368,13 +295,13 @@ fn put_answer(
 }
 
 // Writes the answer row of a value, whose rows and text stand behind those of the values before it.
-fn answer_row(answers: &mut [u32], t: Totals, a: Answer) -> Totals
+fn answer_row(answers: &mut [u32], t: Totals, a: Result<Chunks, Fault>) -> Totals
     requires { BoundedTotals t × BoundedAnswer a × FitsBehind t a × (t.values < length answers.old / 6) × (t.values ≤ 4611686018427387904) }
     ensures answers_after { answers.new ≡ sets answers.old (t.values * 6) (six_of t a) }
     ensures adds_answer { AddsAnswer t a result × BoundedTotals result }
 {
     match a {
-        Answer::Refused(f) => {
+        Err(f) => {
             let reason = f.reason;
             put_answer(
                 answers,
@@ -388,33 +315,26 @@ fn answer_row(answers: &mut [u32], t: Totals, a: Answer) -> Totals
             );
             add(t, 0, 0, false)
         }
-        Answer::Chunks { rows, bytes, names } => {
+        Ok(chunks) => {
             put_answer(
                 answers,
                 t.values,
                 0,
-                narrow(names),
+                narrow(chunks.names),
                 narrow(t.rows),
-                narrow(t.rows + rows),
+                narrow(t.rows + chunks.rows),
                 narrow(t.bytes),
-                narrow(t.bytes + bytes),
+                narrow(t.bytes + chunks.bytes),
             );
-            add(t, rows, bytes, false)
+            add(t, chunks.rows, chunks.bytes, false)
         }
     }
 }
 
 // Writes row i, if it is a value, behind what the rows before it came to. There is room for all values.
 fn write_row(
-    file: &[u8],
-    rows: &[u32],
+    resolver: &Resolver,
     flags: &[u8],
-    months: &[u32],
-    words: &[u8],
-    heads: &[u32],
-    next: &[u32],
-    known: &[u8],
-    marks: &[u32],
     i: usize,
     t: Totals,
     scratch: &mut [u8],
@@ -422,29 +342,22 @@ fn write_row(
     chunks: &mut [u32],
     text: &mut [u8],
 ) -> Totals
-    requires { Filing file.now rows.now flags.now months.now words.now heads.now next.now scratch.old known.now marks.now ×
-        (i < length rows.now / 4) × CountedTo (lent_of file.now rows.now months.now words.now) flags.now i t ×
-        (fits_all (results (lent_of file.now rows.now months.now words.now) flags.now) answers.old chunks.old text.old ≡ true) }
-    ensures { (q b x : List ℕ) → WroteTo (lent_of file.now rows.now months.now words.now) flags.now i
+    requires { Filing resolver.now flags.now scratch.old ×
+        (i < length resolver.now.rows.now / 4) × CountedTo (lent_in resolver.now) flags.now i t ×
+        (fits_all (results (lent_in resolver.now) flags.now) answers.old chunks.old text.old ≡ true) }
+    ensures { (q b x : List ℕ) → WroteTo (lent_in resolver.now) flags.now i
         q b x t answers.old chunks.old text.old →
-        WroteTo (lent_of file.now rows.now months.now words.now) flags.now (i + 1)
+        WroteTo (lent_in resolver.now) flags.now (i + 1)
         q b x result answers.new chunks.new text.new }
 {
-    if !is_value(rows, i) {
+    if !is_value(resolver.rows, i) {
         return t;
     }
     let verbatim = flag_at(flags, t.values);
     let first = t.rows * 5;
     let from = t.bytes;
     let a = field::write(
-        file,
-        rows,
-        months,
-        words,
-        heads,
-        next,
-        known,
-        marks,
+        resolver,
         verbatim,
         i,
         scratch,
@@ -456,87 +369,68 @@ fn write_row(
 
 // Writes every value. There is room for all of them.
 fn write(
-    file: &[u8],
-    rows: &[u32],
+    resolver: &Resolver,
     flags: &[u8],
-    months: &[u32],
-    words: &[u8],
-    heads: &[u32],
-    next: &[u32],
-    known: &[u8],
-    marks: &[u32],
     scratch: &mut [u8],
     answers: &mut [u32],
     chunks: &mut [u32],
     text: &mut [u8],
 ) -> Totals
-    requires filing { Filing file.now rows.now flags.now months.now words.now heads.now next.now scratch.old known.now marks.now }
-    requires text_value { fits_all (results (lent_of file.now rows.now months.now words.now) flags.now) answers.old chunks.old text.old ≡ true }
-    ensures { WroteAll (results (lent_of file.now rows.now months.now words.now) flags.now)
+    requires filing { Filing resolver.now flags.now scratch.old }
+    requires text_value { fits_all (results (lent_in resolver.now) flags.now) answers.old chunks.old text.old ≡ true }
+    ensures { WroteAll (results (lent_in resolver.now) flags.now)
         answers.old chunks.old text.old answers.new chunks.new text.new ×
-        CountsAll (results (lent_of file.now rows.now months.now words.now) flags.now) result }
+        CountsAll (results (lent_in resolver.now) flags.now) result }
 {
     let mut t = none();
-    let mut i = 0;
-    while i < rows.len() / 4 {
-        t = write_row(
-            file, rows, flags, months, words, heads, next, known, marks, i, t, scratch, answers,
-            chunks, text,
-        );
-        i += 1;
+    for i in 0..resolver.rows.len() / 4 {
+        t = write_row(resolver, flags, i, t, scratch, answers, chunks, text);
     }
     t
 }
 
 // Writes all values if there is room for them. The checks have passed, and the index is built.
-fn indexed(
-    file: &[u8],
-    rows: &[u32],
+fn indexed<'a>(
+    file: &'a [u8],
+    rows: &'a [u32],
     flags: &[u8],
-    months: &[u32],
-    words: &[u8],
-    heads: &[u32],
-    next: &[u32],
+    months: &'a [u32],
+    words: &'a [u8],
+    heads: &'a [u32],
+    next: &'a [u32],
     scratch: &mut [u8],
     answers: &mut [u32],
     chunks: &mut [u32],
     text: &mut [u8],
-) -> Filed
+) -> Result<Filed, Fault>
     requires { (length file.now ≤ most_bytes) × (are_lent file.now rows.now months.now words.now ≡ true) ×
         Indexed file.now rows.now heads.now next.now × (values_of (rows_of rows.now) ≤ length flags.now) × (least_scratch ≤ length scratch.old) }
     ensures { WritesAll (all (results (lent_of file.now rows.now months.now words.now) flags.now))
         answers.old chunks.old text.old result answers.new chunks.new text.new }
 {
-    let known = commands::names();
+    let names = commands::names();
     let marks = compose::table();
-    if !has_room(
-        file, rows, flags, months, words, heads, next, &known, &marks, scratch, answers, chunks,
-        text,
-    ) {
-        return Filed::Refused(Fault {
-            reason: Reason::NoRoom,
-            start: 0,
-            end: 0,
-        });
+    let tables = Tables {
+        names: &names,
+        marks: &marks,
+    };
+    let resolver = Resolver {
+        file,
+        rows,
+        months,
+        words,
+        heads,
+        next,
+        tables,
+    };
+    if !has_room(&resolver, flags, scratch, answers, chunks, text) {
+        return Err(fault::nowhere(Reason::NoRoom));
     }
-    let t = write(
-        file, rows, flags, months, words, heads, next, &known, &marks, scratch, answers, chunks,
-        text,
-    );
-    Filed::Values {
+    let t = write(&resolver, flags, scratch, answers, chunks, text);
+    Ok(Filed {
         values: t.values,
         rows: t.rows,
         bytes: t.bytes,
-    }
-}
-
-fn nowhere(reason: Reason) -> Filed
-    ensures { result ≡ filed.Refused (nowhere_of reason) }
-{
-    Filed::Refused(Fault {
-        reason,
-        start: 0,
-        end: 0,
     })
 }
 
@@ -553,22 +447,17 @@ fn whole(
     answers: &mut [u32],
     chunks: &mut [u32],
     text: &mut [u8],
-) -> Filed
+) -> Result<Filed, Fault>
     ensures { WritesAll (all_of file.now rows.now flags.now months.now words.now
         (length scratch.old)) answers.old chunks.old text.old result
         answers.new chunks.new text.new }
 {
-    match answer::check_file(file) {
-        Checked::Refused(f) => {
-            return Filed::Refused(f);
-        }
-        Checked::Passed => {}
-    }
+    answer::check_file(file)?;
     if !(lent::are_lent(file, rows, months, words) & (values(rows) <= flags.len())) {
-        return nowhere(Reason::BadRows);
+        return Err(fault::nowhere(Reason::BadRows));
     }
     if scratch.len() < LEAST_SCRATCH {
-        return nowhere(Reason::NoRoom);
+        return Err(fault::nowhere(Reason::NoRoom));
     }
     index::build(file, rows, heads, next);
     indexed(
@@ -593,7 +482,7 @@ pub fn resolve_file(
     answers: &mut [u32],
     chunks: &mut [u32],
     text: &mut [u8],
-) -> Filed
+) -> Result<Filed, Fault>
     ensures { ResolvesFile (all_of file.now rows.now flags.now months.now words.now
         (length scratch.old)) scratch.old heads.old next.old answers.old chunks.old
         text.old result scratch.new heads.new next.new answers.new chunks.new

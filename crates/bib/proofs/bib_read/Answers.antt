@@ -1,10 +1,6 @@
 -- `bib::bib_read` meets its contract. Assumes nothing.
-use mathlib.Core.Path.{ap, ◌∙◌}
-use Rattle.bib.specs.Export.{of_reading}
 use Rattle.bib.proofs.telling.Exports.{exported}
 use Rattle.bib.proofs.bib_read.Goals as goal
 
 pub returns : goal.returns
-returns c =
-    let h = c.read-reading.ensures in
-    exported (c.of_reading.ensures ∙ ap of_reading h.answer) h.rows c.tell.ensures
+returns c = let h = c.read-reading.ensures in exported h.answer h.rows c.tell.ensures

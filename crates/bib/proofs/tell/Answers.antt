@@ -4,8 +4,8 @@ use borrow.Author.Rules.{rules}
 use Rattle.bib.proofs.telling.Exports.{told-refused}
 use Rattle.bib.proofs.tell.Goals as goal
 
-pub returns-in-Count : goal.returns-in-Count
-returns-in-Count c = search rules
+pub returns-in-Ok : goal.returns-in-Ok
+returns-in-Ok c = search rules
 
-pub returns-in-Refused : goal.returns-in-Refused
-returns-in-Refused c = told-refused c.in-Refused.is c.number.ensures refl refl
+pub returns-in-Err : goal.returns-in-Err
+returns-in-Err c = told-refused c.in-Err.is c.number.ensures refl refl

@@ -3,8 +3,8 @@ use mathlib.Core.Path.{refl}
 use Rattle.bib.proofs.telling.Exports.{told-filing}
 use Rattle.bib.proofs.tell_filing.Goals as goal
 
-pub returns-in-Values : goal.returns-in-Values
-returns-in-Values c = told-filing c.in-Values.is c.tell.ensures refl refl
+pub returns-in-Ok : goal.returns-in-Ok
+returns-in-Ok c = told-filing c.in-Ok.is c.tell.ensures refl refl
 
-pub returns-in-Refused : goal.returns-in-Refused
-returns-in-Refused c = told-filing c.in-Refused.is c.tell-in-Refused.ensures refl refl
+pub returns-in-Err : goal.returns-in-Err
+returns-in-Err c = told-filing c.in-Err.is c.tell-in-Err.ensures refl refl

@@ -3,15 +3,10 @@
 --     is_final      the test of a row, against all rows
 --     again-of      what follows
 -- Assumes nothing.
-use Prim.Native.Nat.{ℕ, ◌+◌, ◌-◌, ◌%◌}
-use native.Mathlib.Omega.{arith}
-use mathlib.Core.Path.{◌≡◌, refl, sym, subst}
-use mathlib.Core.Bool.{Bool, true, false, not, ◌&&◌, ◌||◌}
+use Rattle.std.proofs.Common.{ℕ, ◌+◌, ◌-◌, ◌%◌, arith, ◌≡◌, refl, sym, subst, Bool, true, false, not, ◌&&◌, ◌||◌, List, [], ◌∷◌, ⊎_elim, ltb, eqb, le-ltb, eqb-true}
 use mathlib.Core.List.Memᴰ
-use mathlib.Core.List.{List, [], ◌∷◌, Memᴰ}
-use mathlib.Core.Logic.{⊎_elim}
-use lib.Dec.{ltb, eqb}
-use borrow.Author.Tests.{le-ltb, eqb-true, eqb-false, not-true}
+use mathlib.Core.List.{Memᴰ}
+use borrow.Author.Tests.{eqb-false, not-true}
 use Rattle.text.proofs.general.Tests.{both_true}
 use Rattle.text.proofs.general.Lists.{every-mem}
 use Rattle.text.specs.Every.{every}

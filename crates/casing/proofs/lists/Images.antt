@@ -4,14 +4,10 @@
 --     scalar-of             all are scalar values
 --     size_of               and have at most three times as many octets
 -- Assumes nothing.
-use Prim.Native.Nat.{ℕ, zero, suc, ◌+◌, ◌-◌, ◌*◌, ◌≤◌}
-use native.Mathlib.Omega.{arith}
-use mathlib.Core.Path.{◌≡◌, refl, subst⁻¹}
-use mathlib.Core.Bool.{Bool, true, false, not, ◌||◌}
-use mathlib.Core.List.{List, [], ◌∷◌}
-use lib.Dec.{ltb}
-use lib.ListN.{length, length-append}
-use borrow.Author.Tests.{ltb-true, le-leb, lt-leb}
+use Rattle.std.proofs.Common.{ℕ, zero, suc, ◌+◌, ◌-◌, ◌*◌, ◌≤◌, arith, ◌≡◌, refl, Bool, true, false, not, ◌||◌, List, [], ◌∷◌, ltb, length, length-append, ltb-true}
+use Rattle.std.proofs.Common.{le-leb}
+use mathlib.Core.Path.{subst⁻¹}
+use borrow.Author.Tests.{lt-leb}
 use Rattle.text.proofs.general.Tests.{both_true}
 use Rattle.text.proofs.general.OctetCounts.{octets-rise}
 use Rattle.text.specs.Range.{◌–◌, within}

@@ -3,17 +3,14 @@
 --     scalar-most          scalar values are at most 10FFFF
 --     Covered, covered     a row has a character, in numbers
 --     row_at               the row at a place, read off the list's numbers
+--     row_of, taken        the row of six numbers; those that are taken from a place on are the row there
 --     count, row_next      how many numbers there are; the row at the next place
 --     sound-at             each row of a list that keeps the rule is right
 -- Assumes nothing.
-use Prim.Native.Nat.{ℕ, zero, suc, ◌+◌, ◌-◌, ◌*◌, ◌%◌, ◌≤◌, ◌<◌}
-use native.Mathlib.Omega.{arith}
-use mathlib.Core.Path.{◌≡◌, refl, sym, ap, subst⁻¹, ◌∙◌}
-use mathlib.Core.Bool.{Bool, true, not, ◌&&◌, ◌||◌}
-use mathlib.Core.List.{List, [], ◌∷◌}
-use lib.Dec.{ltb, leb, eqb}
-use lib.ListN.{length, get_or}
-use borrow.Author.Tests.{ltb-true, leb-true, le-ltb, eqb-true}
+use Rattle.std.proofs.Common.{ℕ, zero, suc, ◌+◌, ◌-◌, ◌*◌, ◌%◌, ◌≤◌, ◌<◌, arith, ◌≡◌, refl, sym, ap, ◌∙◌, Bool, true, not, ◌&&◌, ◌||◌, List, [], ◌∷◌, ltb, leb, eqb}
+use Rattle.std.proofs.Common.{length, get_or, take, drop, ltb-true, leb-true, le-ltb, eqb-true}
+use mathlib.Core.Path.{subst⁻¹}
+use Rattle.std.proofs.lemmas.List.{get_or-take, get_or-drop}
 use Rattle.text.proofs.general.Tests.{both_true}
 use Rattle.text.specs.Every.{every}
 use Rattle.text.specs.Utf8.{is_scalar, octets, utf8_of}
@@ -82,6 +79,23 @@ pub count : (rs : List Stride) → length (numbers rs) ≡ length rs * 6
 unfolding numbers
 count [] = refl
 count (r ∷ rs) = omega (arith, count rs)
+
+-- the row of six numbers
+abbrev pub row_of : List ℕ → Stride
+row_of y = get_or y 1 0 to get_or y 0 0 by get_or y 2 0 is get_or y 3 0 then get_or y 4 0 then get_or y 5 0
+
+-- the first six numbers from row k on are the row
+pub taken : (t y : List ℕ) (k : ℕ) → 6 ≤ length t - k * 6 → y ≡ take 6 (take (length t - k * 6) (drop (k * 6) t)) → row_of y ≡ row_at t k
+taken t y k h e =
+    let same : k * 6 + 0 ≡ k * 6 = omega arith in
+    rw (at 0 (omega arith) ∙ ap (λ (n : ℕ). get_or t n 0) same, at 1 (omega arith), at 2 (omega arith), at 3 (omega arith), at 4 (omega arith), at 5 (omega arith))
+  where
+    at : (j : ℕ) → j < 6 → get_or y j 0 ≡ get_or t (k * 6 + j) 0
+    at j l =
+        ap (λ (n : List ℕ). get_or n j 0) e
+        ∙ get_or-take 6 (take (length t - k * 6) (drop (k * 6) t)) j 0 l
+        ∙ get_or-take (length t - k * 6) (drop (k * 6) t) j 0 (omega arith)
+        ∙ get_or-drop (k * 6) t j 0
 
 pub row_next : (r : Stride) (rs : List Stride) (k : ℕ) → row_at (numbers (r ∷ rs)) (suc k) ≡ row_at (numbers rs) k
 unfolding numbers

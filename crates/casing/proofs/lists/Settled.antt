@@ -2,13 +2,8 @@
 --     is_clear      the test of a range, against all rows
 --     clear_of      what follows
 -- Assumes nothing.
-use Prim.Native.Nat.{ℕ}
-use native.Mathlib.Omega.{arith}
-use mathlib.Core.Path.{◌≡◌, refl}
-use mathlib.Core.Bool.{Bool, true, false, ◌&&◌, ◌||◌}
-use mathlib.Core.List.{List, [], ◌∷◌}
-use lib.Dec.{ltb, leb}
-use borrow.Author.Tests.{ltb-true, lt-leb}
+use Rattle.std.proofs.Common.{ℕ, arith, ◌≡◌, refl, Bool, true, false, ◌&&◌, ◌||◌, List, [], ◌∷◌, ltb, leb, ltb-true}
+use borrow.Author.Tests.{lt-leb}
 use Rattle.text.specs.Every.{every}
 use Rattle.text.specs.Range.{Range, within, among}
 use Rattle.text.proofs.general.Tests.{both_true, within-true, true-not-false}

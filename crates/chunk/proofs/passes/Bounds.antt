@@ -4,15 +4,9 @@
 --     Fitting, fit-start, fit-turn                the loop of `surely_fits`: its invariant, where it begins, and its turn
 --     fit-stop, fit-done                          what it answers where the octets are more than the room, and at its end
 -- Assumes nothing.
-use Prim.Native.Nat.{ℕ, ◌+◌, ◌-◌, ◌*◌, ◌≤◌, ◌<◌}
-use native.Mathlib.Omega.{arith}
-use native.Mathlib.Nat.{mul-le-mul}
-use mathlib.Core.Path.{◌≡◌, sym, ap, ap₂}
-use mathlib.Core.Bool.{Bool, true, false, cond}
-use mathlib.Core.List.{List, [], ◌∷◌, ◌++◌, map}
-use lib.ListN.{length, drop, length-append}
-use lib.Dec.{leb}
-use borrow.Author.Tests.{leb-true, le-leb, lt-leb}
+use Rattle.std.proofs.Common.{ℕ, ◌+◌, ◌-◌, ◌*◌, ◌≤◌, ◌<◌, arith, mul-le-mul, ◌≡◌, sym, ap, ap₂, Bool}
+use Rattle.std.proofs.Common.{true, false, cond, List, [], ◌∷◌, ◌++◌, map, length, drop, length-append, leb, leb-true, le-leb}
+use borrow.Author.Tests.{lt-leb}
 use Rattle.text.proofs.general.Parts.{part-size}
 use Rattle.chunk.specs.declared.form.Kind.{Kind}
 use Rattle.chunk.specs.declared.form.Kind.TheVariants.{Normal, Verbatim, Math}

@@ -1,10 +1,7 @@
 -- A text that is formatted chunk by chunk is what `format_verbatim` makes of all chunks.
 --     format-on, white-on       one chunk more is formatted behind the others
 -- Assumes nothing.
-use Prim.Native.Nat.{ℕ}
-use mathlib.Core.Path.{◌≡◌, refl, sym, ap, ◌∙◌}
-use mathlib.Core.Bool.{Bool}
-use mathlib.Core.List.{List, [], ◌∷◌, ◌++◌, append_assoc, append-nil}
+use Rattle.std.proofs.Common.{ℕ, ◌≡◌, refl, sym, ap, ◌∙◌, Bool, List, [], ◌∷◌, ◌++◌, append_assoc, append-nil}
 use Rattle.chunk.specs.Chunk.{Chunk}
 use Rattle.chunk.specs.Format.{Written, format_one, format_from, white_from}
 

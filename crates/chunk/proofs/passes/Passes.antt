@@ -3,15 +3,9 @@
 --     row-passes, row_here         a row where all pass the check; its text lies inside the lent text
 --     fills-more, fills-bytes      what the pass answers
 -- Assumes nothing.
-use Prim.Native.Nat.{ℕ, ◌+◌, ◌≤◌, ◌<◌}
-use native.Mathlib.Omega.{arith}
-use mathlib.Core.Path.{◌≡◌, sym, ap, ◌∙◌}
-use mathlib.Core.Bool.{true, not}
-use mathlib.Core.List.{List, [], ◌∷◌, ◌++◌, map, append_assoc}
-use lib.ListN.{length, get_or, drop, length-append}
+use Rattle.std.proofs.Common.{ℕ, ◌+◌, ◌≤◌, ◌<◌, arith, ◌≡◌, sym, ap, ◌∙◌, true, not}
+use Rattle.std.proofs.Common.{List, [], ◌∷◌, ◌++◌, map, append_assoc, length, get_or, drop, length-append, leb, leb-true}
 use lib.Seq.{sets}
-use lib.Dec.{leb}
-use borrow.Author.Tests.{leb-true}
 use Rattle.text.specs.Range.{within}
 use Rattle.text.specs.Utf8.{tail, is_boundary}
 use Rattle.text.proofs.general.Tests.{both_true}

@@ -3,11 +3,7 @@
 --     rows-flat                        the numbers of rows are read back as these rows
 --     length-put, put-sets, put-out    putting a row keeps the length, is the code's five stores, and does nothing where the row does not fit
 -- Assumes nothing.
-use Prim.Native.Nat.{ℕ, zero, suc, ◌+◌, ◌*◌, ◌/◌, ◌≤◌, ◌<◌}
-use mathlib.Core.Path.{◌≡◌, refl, ap}
-use mathlib.Core.List.{List, [], ◌∷◌}
-use native.Mathlib.Omega.{arith}
-use lib.ListN.{length, set}
+use Rattle.std.proofs.Common.{ℕ, zero, suc, ◌+◌, ◌*◌, ◌/◌, ◌≤◌, ◌<◌, ◌≡◌, refl, ap, List, [], ◌∷◌, arith, length, set}
 use Rattle.chunk.specs.declared.form.Kind.TheVariants.{Math}
 use Rattle.chunk.specs.Chunk.{kind_from, ChunkRow, flat_chunks, chunk_rows, put_chunk}
 

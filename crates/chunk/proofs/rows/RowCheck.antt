@@ -5,14 +5,8 @@
 --     check-turn, check-stop       the loop goes on at a row that passes the test, and stops at one that does not
 --     check-count, check_done      the answer where the numbers are no whole count of rows; the answer behind the last row
 -- Assumes nothing.
-use Prim.Native.Nat.{ℕ, ◌+◌, ◌-◌, ◌%◌, ◌≤◌, ◌<◌}
-use native.Mathlib.Omega.{arith}
-use mathlib.Core.Path.{◌≡◌, refl, sym, ap, ap₂, ◌∙◌}
-use mathlib.Core.Bool.{Bool, true, false, ◌&&◌}
-use mathlib.Core.List.{List, [], ◌∷◌}
-use lib.ListN.{length, get_or, drop, drop_of_length-le}
-use lib.Dec.{eqb}
-use borrow.Author.Tests.{eqb-true, eq-eqb, ne_eqb}
+use Rattle.std.proofs.Common.{ℕ, ◌+◌, ◌-◌, ◌%◌, ◌≤◌, ◌<◌, arith, ◌≡◌, refl, sym, ap, ap₂, ◌∙◌, Bool}
+use Rattle.std.proofs.Common.{true, false, ◌&&◌, List, [], ◌∷◌, length, get_or, drop, drop_of_length-le, eqb, eqb-true, eq-eqb, ne_eqb}
 use Rattle.text.proofs.general.Tests.{both_true}
 use Rattle.text.proofs.general.Places.{drop-next, drop_more}
 use Rattle.text.specs.Every.{every}

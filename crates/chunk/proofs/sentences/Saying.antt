@@ -3,12 +3,7 @@
 --     says, runs           its turns: over one octet, and over a run that ASCII's rule is enough for
 --     said                 where it ends
 -- Assumes nothing.
-use Prim.Native.Nat.{ℕ, ◌+◌, ◌*◌, ◌≤◌, ◌<◌}
-use native.Mathlib.Omega.{arith}
-use mathlib.Core.Path.{◌≡◌, refl, sym, ap, ap₂, ◌∙◌}
-use mathlib.Core.Bool.{Bool, false}
-use mathlib.Core.List.{List, [], ◌++◌, map, append_assoc, append-nil}
-use lib.ListN.{length, get_or}
+use Rattle.std.proofs.Common.{ℕ, ◌+◌, ◌*◌, ◌≤◌, ◌<◌, arith, ◌≡◌, refl, sym, ap, ap₂, ◌∙◌, Bool, false, List, [], ◌++◌, map, append_assoc, append-nil, length, get_or}
 use Rattle.text.specs.Utf8.{utf8_of}
 use Rattle.text.specs.Scan.{part}
 use Rattle.text.proofs.general.Parts.{part_none, part-head, part_join, length_part}

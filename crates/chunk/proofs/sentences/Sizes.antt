@@ -3,14 +3,7 @@
 --     sentence-most, surely-said     two octets for each chunk, and three times its text; so they fit where these do
 --     sentence-octets                what is written of texts that are UTF-8 is UTF-8
 -- Assumes nothing.
-use Prim.Native.Nat.{ℕ, ◌+◌, ◌*◌, ◌≤◌}
-use native.Mathlib.Omega.{arith}
-use mathlib.Core.Path.{◌≡◌, sym, ap, subst, ◌∙◌}
-use mathlib.Core.Bool.{Bool, true, false, cond, ◌&&◌}
-use mathlib.Core.List.{List, [], ◌∷◌, map}
-use lib.ListN.{length, length-append}
-use lib.Dec.{leb}
-use borrow.Author.Tests.{leb-true}
+use Rattle.std.proofs.Common.{ℕ, ◌+◌, ◌*◌, ◌≤◌, arith, ◌≡◌, sym, ap, subst, ◌∙◌, Bool, true, false, cond, ◌&&◌, List, [], ◌∷◌, map, length, length-append, leb, leb-true}
 use Rattle.text.specs.Every.{every}
 use Rattle.text.specs.Utf8.{Octets, is_scalar, octets, utf8_of}
 use Rattle.text.specs.Utf8 as octets

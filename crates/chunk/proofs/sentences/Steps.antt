@@ -3,14 +3,9 @@
 --     stays-tail, stays-end, goes      at a tail, at a line end behind white space, and at anything else
 --     wide-octet                       a character beyond ASCII begins with an octet beyond ASCII
 -- Assumes nothing.
-use Prim.Native.Nat.{ℕ, ◌+◌, ◌≤◌, ◌<◌}
-use native.Mathlib.Omega.{arith}
-use mathlib.Core.Path.{◌≡◌, refl, sym, ap, ◌∙◌}
-use mathlib.Core.Bool.{Bool, true, false, cond, ◌&&◌}
-use mathlib.Core.List.{List, [], ◌∷◌, append-nil}
-use lib.ListN.{length, get_or}
-use lib.Dec.{leb}
-use borrow.Author.Tests.{leb-true, leb-false, not-true, not-false}
+use Rattle.std.proofs.Common.{ℕ, ◌+◌, ◌≤◌, ◌<◌, arith, ◌≡◌, refl, sym, ap, ◌∙◌, Bool, true}
+use Rattle.std.proofs.Common.{false, cond, ◌&&◌, List, [], ◌∷◌, append-nil, length, get_or, leb, leb-true, leb-false}
+use borrow.Author.Tests.{not-true, not-false}
 use Rattle.text.specs.Range.{within}
 use Rattle.text.specs.Utf8.{tail, utf8_of, is_boundary}
 use Rattle.text.specs.Class.{is_whitespace}

@@ -3,12 +3,8 @@
 --     copy-past, lower-past        past the end of the lent bytes this changes nothing
 --     lower-none, lower-more       the loop that lowers them: where it begins, and its turn
 -- Assumes nothing.
-use Prim.Native.Nat.{ℕ, ◌+◌, ◌-◌, ◌≤◌, ◌<◌}
-use native.Mathlib.Omega.{arith}
-use mathlib.Core.Path.{◌≡◌, refl, sym, ap, ap₂, ◌∙◌}
-use mathlib.Core.Bool.{false}
-use mathlib.Core.List.{List, [], ◌∷◌, ◌++◌, map, map-append}
-use lib.ListN.{length, get_or, set}
+use Rattle.std.proofs.Common.{ℕ, ◌+◌, ◌-◌, ◌≤◌, ◌<◌, arith, ◌≡◌, refl, sym, ap, ap₂, ◌∙◌, false, List, [], ◌∷◌, ◌++◌, map, length, get_or, set}
+use mathlib.Core.List.{map-append}
 use lib.Seq.{sets}
 use Rattle.text.specs.Scan.{part}
 use Rattle.text.proofs.general.Lists.{sets-append}

@@ -4,14 +4,9 @@
 --     chars-run, decoded        the characters of octets that characters were written as
 --     code-scalar               what is read is a scalar value
 -- Assumes nothing.
-use Prim.Native.Nat.{ℕ, suc, ◌%◌, ◌<◌}
-use native.Mathlib.Omega.{arith}
-use mathlib.Core.Path.{◌≡◌, refl, sym, ap, ap₂, ◌∙◌}
-use mathlib.Core.Bool.{Bool, true, false, cond, not}
-use mathlib.Core.List.{List, [], ◌∷◌, ◌++◌, append_assoc, append-nil}
-use lib.ListN.{length, get_or, take}
-use lib.Dec.{eqb, ltb}
-use borrow.Author.Tests.{lt-leb, le-leb, ltb-true, not-true, eqb-false}
+use Rattle.std.proofs.Common.{ℕ, suc, ◌%◌, ◌<◌, arith, ◌≡◌, refl, sym, ap, ap₂, ◌∙◌, Bool, true, false}
+use Rattle.std.proofs.Common.{cond, not, List, [], ◌∷◌, ◌++◌, append_assoc, append-nil, length, get_or, take, eqb, ltb, le-leb, ltb-true}
+use borrow.Author.Tests.{lt-leb, not-true, eqb-false}
 use Rattle.text.specs.Range.{within}
 use Rattle.text.specs.Every.{every}
 use Rattle.text.specs.Utf8.{tail, is_char, width, value, gather, is_scalar, octets, utf8_of}

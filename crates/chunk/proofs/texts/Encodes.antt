@@ -1,62 +1,53 @@
 -- One character, encoded into four bytes and copied from there; and the characters of an image, one after the other.
 --     encoded-size                               how many octets it has
 --     encoded-part                               the bytes that were written are its octets
---     encoded-scalar, encoded-room               it is not refused
+--     encoded-some                               it is not refused
 --     image-one, image-two, image-three          the characters of an image are scalar values
 --     one_written, two-written, three-written    what they are written as
 -- Assumes nothing.
-use Prim.Native.Nat.{ℕ, zero, suc, ◌≤◌}
-use native.Mathlib.Omega.{arith}
-use mathlib.Core.Path.{◌≡◌, refl, sym, ap, ◌∙◌}
-use mathlib.Core.Bool.{true}
-use mathlib.Core.List.{List, [], ◌∷◌, ◌++◌, append_assoc, append-nil}
-use lib.ListN.{length, take, drop, length-append}
-use lib.Seq.{take_at}
-use borrow.Author.Tests.{le-leb}
+use Rattle.std.proofs.Common.{ℕ, zero, suc, ◌≤◌, arith, ◌≡◌, refl, sym, ap, ◌∙◌, true}
+use Rattle.std.proofs.Common.{List, [], ◌∷◌, ◌++◌, append_assoc, append-nil, length, take, drop, length-append, take_at, le-leb}
+use Rattle.std.specs.Prelude.{Result, Ok, Err}
+use Rattle.text.specs.declared.utf8.EncodeError.{EncodeError}
 use Rattle.text.specs.Every.{every}
 use Rattle.text.specs.Utf8.{is_scalar, octets, utf8_of, fits, Encode}
 use Rattle.text.specs.Scan.{part}
-use Rattle.text.specs.declared.utf8.Encoded.{Encoded}
-use Rattle.text.specs.declared.utf8.Encoded.TheVariants.{Wrote, NotScalar, NoRoom}
 use Rattle.text.proofs.general.Tests.{both_true}
 use Rattle.text.proofs.general.Parts.{part-take}
 use Rattle.text.proofs.Shapes.{shapes}
 use Rattle.text.proofs.Rfc3629.{rfc3629}
 use Rattle.casing.specs.Mapping.{some, image_of}
 
-module _ (c : ℕ) (e : is_scalar c ≡ true) {b b' : List ℕ} {r : Encoded} (l : 4 ≤ length b) (h : Encode c b r b') where
+module _ (c : ℕ) (e : is_scalar c ≡ true) {b b' : List ℕ} {r : Result ℕ EncodeError} (l : 4 ≤ length b) (h : Encode c b r b') where
   four : length (octets c) ≤ 4
   four = (shapes.char-some (octets c) (rfc3629.writes c e)).1
 
   room : fits c b ≡ true
   room = le-leb (length (octets c)) (length b) (omega (arith, l, four))
 
-  answer : r ≡ Wrote (length (octets c))
+  answer : r ≡ Ok (length (octets c))
   answer = h.answer ∙ rw (e, room) refl
 
   bytes : b' ≡ octets c ++ drop (length (octets c)) b
   bytes = h.bytes ∙ rw (e, room) refl
 
   -- what was written is all of the character, four octets at most
-  pub encoded-size : {n : ℕ} → r ≡ Wrote n → (n ≡ length (octets c)) × (n ≤ 4) × (n ≤ length b')
+  pub encoded-size : {n : ℕ} → r ≡ Ok n → (n ≡ length (octets c)) × (n ≤ 4) × (n ≤ length b')
   encoded-size {n} q =
       let same : n ≡ length (octets c) = number (sym q ∙ answer) in
       (same, omega (arith, same, four), omega (arith, same, ap length bytes, length-append (octets c) (drop (length (octets c)) b)))
     where
-      number : {n m : ℕ} → Wrote n ≡ Wrote m → n ≡ m
+      number : {n m : ℕ} → ◌≡◌ {A = Result ℕ EncodeError} (Ok n) (Ok m) → n ≡ m
       number p = cc
 
-  pub encoded-part : {n : ℕ} → r ≡ Wrote n → part b' 0 n ≡ octets c
+  pub encoded-part : {n : ℕ} → r ≡ Ok n → part b' 0 n ≡ octets c
   encoded-part {n} q =
       let s = encoded-size q in
       part-take b' n s.2 ∙ ap (take n) bytes ∙ take_at (octets c) (drop (length (octets c)) b) n (sym s.0)
 
   -- it is never refused
-  pub encoded-scalar : r ≡ NotScalar → ⊥
-  encoded-scalar q = let p : NotScalar ≡ Wrote (length (octets c)) = sym q ∙ answer in let z : ◌≡◌ {A = ℕ} 0 1 = cc in absurd (omega arith)
-
-  pub encoded-room : r ≡ NoRoom → ⊥
-  encoded-room q = let p : NoRoom ≡ Wrote (length (octets c)) = sym q ∙ answer in let z : ◌≡◌ {A = ℕ} 0 1 = cc in absurd (omega arith)
+  pub encoded-some : {f : EncodeError} → r ≡ Err f → ⊥
+  encoded-some q = let p = sym q ∙ answer in let z : ◌≡◌ {A = ℕ} 0 1 = cc in absurd (omega arith)
 
 -- ---- images
 

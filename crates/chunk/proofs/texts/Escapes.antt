@@ -4,11 +4,8 @@
 --     escaped-append               escaping two texts, one after the other
 --     escaped-start, escaped-on, escaped-all      the loop: where it begins, its turn, and its end
 -- Assumes nothing.
-use Prim.Native.Nat.{ℕ, ◌+◌, ◌≤◌, ◌<◌}
-use mathlib.Core.Path.{◌≡◌, refl, sym, ap, ◌∙◌}
-use mathlib.Core.Bool.{Bool, true, false, cond, not, ◌&&◌, ◌||◌, or_assoc, or-false}
-use mathlib.Core.List.{List, [], ◌∷◌, ◌++◌}
-use lib.ListN.{length, get_or}
+use Rattle.std.proofs.Common.{ℕ, ◌+◌, ◌≤◌, ◌<◌, ◌≡◌, refl, sym, ap, ◌∙◌, Bool, true, false, cond, not, ◌&&◌, ◌||◌, List, [], ◌∷◌, ◌++◌, length, get_or}
+use mathlib.Core.Bool.{or_assoc, or-false}
 use Rattle.text.specs.Scan.{part}
 use Rattle.chunk.specs.Format.{is_escapable, escaped}
 use Rattle.chunk.specs.Put.{Puts}

@@ -5,21 +5,16 @@
 --     code-seen                             the code point of the character at a place
 --     white-none, white-last, white-ascii   whether a text ends in white space: an empty one, by its last character, by a last octet of ASCII
 -- Assumes nothing.
-use Prim.Native.Nat.{ℕ, suc, ◌+◌, ◌-◌, ◌%◌, ◌≤◌, ◌<◌}
-use native.Mathlib.Omega.{arith}
-use mathlib.Core.Path.{◌≡◌, refl, sym, ap, ◌∙◌}
-use mathlib.Core.Bool.{Bool, true, false, cond, ◌&&◌, ◌||◌, beq}
-use mathlib.Core.List.{List, [], ◌∷◌, ◌++◌}
-use lib.ListN.{length, get_or, take, drop, length-append}
+use Rattle.std.proofs.Common.{ℕ, suc, ◌+◌, ◌-◌, ◌%◌, ◌≤◌, ◌<◌, arith, ◌≡◌, refl, sym, ap, ◌∙◌, Bool, true}
+use Rattle.std.proofs.Common.{false, cond, ◌&&◌, ◌||◌, List, [], ◌∷◌, ◌++◌, length, get_or, take, drop, length-append, eqb, leb}
+use Rattle.std.specs.Prelude.{Option, Some, None}
+use mathlib.Core.Bool.{beq}
 use lib.Seq.{drop-append_seam}
-use lib.Dec.{eqb, leb}
 use borrow.Author.Tests.{not-true, not-false}
 use Rattle.text.specs.Range.{within}
 use Rattle.text.specs.Utf8.{tail, is_char, is_boundary, value, gather}
 use Rattle.text.specs.Class.{is_whitespace, white_space}
 use Rattle.text.specs.Scan.{part, code, see_from}
-use Rattle.text.specs.declared.scanner.Seen.{Seen}
-use Rattle.text.specs.declared.scanner.Seen.TheVariants.{End, Char}
 use Rattle.text.proofs.general.Places.{boundary-in}
 use Rattle.text.specs.Shapes.{one}
 use Rattle.text.proofs.Shapes.{shapes}
@@ -106,16 +101,16 @@ last-char u w e = last-append u w 0 0 ∙ last_one w (last_at u) (0 + length u) 
 
 -- ---- the code point of the last character
 
-abbrev code_in : Seen → ℕ
-code_in End = 0
-code_in (Char c n) = c
+abbrev code_in : Option (ℕ × ℕ) → ℕ
+code_in None = 0
+code_in (Some (c, n)) = c
 
 seen : (t : List ℕ) (i : ℕ) → 0 < length t → code_in (see_from t i) ≡ code t
 unfolding see_from
 seen [] i h = absurd (omega arith)
 seen (b ∷ t) i h = refl
 
-pub code-seen : (t v : List ℕ) (at to : ℕ) (r r₁ : Seen) → v ≡ take to t → at < to → to ≤ length t → r ≡ see_from (drop at v) at → r ≡ r₁ →
+pub code-seen : (t v : List ℕ) (at to : ℕ) (r r₁ : Option (ℕ × ℕ)) → v ≡ take to t → at < to → to ≤ length t → r ≡ see_from (drop at v) at → r ≡ r₁ →
     code_in r₁ ≡ code (part t at to)
 code-seen t v at to r r₁ e l n h q =
     sym (ap code_in q)

@@ -4,16 +4,10 @@
 --     Lining, lining, runs, passes, blanks          the loop that writes the text: its invariant, where it begins, and its three turns
 --     finished                                      where the loop ends
 -- Assumes nothing.
-use Prim.Native.Nat.{ℕ, zero, suc, ◌+◌, ◌-◌, ◌≤◌, ◌<◌}
-use native.Mathlib.Omega.{arith}
-use mathlib.Core.Path.{◌≡◌, refl, sym, ap, ap₂, subst, ◌∙◌}
-use mathlib.Core.Bool.{Bool, true, false, cond, not, ◌&&◌, true≢false}
-use mathlib.Core.List.{List, [], ◌∷◌, ◌++◌, append_assoc, append-nil}
-use lib.ListN.{length, get_or, take}
-use lib.Seq.{length-take-le, get_or-take}
-use native.Mathlib.Nat.{add-zero}
-use lib.Dec.{ltb}
-use borrow.Author.Tests.{ne_eqb, ltb-true, ltb-false, not-true}
+use Rattle.std.proofs.Common.{ℕ, zero, suc, ◌+◌, ◌-◌, ◌≤◌, ◌<◌, arith, ◌≡◌, refl, sym, ap, ap₂, subst, ◌∙◌, Bool, true, false, cond}
+use Rattle.std.proofs.Common.{not, ◌&&◌, true≢false, List, [], ◌∷◌, ◌++◌, append_assoc, append-nil}
+use Rattle.std.proofs.Common.{length, get_or, take, length-take-le, get_or-take, add-zero, ltb, ne_eqb, ltb-true, ltb-false}
+use borrow.Author.Tests.{not-true}
 use Rattle.text.specs.Block.{in_set, lines as line_bytes, Clear}
 use Rattle.text.proofs.general.Tests.{told-apart, both_true}
 use Rattle.text.specs.Scan.{part}

@@ -3,13 +3,7 @@
 --     Kept, kept                   a sequence is a character of ASCII, or has no octet of ASCII
 --     high-plain, high-escaped     octets above ASCII are no line ends, and are not escaped
 -- Assumes nothing.
-use Prim.Native.Nat.{ℕ, ◌+◌, ◌*◌, ◌%◌, ◌≤◌}
-use native.Mathlib.Omega.{arith}
-use mathlib.Core.Path.{◌≡◌, refl, ap, ap₂, subst, ◌∙◌}
-use mathlib.Core.Bool.{Bool, true, false, not, ◌&&◌, ◌||◌}
-use mathlib.Core.List.{List, [], ◌∷◌}
-use lib.Dec.{eqb, leb}
-use borrow.Author.Tests.{ne_eqb, leb-true}
+use Rattle.std.proofs.Common.{ℕ, ◌+◌, ◌*◌, ◌%◌, ◌≤◌, arith, ◌≡◌, refl, ap, ap₂, subst, ◌∙◌, Bool, true, false, not, ◌&&◌, ◌||◌, List, [], ◌∷◌, eqb, leb, ne_eqb, leb-true}
 use Rattle.text.specs.Utf8.{is_char, is_scalar, octets, value, gather}
 use Rattle.text.specs.Class.{mark}
 use Rattle.text.proofs.general.Tests.{both_true}

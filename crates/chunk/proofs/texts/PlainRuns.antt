@@ -3,16 +3,8 @@
 --     plain-clear      a stretch without any octet of `breaks`
 --     ascii-lowers     a text that is all ASCII
 -- Assumes nothing.
-use Prim.Native.Nat.{ℕ, zero, suc, ◌+◌, ◌-◌, ◌≤◌, ◌<◌, min}
-use native.Mathlib.Omega.{arith}
-use native.Mathlib.Nat.{add-zero}
-use mathlib.Core.Path.{◌≡◌, refl, sym, ap, subst, ◌∙◌}
-use mathlib.Core.Bool.{Bool, true, false, ◌||◌}
-use mathlib.Core.List.{List, [], ◌∷◌, ◌++◌}
-use lib.ListN.{length, get_or, take, drop, length-take, length-drop}
-use lib.Seq.{length-take-le, get_or-take, get_or-drop}
-use lib.Dec.{T, ltb}
-use borrow.Author.Tests.{ltb-true}
+use Rattle.std.proofs.Common.{ℕ, zero, suc, ◌+◌, ◌-◌, ◌≤◌, ◌<◌, min, arith, add-zero, ◌≡◌, refl, sym, ap, subst, ◌∙◌, Bool, true}
+use Rattle.std.proofs.Common.{false, ◌||◌, List, [], ◌∷◌, ◌++◌, length, get_or, take, drop, length-take, length-drop, length-take-le, get_or-take, get_or-drop, T, ltb, ltb-true}
 use Rattle.text.specs.Block.{in_set, breaks, others, Clear}
 use Rattle.text.specs.Every.{every}
 use Rattle.text.specs.Scan.{part}

@@ -4,11 +4,7 @@
 --     puts-most                         putting a text of which only the beginning may fit
 --     sets-fits                         a text that fits stands in front of the lent bytes
 -- Assumes nothing.
-use Prim.Native.Nat.{ℕ, suc, ◌+◌, ◌≤◌, ◌<◌}
-use native.Mathlib.Omega.{arith}
-use mathlib.Core.Path.{◌≡◌, refl, sym, ap, subst, ◌∙◌}
-use mathlib.Core.List.{List, [], ◌∷◌, ◌++◌, append-nil}
-use lib.ListN.{length, drop, set, length-append, length-set}
+use Rattle.std.proofs.Common.{ℕ, suc, ◌+◌, ◌≤◌, ◌<◌, arith, ◌≡◌, refl, sym, ap, subst, ◌∙◌, List, [], ◌∷◌, ◌++◌, append-nil, length, drop, set, length-append, length-set}
 use lib.Seq.{sets, sets-eq, set_out, length-sets}
 use Rattle.text.proofs.general.Lists.{sets-append}
 use Rattle.chunk.specs.Put.{Puts}

@@ -3,20 +3,14 @@
 --     quiet-clear, quiet-more     such a run: a stretch of ASCII, and one character more
 --     quiet_line, high-low        such a character is no line end; octets beyond ASCII are not lowered
 -- Assumes nothing.
-use Prim.Native.Nat.{ℕ, ◌+◌, ◌-◌, ◌≤◌, ◌<◌}
-use native.Mathlib.Omega.{arith}
-use mathlib.Core.Path.{◌≡◌, refl, sym, ap, ap₂, subst, ◌∙◌}
-use mathlib.Core.Bool.{Bool, true, false, cond, ◌&&◌, ◌||◌}
-use mathlib.Core.List.{List, [], ◌∷◌, ◌++◌, map, append_assoc, append-nil}
-use lib.ListN.{length, get_or, take, drop}
-use lib.Dec.{eqb, leb}
-use lib.Seq.{length-take-le, take_at}
-use borrow.Author.Tests.{lt-ltb, lt-leb, eqb-false}
+use Rattle.std.proofs.Common.{ℕ, ◌+◌, ◌-◌, ◌≤◌, ◌<◌, arith, ◌≡◌, refl, sym, ap, ap₂, subst, ◌∙◌, Bool, true, false, cond}
+use Rattle.std.proofs.Common.{◌&&◌, ◌||◌, List, [], ◌∷◌, ◌++◌, map, append_assoc, append-nil, length, get_or, take, drop, eqb, leb, length-take-le, take_at, lt-ltb}
+use Rattle.std.specs.Prelude.{Some}
+use borrow.Author.Tests.{lt-leb, eqb-false}
 use Rattle.text.specs.Block.{breaks, Clear}
 use Rattle.text.specs.Every.{every}
 use Rattle.text.specs.Utf8.{width, value, is_scalar, octets, utf8_of}
 use Rattle.text.specs.Scan.{part, code, rest, see}
-use Rattle.text.specs.declared.scanner.Seen.TheVariants.{Char}
 use Rattle.text.proofs.general.Tests.{both_true}
 use Rattle.text.proofs.general.Parts.{part_none, part-head, part_join, part-drop, length_part}
 use Rattle.text.proofs.Shapes.{shapes}
@@ -56,7 +50,7 @@ seen-octets u h = by (eqb (width u) 0) refl h
         back : 0 < width u → width u ≡ 1 + (width u - 1)
         back h = omega arith
 
-pub quiet-wide : (t : List ℕ) (i e : ℕ) {c n : ℕ} → i < e → e ≤ length t → see (take e t) i ≡ Char c n → is_settled c ≡ true → QuietChar t i n
+pub quiet-wide : (t : List ℕ) (i e : ℕ) {c n : ℕ} → i < e → e ≤ length t → see (take e t) i ≡ Some (c, n) → is_settled c ≡ true → QuietChar t i n
 quiet-wide t i e {c} {n} h l q s =
     let u = part t i e in
     let cut : u ≡ drop i (take e t) = part-drop t i e l in

@@ -1,22 +1,16 @@
 -- Laws of `Lays`, and of the functions of src/stack.rt.
 --     lays-none, lays-on, lays-as, lays-still       laying nothing; one text after another; an equal text; a text that stands there already
 --     lays-sets                                     a text that is stored
---     copied, pushed, coded, wipe_on                for `copy`, `push`, `put_code`, `wipe`
+--     copied, pushed, coded                         for `copy`, `push`, `put_code`
 --     octets-few, octets-one, ..                    how many octets a character has
 -- Assumes nothing.
-use Prim.Native.Nat.{ℕ, suc, ◌+◌, ◌-◌, ◌/◌, ◌≤◌, ◌<◌, min}
-use native.Mathlib.Omega.{arith}
-use native.Mathlib.Numerals.{add-one}
-use mathlib.Core.Path.{◌≡◌, refl, sym, ap, subst, ◌∙◌}
-use mathlib.Core.Bool.{Bool, true, false, cond}
-use mathlib.Core.List.{List, [], ◌∷◌, ◌++◌, append_assoc, append-nil}
-use lib.ListN.{length, take, drop, set, replicate, length-append, length-drop, length-take, replicate-append-replicate}
-use lib.Seq.{sets, sets-eq, take-suc-set, take-length, take_all, take-take, length-take-le, take-append-add, take_at, drop-append_seam}
-use lib.Dec.{leb}
-use borrow.Author.Tests.{le-leb}
+use Rattle.std.proofs.Common.{ℕ, ◌+◌, ◌-◌, ◌/◌, ◌≤◌, ◌<◌, min, arith, ◌≡◌, refl, sym, ap, subst, ◌∙◌, Bool, true, false, cond}
+use Rattle.std.proofs.Common.{List, [], ◌∷◌, ◌++◌, append_assoc, append-nil, length, take, drop}
+use Rattle.std.proofs.Common.{set, length-append, length-drop, length-take, take_all, take-take, length-take-le, take_at, leb, le-leb}
+use Rattle.std.specs.Prelude.{Result, Ok, Err}
+use Rattle.text.specs.declared.utf8.EncodeError.{EncodeError}
+use lib.Seq.{sets, sets-eq, take-append-add, drop-append_seam}
 use Rattle.text.specs.Utf8.{is_scalar, octets, further, fits, Encode}
-use Rattle.text.specs.declared.utf8.Encoded.{Encoded}
-use Rattle.text.specs.declared.utf8.Encoded.TheVariants as encoded
 use Rattle.text.specs.Scan.{part}
 use Rattle.text.proofs.general.Parts.{length_part, part-drop}
 use Rattle.command.specs.Stack.{Lays}
@@ -80,47 +74,25 @@ copied s o a e n h l k q =
 pub pushed : (o : List ℕ) (at b : ℕ) → at < length o → Lays at (b ∷ []) o (at + 1) (set o at b)
 pushed o at b h = lays-sets o (b ∷ []) at (omega arith)
 
--- ---- `wipe`
-
-pub wipe_on : (o : List ℕ) (i : ℕ) → i < length o → take i o ≡ replicate i 0 → take (i + 1) (set o i 0) ≡ replicate (i + 1) 0
-wipe_on o i h q =
-    ap (λ (m : ℕ). take m (set o i 0)) (add-one i) ∙ take-suc-set o i 0 h ∙ ap (λ (t : List ℕ). t ++ (0 ∷ [])) q
-    ∙ replicate-append-replicate i 1 0
-
-pub wipe-all : (o : List ℕ) (i n : ℕ) → i ≡ length o → length o ≡ n → take i o ≡ replicate i 0 → o ≡ replicate n 0
-wipe-all o i n e k q = sym (take-length o) ∙ ap (λ (m : ℕ). take m o) (sym e) ∙ q ∙ ap (λ (m : ℕ). replicate m 0) (e ∙ k)
-
 -- ---- `put_code`
 
--- the number of octets written plus one, so that a refusal is 0
-abbrev pub wrote_of : Encoded → ℕ
-wrote_of (encoded.Wrote n) = suc n
-wrote_of encoded.NotScalar = 0
-wrote_of encoded.NoRoom = 0
-
-module _ (c : ℕ) (b : List ℕ) (r : Encoded) (b' : List ℕ) (h : Encode c b r b') (s : is_scalar c ≡ true) (l : length (octets c) ≤ length b) where
+module _ (c : ℕ) (b : List ℕ) (r : Result ℕ EncodeError) (b' : List ℕ) (h : Encode c b r b') (s : is_scalar c ≡ true) (l : length (octets c) ≤ length b) where
   fitting : fits c b ≡ true
   fitting = le-leb _ _ l
 
-  wrote : r ≡ encoded.Wrote (length (octets c))
+  wrote : r ≡ Ok (length (octets c))
   wrote = h.answer ∙ rw (s, fitting) refl
 
   bytes : b' ≡ octets c ++ drop (length (octets c)) b
   bytes = h.bytes ∙ rw (s, fitting) refl
 
-  pub wrote_so : (n : ℕ) → r ≡ encoded.Wrote n → n ≡ length (octets c)
-  wrote_so n e = less n (length (octets c)) (ap wrote_of (sym e ∙ wrote))
-    where
-      less : (a n : ℕ) → suc a ≡ suc n → a ≡ n
-      less a n p = omega arith
+  pub wrote_so : (n : ℕ) → r ≡ Ok n → n ≡ length (octets c)
+  wrote_so n e = let p = sym e ∙ wrote in cc
 
-  pub wrote-some : wrote_of r ≡ 0 → ⊥
-  wrote-some e = less (length (octets c)) (sym (ap wrote_of wrote) ∙ e)
-    where
-      less : (n : ℕ) → suc n ≡ 0 → ⊥
-      less n p = omega arith
+  pub wrote-some : {f : EncodeError} → r ≡ Err f → ⊥
+  wrote-some e = let p = sym e ∙ wrote in let z : ◌≡◌ {A = ℕ} 0 1 = cc in absurd (omega arith)
 
-  pub coded : (o post : List ℕ) (at n : ℕ) → at ≤ length o → r ≡ encoded.Wrote n → Lays at (octets c) o (at + n) (take at o ++ (b' ++ post))
+  pub coded : (o post : List ℕ) (at n : ℕ) → at ≤ length o → r ≡ Ok n → Lays at (octets c) o (at + n) (take at o ++ (b' ++ post))
   coded o post at n k e = record {
     end = ap (λ (m : ℕ). at + m) (wrote_so n e);
     text = ap (λ (m : ℕ). take (m + n) (take at o ++ (b' ++ post))) (sym (length-take-le at o k)) ∙ take-append-add (take at o) (b' ++ post) n

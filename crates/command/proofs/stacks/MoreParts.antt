@@ -1,11 +1,6 @@
 -- More laws of `part`, the text from one place to another, beside those of text/proofs/general/Parts.antt.
 -- Assumes nothing.
-use Prim.Native.Nat.{ℕ, ◌+◌, ◌-◌, ◌≤◌, min}
-use native.Mathlib.Omega.{arith}
-use mathlib.Core.Path.{◌≡◌, sym, ap, ◌∙◌}
-use mathlib.Core.List.{List, [], ◌++◌}
-use lib.ListN.{length, take, drop}
-use lib.Seq.{take-take, take-add}
+use Rattle.std.proofs.Common.{ℕ, ◌+◌, ◌-◌, ◌≤◌, min, arith, ◌≡◌, sym, ap, ◌∙◌, List, [], ◌++◌, length, take, drop, take-take, take-add}
 use Rattle.text.specs.Scan.{part}
 
 pub part-empty : (s : List ℕ) (a e : ℕ) → e ≤ a → part s a e ≡ []

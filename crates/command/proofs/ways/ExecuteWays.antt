@@ -4,14 +4,7 @@
 --     bare-as, bare-unknown                      the ways through `execute_bare`
 --     meaning-sane                               what these functions require of a meaning holds of every meaning in the list
 -- Assumes nothing.
-use Prim.Native.Nat.{ℕ, ◌≤◌}
-use native.Mathlib.Omega.{arith}
-use mathlib.Core.Path.{◌≡◌, refl, sym, ap, subst, ◌∙◌}
-use mathlib.Core.Bool.{Bool, true, false, cond, ◌&&◌}
-use mathlib.Core.List.{List, [], ◌∷◌, ◌++◌, append_assoc}
-use lib.ListN.{length}
-use lib.Dec.{leb}
-use borrow.Author.Tests.{leb-true}
+use Rattle.std.proofs.Common.{ℕ, ◌≤◌, arith, ◌≡◌, refl, sym, ap, subst, ◌∙◌, Bool, true, false, cond, ◌&&◌, List, [], ◌∷◌, ◌++◌, append_assoc, length, leb, leb-true}
 use Rattle.text.specs.Utf8.{octets, is_scalar}
 use Rattle.text.specs.Scan.{part}
 use Rattle.text.proofs.general.Tests.{both_true}

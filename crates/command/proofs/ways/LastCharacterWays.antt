@@ -3,19 +3,11 @@
 --     empty, composes, behind, dots              the four ways through `last_char_combine`
 --     char-room, bare-room, dot-room             there is room for these characters
 -- Assumes nothing.
-use Prim.Native.Nat.{ℕ, zero, suc, ◌+◌, ◌-◌, ◌≤◌, ◌<◌}
-use native.Mathlib.Omega.{arith}
-use mathlib.Core.Path.{◌≡◌, refl, sym, ap, ap₂, subst, ◌∙◌}
-use mathlib.Core.Bool.{Bool, true, false, cond, ◌&&◌, ◌||◌}
-use mathlib.Core.List.{List, [], ◌∷◌, ◌++◌, append_assoc}
-use lib.ListN.{length, take, length-append}
-use lib.Seq.{take_all, length-take-le}
-use lib.Dec.{eqb, leb}
-use borrow.Author.Tests.{eq-eqb, ne_eqb, leb-true}
+use Rattle.std.proofs.Common.{ℕ, zero, suc, ◌+◌, ◌-◌, ◌≤◌, ◌<◌, arith, ◌≡◌, refl, sym, ap, ap₂, subst, ◌∙◌, Bool, true, false}
+use Rattle.std.proofs.Common.{cond, ◌&&◌, ◌||◌, List, [], ◌∷◌, ◌++◌, append_assoc, length, take, length-append, take_all, length-take-le, eqb, leb, eq-eqb, ne_eqb, leb-true}
+use Rattle.std.specs.Prelude.{Option, Some, None}
 use Rattle.text.specs.Utf8.{is_scalar, octets, width, value, gather}
 use Rattle.text.specs.Scan.{part, code}
-use Rattle.compose.specs.declared.Composed.{Composed}
-use Rattle.compose.specs.declared.Composed.TheVariants as composed
 use Rattle.compose.specs.Lookup.{Composite, numbers, lookup}
 use Rattle.compose.specs.Composites.{composites}
 use Rattle.compose.specs.Halving.{halved}
@@ -40,7 +32,7 @@ all-fine : every fine composites ≡ true
 unfolding every composites is_scalar
 all-fine = refl
 
-pub composed-fine : (l m x : ℕ) → lookup composites l m ≡ composed.Char x → (is_scalar x ≡ true) × ((leb x 0xFFFF || leb 0x10000 l) ≡ true)
+pub composed-fine : (l m x : ℕ) → lookup composites l m ≡ Some x → (is_scalar x ≡ true) × ((leb x 0xFFFF || leb 0x10000 l) ≡ true)
 composed-fine l m x e = both_true (is_scalar x) (leb x 0xFFFF || leb 0x10000 l) (composition.each fine all-fine l m x e)
 
 pub dotted-fine : (c : ℕ) → (dotted c ≡ c → ⊥) → (is_scalar (dotted c) ≡ true) × (dotted c ≤ 0x7F)
@@ -115,13 +107,13 @@ module _ (o : List ℕ) (a e : ℕ) (ae : a ≤ e) (eo : e ≤ length o) where
         at_last w r o' l = edit (last_at t) w r o' last-inside (subst (λ (n : ℕ). Lays n w o r o') p l)
 
         -- the character and the mark compose
-        pub composes : (x r : ℕ) (o' : List ℕ) → lookup composites (dotted c) m ≡ composed.Char x → Lays at (octets x) o r o'
+        pub composes : (x r : ℕ) (o' : List ℕ) → lookup composites (dotted c) m ≡ Some x → Lays at (octets x) o r o'
             → Lays a (last_char_combine (given t) m) o r o'
         composes x r o' f l =
             lays-as a (front t ++ octets x) _ o r o' (sym (combined ∙ to-c ∙ ap (with_mark t c m) f)) (at_last (octets x) r o' l)
 
         -- they do not compose, and the character is no dotless letter
-        pub behind : (r : ℕ) (o' : List ℕ) → lookup composites (dotted c) m ≡ composed.Nothing → dotted c ≡ c → Lays e (octets m) o r o'
+        pub behind : (r : ℕ) (o' : List ℕ) → lookup composites (dotted c) m ≡ None → dotted c ≡ c → Lays e (octets m) o r o'
             → Lays a (last_char_combine (given t) m) o r o'
         behind r o' f g l =
             lays-as a (take (e - a) t ++ octets m) _ o r o'
@@ -133,7 +125,7 @@ module _ (o : List ℕ) (a e : ℕ) (ae : a ≤ e) (eo : e ≤ length o) where
             all n t q = take_all n t (omega arith)
 
         -- they do not compose, and the character is a dotless letter, which gets its dot
-        pub dots : (r₁ : ℕ) (o₁ : List ℕ) (r : ℕ) (o' : List ℕ) → lookup composites (dotted c) m ≡ composed.Nothing → (dotted c ≡ c → ⊥)
+        pub dots : (r₁ : ℕ) (o₁ : List ℕ) (r : ℕ) (o' : List ℕ) → lookup composites (dotted c) m ≡ None → (dotted c ≡ c → ⊥)
             → Lays at (octets (dotted c)) o r₁ o₁ → Lays r₁ (octets m) o₁ r o' → Lays a (last_char_combine (given t) m) o r o'
         dots r₁ o₁ r o' f g l₁ l₂ =
             lays-as a (front t ++ (octets (dotted c) ++ octets m)) _ o r o'
@@ -142,7 +134,7 @@ module _ (o : List ℕ) (a e : ℕ) (ae : a ≤ e) (eo : e ≤ length o) where
             (at_last (octets (dotted c) ++ octets m) r o' (lays-on at (octets (dotted c)) (octets m) o r₁ o₁ r o' l₁ l₂))
 
 -- what `find` answers in the lent table is the lookup in the list
-pub looked : (t : List ℕ) (d m c : ℕ) (r x : Composed) → r ≡ halved t d m → t ≡ numbers composites → d ≡ dotted c → r ≡ x
+pub looked : (t : List ℕ) (d m c : ℕ) (r x : Option ℕ) → r ≡ halved t d m → t ≡ numbers composites → d ≡ dotted c → r ≡ x
     → lookup composites (dotted c) m ≡ x
 looked t d m c r x h e q f =
     sym (composition.by-halving (dotted c) m) ∙ sym (ap₂ (λ (s : List ℕ) (n : ℕ). halved s n m) e q) ∙ sym h ∙ f
@@ -174,7 +166,7 @@ dotted-wide c = by (eqb c 0x131) (eqb c 0x237)
     by false true h = absurd (omega arith)
     by false false h = h
 
-pub char-room : (o : List ℕ) (at e c m x : ℕ) → at < e → e ≤ length o → c ≡ code (part o at e) → lookup composites (dotted c) m ≡ composed.Char x
+pub char-room : (o : List ℕ) (at e c m x : ℕ) → at < e → e ≤ length o → c ≡ code (part o at e) → lookup composites (dotted c) m ≡ Some x
     → (is_scalar x ≡ true) × (at + length (octets x) ≤ e + 2)
 char-room o at e c m x l n q f =
     let h = composed-fine (dotted c) m x f in

@@ -1,24 +1,21 @@
 -- The list of commands, and the rows of bytes in which src/names.rt has it: for src/meaning.rt.
 --     other, at_key                                 names of one octet: what they mean is computed from the list
---     left-on, left-off, other_length               two ranges of bytes, compared octet by octet
+--     compared                                      two ranges of bytes, compared by `==`
 --     Going, is-here, missed, found, ended, room    the search, one row after another
 -- Assumes nothing.
-use Prim.Native.Nat.{ℕ, suc, ◌+◌, ◌-◌, ◌≤◌, ◌<◌, min}
-use native.Mathlib.Omega.{arith}
-use mathlib.Core.Path.{◌≡◌, refl, sym, ap, ap₂, ◌∙◌}
-use mathlib.Core.Bool.{Bool, true, false, cond}
-use mathlib.Core.List.{List, [], ◌∷◌, ◌++◌, append_assoc}
-use lib.ListN.{length, get_or, take, drop, length-drop, length-append}
-use lib.Seq.{get_or-drop, drop-drop, take-append_seam, drop-append_seam}
-use lib.Dec.{eqb}
-use borrow.Author.Tests.{eqb-true, eqb-false, eq-eqb, ne_eqb}
+use Rattle.std.proofs.Common.{ℕ, suc, ◌+◌, ◌-◌, ◌≤◌, ◌<◌, min, arith, ◌≡◌, refl, sym, ap, ap₂, ◌∙◌, Bool, true, false}
+use Rattle.std.proofs.Common.{cond, ◌&&◌, List, [], ◌∷◌, ◌++◌, append_assoc, length, get_or}
+use Rattle.std.proofs.Common.{take, drop, length-drop, length-append, get_or-drop, drop-drop, eqb, eqb-true, ne_eqb}
+use lib.Seq.{take-append_seam, drop-append_seam}
+use borrow.Author.Tests.{eqb-false}
 use Rattle.text.specs.Utf8.{octets}
 use Rattle.text.specs.Class.{mark}
 use Rattle.text.specs.Scan.{part}
 use Rattle.command.specs.declared.meaning.Meaning.{Meaning}
 use Rattle.command.specs.declared.meaning.Meaning.TheVariants.{Unknown}
 use Rattle.text.specs.Strings.{utf8}
-use Rattle.text.proofs.general.Parts.{part-head, length_part}
+use Rattle.text.proofs.general.Parts.{part-head}
+use Rattle.std.specs.Cmp.Lexicographic.{pointwise}
 use Rattle.text.specs.SameBytes.{same_bytes}
 use Rattle.text.proofs.general.SameBytes.{same_length}
 use Rattle.text.proofs.general.Tests.{both_false}
@@ -78,41 +75,19 @@ at_key b k m e h = h ∙ ap (λ (n : ℕ). meaning_in (only 1 commands) (n ∷ [
 
 -- ---- two ranges of bytes
 
-module _ (t : List ℕ) (i : ℕ) (s : List ℕ) (a n : ℕ) (ht : i + n ≤ length t) (hs : a + n ≤ length s) where
-  -- whether they are the same from their octet k on
-  abbrev pub left : ℕ → Bool
-  left k = same_bytes (part t (i + k) (i + n)) (part s (a + k) (a + n))
+pointwise-same : (a b : List ℕ) → pointwise eqb a b ≡ same_bytes a b
+unfolding same_bytes
+pointwise-same [] [] = refl
+pointwise-same [] (y ∷ b) = refl
+pointwise-same (x ∷ a) [] = refl
+pointwise-same (x ∷ a) (y ∷ b) = ap (λ (w : Bool). eqb x y && w) (pointwise-same a b)
 
-  pub left-start : same_bytes (part t i (i + n)) (part s a (a + n)) ≡ left 0
-  left-start = ap₂ (λ (p q : ℕ). same_bytes (part t p (i + n)) (part s q (a + n))) (omega arith) (omega arith)
-
-  module _ (k : ℕ) (h : k < n) where
-    heads : left k ≡ same_bytes (get_or t (i + k) 0 ∷ part t (i + k + 1) (i + n)) (get_or s (a + k) 0 ∷ part s (a + k + 1) (a + n))
-    heads = ap₂ same_bytes (part-head t (i + k) (i + n) (omega arith) ht) (part-head s (a + k) (a + n) (omega arith) hs)
-
-    pub left-off : (get_or t (i + k) 0 ≡ get_or s (a + k) 0 → ⊥) → false ≡ left k
-    unfolding same_bytes
-    left-off e = sym (heads ∙ rw (ne_eqb _ _ e))
-
-    pub left-on : get_or t (i + k) 0 ≡ get_or s (a + k) 0 → left k ≡ left (k + 1)
-    unfolding same_bytes
-    left-on e = heads ∙ rw (eq-eqb _ _ e) (ap₂ (λ (p q : ℕ). same_bytes (part t p (i + n)) (part s q (a + n))) (omega arith) (omega arith))
-
-  pub left_end : (k : ℕ) → n ≤ k → true ≡ left k
-  unfolding same_bytes
-  left_end k h = sym (ap₂ same_bytes (part-empty t (i + k) (i + n) (omega arith)) (part-empty s (a + k) (a + n) (omega arith)))
-
-pub other_length : (t : List ℕ) (i m : ℕ) (s : List ℕ) (a n : ℕ) → i + m ≤ length t → a + n ≤ length s → (m ≡ n → ⊥)
-    → false ≡ same_bytes (part t i (i + m)) (part s a (a + n))
-other_length t i m s a n p q h =
-    sym (same_length _ _ (λ e. h (sum m n (i + m - i) (a + n - a) (omega arith) (omega arith)
-    (sym (length_part t i (i + m) (omega arith) p) ∙ e ∙ length_part s a (a + n) (omega arith) q))))
-  where
-    sum : (m n p q : ℕ) → p ≡ m → q ≡ n → p ≡ q → m ≡ n
-    sum m n p q a b c = omega arith
-
-pub name-part : (s : List ℕ) (a e n : ℕ) → n ≡ e - a → a ≤ e → part s a (a + n) ≡ part s a e
-name-part s a e n h l = ap (part s a) (omega arith)
+-- `==` of two slices is the comparison of the definition
+pub compared : (t s : List ℕ) (i e a f : ℕ) {r : Bool} → e ≤ length t → f ≤ length s
+    → r ≡ pointwise eqb (take (e - i) (drop i t)) (take (f - a) (drop a s)) → r ≡ same_bytes (part t i e) (part s a f)
+compared t s i e a f l m h =
+    h ∙ pointwise-same (take (e - i) (drop i t)) (take (f - a) (drop a s))
+    ∙ ap₂ (λ (p q : ℕ). same_bytes (take (p - i) (drop i t)) (take (q - a) (drop a s))) (omega arith) (omega arith)
 
 pub name-one : (s : List ℕ) (a e b : ℕ) → e - a ≡ 1 → e ≤ length s → b ≡ get_or s a 0 → b ∷ [] ≡ part s a e
 name-one s a e b h l q =
@@ -255,10 +230,10 @@ module _ (t name : List ℕ) (to i : ℕ) (l : i < to) (g : Here t name to i) wh
       regroup i k = omega arith
 
   -- the first byte m is the key's length, and b says whether the key is the name
-  module _ (m : ℕ) (b : Bool) (s : List ℕ) (e : m ≡ get_or t i 0) (h : b ≡ same_bytes (part t (i + 4) (i + 4 + m)) s) (v : s ≡ name) where
+  module _ (m : ℕ) (b : Bool) (e : m ≡ get_or t i 0) (h : b ≡ same_bytes (part t (i + 4) (i + 4 + m)) name) where
     key-same : same_bytes g.row.key name ≡ b
     key-same =
-        sym (h ∙ ap₂ (λ (p : ℕ) (w : List ℕ). same_bytes (part t (i + 4) (i + 4 + p)) w) (e ∙ first) v
+        sym (h ∙ ap (λ (p : ℕ). same_bytes (part t (i + 4) (i + 4 + p)) name) (e ∙ first)
         ∙ ap (λ (p : List ℕ). same_bytes p name) key-at)
 
     pub missed : b ≡ false → Going t name to (i + (4 + m))

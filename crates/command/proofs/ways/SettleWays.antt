@@ -4,14 +4,9 @@
 --     finished, finished-white                 where the loop ends
 --     settle-normal, settle-verbatim           the two ways through `settle`
 -- Assumes nothing.
-use Prim.Native.Nat.{ℕ, zero, suc, ◌+◌, ◌-◌, ◌≤◌, ◌<◌, min}
-use native.Mathlib.Omega.{arith}
-use native.Mathlib.Numerals.{add-one}
-use mathlib.Core.Path.{◌≡◌, refl, sym, ap, ap₂, subst, ◌∙◌}
-use mathlib.Core.Bool.{Bool, true, false}
-use mathlib.Core.List.{List, [], ◌∷◌, ◌++◌, append_assoc, append-nil}
-use lib.ListN.{length, get_or, take, drop, set, length-set}
-use lib.Seq.{take-suc-set, drop-set-lt, get_or-drop, drop-drop}
+use Rattle.std.proofs.Common.{ℕ, zero, suc, ◌+◌, ◌-◌, ◌≤◌, ◌<◌, min, arith, add-one, ◌≡◌, refl, sym, ap, ap₂, subst, ◌∙◌, Bool}
+use Rattle.std.proofs.Common.{true, false, List, [], ◌∷◌, ◌++◌, append_assoc, append-nil, length}
+use Rattle.std.proofs.Common.{get_or, take, drop, set, length-set, take-suc-set, drop-set-lt, get_or-drop, drop-drop}
 use Rattle.text.specs.Scan.{part}
 use Rattle.chunk.specs.Format.{Written, written, before, ends_white, lines, is_line_end, format_one}
 use Rattle.chunk.specs.Inner.{plain, stops}

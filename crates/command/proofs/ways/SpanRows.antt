@@ -3,15 +3,10 @@
 --     spans, spans-at   where no name outside has n octets, the rows between the two bytes say of a name of n octets what all say
 --     above             numbers up to a bound, and one above it
 -- Assumes nothing.
-use Prim.Native.Nat.{ℕ, ◌+◌, ◌-◌, ◌≤◌, ◌<◌}
-use native.Mathlib.Omega.{arith}
-use mathlib.Core.Path.{◌≡◌, refl, sym, ap, subst, ◌∙◌}
-use mathlib.Core.Bool.{Bool, true, false, cond, ◌&&◌, ◌||◌}
-use mathlib.Core.List.{List, [], ◌∷◌, ◌++◌, append_assoc, append-nil}
-use lib.ListN.{length, drop, length-append}
-use lib.Seq.{drop-drop, drop-append_seam}
-use lib.Dec.{eqb, ltb, leb}
-use borrow.Author.Tests.{eqb-true, eqb-false, leb-true, ne_eqb}
+use Rattle.std.proofs.Common.{ℕ, ◌+◌, ◌-◌, ◌≤◌, ◌<◌, arith, ◌≡◌, refl, sym, ap, subst, ◌∙◌, Bool, true, false, cond, ◌&&◌}
+use Rattle.std.proofs.Common.{◌||◌, List, [], ◌∷◌, ◌++◌, append_assoc, append-nil, length, drop, length-append, drop-drop, eqb, ltb, leb, eqb-true, leb-true, ne_eqb}
+use lib.Seq.{drop-append_seam}
+use borrow.Author.Tests.{eqb-false}
 use Rattle.text.specs.Class.{mark}
 use Rattle.text.specs.Every.{every}
 use Rattle.text.specs.SameBytes.{same_bytes}

@@ -4,6 +4,7 @@
 -- Then its answer on the numbers of a list that rises.
 --     by-halving             the search is `lookup` in the list
 -- Assumes nothing.
+use Rattle.std.specs.Prelude.{Some, None}
 use Prim.Native.Nat.{ℕ, zero, suc, ◌/◌, ◌≤◌, ◌<◌}
 use native.Mathlib.Omega.{arith}
 use mathlib.Core.Path.{◌≡◌, refl, ap, subst⁻¹}
@@ -15,7 +16,6 @@ use borrow.Author.Tests.{lt-ltb, le-ltb}
 use Rattle.text.proofs.general.Tests.{both_true, true-not-false}
 use Rattle.search.specs.Halving.{before, is_low, place_of}
 use Rattle.search.proofs.Search.{search}
-use Rattle.compose.specs.declared.Composed.TheVariants.{Char, Nothing}
 use Rattle.compose.specs.Lookup.{Composite, numbers, has, lookup, comes_before, rises_from, rises}
 use Rattle.compose.specs.Halving.{row_at, look, look_at, halved}
 use Rattle.compose.proofs.lists.Rows.{row_of, count, row_next, not-has, not-has-low, before_on, rises-rest}
@@ -25,13 +25,13 @@ module _ (t : List ℕ) (l m k : ℕ) (e : k ≡ place_of 3 t l m) where
   unfolding halved
   looked = ap (look_at t l m) e
 
-  pub no_row : length t / 3 ≤ k → Nothing ≡ halved t l m
+  pub no_row : length t / 3 ≤ k → None ≡ halved t l m
   no_row h = rw (le-ltb k (length t / 3) h) at looked
 
-  pub its-row : k < length t / 3 → has (row_at t k) l m ≡ true → Char (row_at t k).char ≡ halved t l m
+  pub its-row : k < length t / 3 → has (row_at t k) l m ≡ true → Some (row_at t k).char ≡ halved t l m
   its-row h f = rw (lt-ltb k (length t / 3) h, f) at looked
 
-  pub other_row : k < length t / 3 → has (row_at t k) l m ≡ false → Nothing ≡ halved t l m
+  pub other_row : k < length t / 3 → has (row_at t k) l m ≡ false → None ≡ halved t l m
   other_row h f = rw (lt-ltb k (length t / 3) h, f) at looked
 
 module _ (l m : ℕ) where
@@ -54,7 +54,7 @@ module _ (l m : ℕ) where
       let x = both_true (comes_before p r.letter r.mark) (rises_from r rs) e in
       subst⁻¹ (λ (s : Composite). comes_before s l m ≡ false) (row_next p (r ∷ rs) k) (all-late r rs x.1 (late p r x.0 f) k (omega arith))
 
-  none-late : (p : Composite) (rs : List Composite) → rises_from p rs ≡ true → comes_before p l m ≡ false → lookup rs l m ≡ Nothing
+  none-late : (p : Composite) (rs : List Composite) → rises_from p rs ≡ true → comes_before p l m ≡ false → lookup rs l m ≡ None
   unfolding rises_from lookup
   none-late p [] e f = refl
   none-late p (r ∷ rs) e f =
@@ -69,7 +69,7 @@ module _ (l m : ℕ) where
     inside : at ≤ length rs
     low : (k : ℕ) → k < at → comes_before (row_of rs k) l m ≡ true
     high : (k : ℕ) → at ≤ k → k < length rs → comes_before (row_of rs k) l m ≡ false
-    answer : cond (ltb at (length rs)) (look (row_of rs at) l m) Nothing ≡ lookup rs l m
+    answer : cond (ltb at (length rs)) (look (row_of rs at) l m) None ≡ lookup rs l m
 
   split : (rs : List Composite) → rises rs ≡ true → Split rs
   unfolding lookup numbers rises
@@ -91,7 +91,7 @@ module _ (l m : ℕ) where
         low = low s f;
         high = high s;
         answer =
-            subst⁻¹ (λ (q : Composite). cond (ltb (suc s.at) (suc (length rs))) (look q l m) Nothing ≡ lookup (r ∷ rs) l m) (row_next r rs s.at)
+            subst⁻¹ (λ (q : Composite). cond (ltb (suc s.at) (suc (length rs))) (look q l m) None ≡ lookup (r ∷ rs) l m) (row_next r rs s.at)
             (rw (leb-suc-suc (suc s.at) (length rs), not-has-low r l m f) s.answer);
       }
       by false f s = record {

@@ -9,6 +9,9 @@
 --     field_at, count_at, only_at_lem         the value of a row, and one that is a literal
 --     only-inside                             where that literal stands
 -- Assumes nothing.
+use Rattle.values.specs.declared.resolver.Resolver.{Resolver}
+use Rattle.std.specs.Prelude.{Some, Result, Ok, Err}
+use Rattle.resolve.specs.declared.answer.Chunks.{Chunks}
 use Prim.Native.Nat.{ℕ, suc, ◌+◌, ◌*◌, ◌/◌, ◌%◌, ◌≤◌, ◌<◌}
 use native.Mathlib.Omega.{arith}
 use mathlib.Core.Path.{◌≡◌, refl, sym, ap, ap₂, subst, ◌∙◌}
@@ -33,18 +36,13 @@ use Rattle.turn.specs.Content.{flatten}
 use Rattle.literal.specs.Literal.{resolve_literal}
 use Rattle.literal.specs.Rows.{most_number, InReach, rows_from, texts_of}
 use Rattle.literal.proofs.Flattening.{flattening}
-use Rattle.resolve.specs.declared.answer.Answer.{Answer}
-use Rattle.resolve.specs.declared.answer.Answer.TheVariants as answer
 use Rattle.resolve.specs.declared.progress.Progress.{Progress}
-use Rattle.resolve.specs.declared.progress.Went.{Went}
-use Rattle.resolve.specs.declared.progress.Went.TheVariants as went
 use Rattle.resolve.specs.Resolves.{Value, resolved, roomy, fits, told, rows_left, text_left, Writes}
 use Rattle.resolve.specs.OneLiteral.{value_of}
 use Rattle.resolve.specs.Checks.{Lent, is_value, are_lent, is_right}
 use Rattle.resolve.specs.Runs.{Run, done, stop}
 use Rattle.resolve.specs.Progress.{small, Has, answer_of, Bounded, SaysRun, BoundedAnswer, Counted}
 use Rattle.resolve.proofs.Asking.{asking}
-use Rattle.values.specs.declared.elements.Only.TheVariants as only
 use Rattle.values.specs.Field.{flattened, of_run, field_of}
 use Rattle.values.specs.Uses.{only_at, value_from, ReadyValue}
 use Rattle.values.proofs.OnlyLiteral.{only-literal}
@@ -90,10 +88,11 @@ module _ (cs : List Chunk) (b₀ t₀ : List ℕ) (st : Progress) (b t : List �
     enough : (st.rows.n * 5 ≤ length c) × (st.bytes ≤ length s)
     enough = (omega (arith, many, rows-room), omega (arith, long, rooms.1))
 
-    answered : (n : ℕ) → st.names ≡ n → answer_of st ≡ told (resolved flat n) c s
+    answered : (n : ℕ) → st.names ≡ n → Ok (answer_of st) ≡ told (resolved flat n) c s
     answered n e =
-        ap₂ (λ (i j : ℕ). answer.Chunks i j st.names) many long ∙ ap (answer.Chunks (length flat) (length (texts_of flat))) e
-        ∙ ap (λ (w : Bool). cond w (answer.Chunks (length flat) (length (texts_of flat)) n) (answer.Refused (nowhere NoRoom))) (sym x)
+        ap₂ (λ (i j : ℕ). Ok (record { rows = i; bytes = j; names = st.names })) many long ∙ ap
+        (λ (n' : ℕ). Ok (record { rows = (length flat); bytes = (length (texts_of flat)); names = n' })) e
+        ∙ ap (λ (w : Bool). cond w (Ok (record { rows = length flat; bytes = length (texts_of flat); names = n })) (Err (nowhere NoRoom))) (sym x)
 
     rows_as : (n : ℕ) (c' : List ℕ) → c' ≡ flat_chunks (rows_from 0 flat) ++ drop (length flat * 5) c → c' ≡ rows_left (resolved flat n) c s
     rows_as n c' e = e ∙ ap (λ (w : Bool). cond w (flat_chunks (rows_from 0 flat) ++ drop (length flat * 5) c) c) (sym x)
@@ -127,51 +126,49 @@ module _ (cs : List Chunk) (b₀ t₀ : List ℕ) (st : Progress) (b t : List �
 
 -- ---- the ways through `several`
 
-pub says-count : (g : ℕ → Run) (n m : ℕ) → n ≡ m → (st : Progress) (b t : List ℕ) (r : Went) (b' t' : List ℕ) → SaysRun (g n) st b t r b' t'
+pub says-count : (g : ℕ → Run) (n m : ℕ) → n ≡ m → (st : Progress) (b t : List ℕ) (r : Result Progress Fault) (b' t' : List ℕ) → SaysRun (g n) st b t r b' t'
     → SaysRun (g m) st b t r b' t'
 says-count g n m e st b t r b' t' h = subst (λ (k : ℕ). SaysRun (g k) st b t r b' t') e h
 
 -- what `value` requires at the beginning, where no name is open
-pub ready-value-first : (file rows months words heads next w by_name by_mark : List ℕ) (i : ℕ) (w' held : List ℕ)
-    → Resolving file rows months words heads next w by_name by_mark i → length w' ≡ length w → length held ≡ most_open
-    → ReadyValue file rows months words heads next w' by_name by_mark held most_open
-ready-value-first file rows months words heads next w by_name by_mark i w' held h k e = record {
-  short = h.short;
-  lent = h.lent;
+pub ready-value-first : (r : Resolver) (w : List ℕ) (i : ℕ) (w' held : List ℕ)
+    → Resolving r i w → length w' ≡ length w → length held ≡ most_open
+    → ReadyValue r w' held most_open
+ready-value-first r w i w' held h k e = record {
   index = h.index;
-  ready = asking.ready_on w by_name by_mark w' h.ready k;
+  scratch = omega (arith, h.scratch, k);
   path = (e, omega arith);
 }
 
 -- an answer has the bounds of what was counted
-pub answer-bounded : (st : Progress) → Bounded st → (d : Answer) → d ≡ answer_of st → BoundedAnswer d
-answer-bounded st h d e = subst BoundedAnswer (sym e) (h.rows, h.bytes, h.names)
+pub answer-bounded : (st : Progress) → Bounded st → (d : Chunks) → d ≡ answer_of st → BoundedAnswer (Ok d)
+answer-bounded st h d e = subst (λ (x : Chunks). BoundedAnswer (Ok x)) (sym e) (h.rows, h.bytes, h.names)
 
-module _ (run : Run) (first : Progress) (begins : (b t : List ℕ) → Has [] b t first b t) (b₀ t₀ : List ℕ) (r : Went) (b t : List ℕ)
+module _ (run : Run) (first : Progress) (begins : (b t : List ℕ) → Has [] b t first b t) (b₀ t₀ : List ℕ) (r : Result Progress Fault) (b t : List ℕ)
     (h : SaysRun run first b₀ t₀ r b t) (c s : List ℕ) where
   abbrev value : Run → Value
   value run = of_run (flattened run)
 
-  pub several-refused : (f : Fault) → r ≡ went.Refused f → Writes (value run) c s (answer.Refused f) c s
-  several-refused f e = by run (subst (λ (r : Went). SaysRun run first b₀ t₀ r b t) e h)
+  pub several-refused : (f : Fault) → r ≡ Err f → Writes (value run) c s (Err f) c s
+  several-refused f e = by run (subst (λ (r : Result Progress Fault). SaysRun run first b₀ t₀ r b t) e h)
     where
-      by : (run : Run) → SaysRun run first b₀ t₀ (went.Refused f) b t → Writes (value run) c s (answer.Refused f) c s
+      by : (run : Run) → SaysRun run first b₀ t₀ (Err f) b t → Writes (value run) c s (Err f) c s
       by (done cs n) k = absurd k
-      by (stop g) k = record { answer = ap answer.Refused k; rows = refl; text = refl }
+      by (stop g) k = record { answer = ap Err k; rows = refl; text = refl }
 
-  module _ (st : Progress) (e : r ≡ went.Done st) where
-    counted : SaysRun run first b₀ t₀ (went.Done st) b t
-    counted = subst (λ (r : Went). SaysRun run first b₀ t₀ r b t) e h
+  module _ (st : Progress) (e : r ≡ Ok st) where
+    counted : SaysRun run first b₀ t₀ (Ok st) b t
+    counted = subst (λ (r : Result Progress Fault). SaysRun run first b₀ t₀ r b t) e h
 
     -- what `fits` answers for a room
     abbrev pub Fitted : Bool → List ℕ → List ℕ → Type 0
     Fitted x c s =
         (ps : List Chunk) (b₀ t₀ b t : List ℕ) → Has ps b₀ t₀ st b t → (x ≡ fits (flatten ps) c s) × (x ≡ true → small (flatten ps) ≡ true)
 
-    pub several-full : (x : Bool) → Fitted x c s → not x ≡ true → Writes (value run) c s (answer.Refused (nowhere NoRoom)) c s
+    pub several-full : (x : Bool) → Fitted x c s → not x ≡ true → Writes (value run) c s (Err (nowhere NoRoom)) c s
     several-full x l q = by run counted
       where
-        by : (run : Run) → SaysRun run first b₀ t₀ (went.Done st) b t → Writes (value run) c s (answer.Refused (nowhere NoRoom)) c s
+        by : (run : Run) → SaysRun run first b₀ t₀ (Ok st) b t → Writes (value run) c s (Err (nowhere NoRoom)) c s
         by (done cs n) k =
             let y : fits (flatten cs) c s ≡ false = sym (l cs b₀ t₀ b t (k.1 [] b₀ t₀ (begins b₀ t₀))).0 ∙ not-true x q in
             record { answer = rw y; rows = rw y; text = rw y }
@@ -180,64 +177,64 @@ module _ (run : Run) (first : Progress) (begins : (b t : List ℕ) → Has [] b 
     pub several-room : (x : Bool) (d u : List ℕ) → Fitted x d u → x ≡ true → (st.rows.n * 5 ≤ length d) × (st.bytes ≤ length u)
     several-room x d u l q = by run counted
       where
-        by : (run : Run) → SaysRun run first b₀ t₀ (went.Done st) b t → (st.rows.n * 5 ≤ length d) × (st.bytes ≤ length u)
+        by : (run : Run) → SaysRun run first b₀ t₀ (Ok st) b t → (st.rows.n * 5 ≤ length d) × (st.bytes ≤ length u)
         by (done cs n) k =
             let has = k.1 [] b₀ t₀ (begins b₀ t₀) in
             let told = l cs b₀ t₀ b t has in
             enough cs b₀ t₀ st b t has d u (sym told.0 ∙ q) (told.1 q)
         by (stop g) k = absurd k
 
-    module _ (x : Bool) (l : Fitted x c s) (q : x ≡ true) (d : Answer) (o : d ≡ answer_of st) where
+    module _ (x : Bool) (l : Fitted x c s) (q : x ≡ true) (d : Chunks) (o : d ≡ answer_of st) where
       pub several-copied : length b ≡ length b₀ → length t ≡ length t₀ → (y : Bool) → Fitted y b t → y ≡ true → (c' s' : List ℕ)
           → c' ≡ take (st.rows.n * 5) b ++ drop (st.rows.n * 5) c → s' ≡ sets s 0 (part t 0 st.bytes)
-          → Writes (value run) c s d c' s'
+          → Writes (value run) c s (Ok d) c' s'
       several-copied i j y m z c' s' p w = by run counted
         where
-          by : (run : Run) → SaysRun run first b₀ t₀ (went.Done st) b t → Writes (value run) c s d c' s'
+          by : (run : Run) → SaysRun run first b₀ t₀ (Ok st) b t → Writes (value run) c s (Ok d) c' s'
           by (done cs n) k =
               let has = k.1 [] b₀ t₀ (begins b₀ t₀) in
               let fit : fits (flatten cs) c s ≡ true = sym (l cs b₀ t₀ b t has).0 ∙ q in
               let within = (l cs b₀ t₀ b t has).1 q in
               let few : fits (flatten cs) b t ≡ true = sym (m cs b₀ t₀ b t has).0 ∙ z in
               record {
-                answer = o ∙ answered cs b₀ t₀ st b t has c s fit within n k.0;
+                answer = ap {B = Result Chunks Fault} Ok o ∙ answered cs b₀ t₀ st b t has c s fit within n k.0;
                 rows = rows_as cs b₀ t₀ st b t has c s fit within n c'
                     (p ∙ ap₂ ◌++◌ (held_rows cs b₀ t₀ st b t has i j few within) (ap (λ (n : ℕ). drop (n * 5) c) (many cs b₀ t₀ st b t has c s fit within)));
                 text = text-as cs b₀ t₀ st b t has c s fit within n s' (w ∙ ap (sets s 0) (held-text cs b₀ t₀ st b t has i j few within));
               }
           by (stop g) k = absurd k
 
-      pub several-again : (r₂ : Went) (c' s' : List ℕ) → SaysRun run first c s r₂ c' s' → Writes (value run) c s d c' s'
+      pub several-again : (r₂ : Result Progress Fault) (c' s' : List ℕ) → SaysRun run first c s r₂ c' s' → Writes (value run) c s (Ok d) c' s'
       several-again r₂ c' s' k₂ = by run counted r₂ k₂
         where
-          by : (run : Run) → SaysRun run first b₀ t₀ (went.Done st) b t → (r₂ : Went) → SaysRun run first c s r₂ c' s'
-              → Writes (value run) c s d c' s'
-          by (done cs n) k (went.Done st₂) k₂ =
+          by : (run : Run) → SaysRun run first b₀ t₀ (Ok st) b t → (r₂ : Result Progress Fault) → SaysRun run first c s r₂ c' s'
+              → Writes (value run) c s (Ok d) c' s'
+          by (done cs n) k (Ok st₂) k₂ =
               let has = k.1 [] b₀ t₀ (begins b₀ t₀) in
               let has₂ = k₂.1 [] c s (begins c s) in
               let fit : fits (flatten cs) c s ≡ true = sym (l cs b₀ t₀ b t has).0 ∙ q in
               let within = (l cs b₀ t₀ b t has).1 q in
               let right₂ = right cs c s st₂ c' s' has₂ c s fit within in
               record {
-                answer = o ∙ answered cs b₀ t₀ st b t has c s fit within n k.0;
+                answer = ap {B = Result Chunks Fault} Ok o ∙ answered cs b₀ t₀ st b t has c s fit within n k.0;
                 rows = rows_as cs b₀ t₀ st b t has c s fit within n c'
                     ((has₂.rows right₂).numbers (reach cs b₀ t₀ st b t has c s fit within)
                     ∙ flattening.rows_written c (flatten cs) (rows-room cs b₀ t₀ st b t has c s fit within));
                 text = text-as cs b₀ t₀ st b t has c s fit within n s' (has₂.text right₂);
               }
-          by (done cs n) k (went.Refused f) k₂ = absurd k₂
+          by (done cs n) k (Err f) k₂ = absurd k₂
           by (stop g) k r₂ k₂ = absurd k
 
 -- ---- the way through `count`
 
-pub count-as : (run : Run) (first : Progress) → ((b t : List ℕ) → Has [] b t first b t) → (b₀ t₀ : List ℕ) (r : Went) (b t : List ℕ)
+pub count-as : (run : Run) (first : Progress) → ((b t : List ℕ) → Has [] b t first b t) → (b₀ t₀ : List ℕ) (r : Result Progress Fault) (b t : List ℕ)
     → SaysRun run first b₀ t₀ r b t → Counted (of_run (flattened run)) r
-count-as (done cs n) first begins b₀ t₀ (went.Done st) b t k =
+count-as (done cs n) first begins b₀ t₀ (Ok st) b t k =
     let has = k.1 [] b₀ t₀ (begins b₀ t₀) in
     (has.over, λ o. ((has.rows o).count, has.bytes o ∙ ap length (sym (flattening.texts-flat cs))))
-count-as (done cs n) first begins b₀ t₀ (went.Refused f) b t k = k
-count-as (stop g) first begins b₀ t₀ (went.Done st) b t k = k
-count-as (stop g) first begins b₀ t₀ (went.Refused f) b t k = k
+count-as (done cs n) first begins b₀ t₀ (Err f) b t k = k
+count-as (stop g) first begins b₀ t₀ (Ok st) b t k = k
+count-as (stop g) first begins b₀ t₀ (Err f) b t k = k
 
 -- ---- a field
 
@@ -276,15 +273,15 @@ module _ (l : Lent) (verb : Bool) (rows : List ℕ) (which : ℕ) (e : l.rows �
       next : (n : ℕ) → suc n * 4 ≡ n * 4 + 4
       next n = omega arith
 
-  pub field_at : (c s : List ℕ) (r : Answer) (c' s' : List ℕ) → Writes (from (rows_of (drop (which * 4 + 4) rows))) c s r c' s'
+  pub field_at : (c s : List ℕ) (r : Result Chunks Fault) (c' s' : List ℕ) → Writes (from (rows_of (drop (which * 4 + 4) rows))) c s r c' s'
       → Writes (field_of l verb which) c s r c' s'
   field_at c s r c' s' h = subst (λ (rs : List Row). Writes (from rs) c s r c' s') rows_behind h
 
-  pub count_at : (r : Went) → Counted (from (rows_of (drop (which * 4 + 4) rows))) r → Counted (field_of l verb which) r
+  pub count_at : (r : Result Progress Fault) → Counted (from (rows_of (drop (which * 4 + 4) rows))) r → Counted (field_of l verb which) r
   count_at r h = subst (λ (rs : List Row). Counted (from rs) r) rows_behind h
 
   -- the value is one literal, from a to e, whose bytes are w
-  pub only_at_lem : (a e : ℕ) → only_at rows (which * 4 + 4) ≡ only.Literal a e → (w : List ℕ) → w ≡ part l.file a e → (c s : List ℕ) (r : Answer)
+  pub only_at_lem : (a e : ℕ) → only_at rows (which * 4 + 4) ≡ Some (a, e) → (w : List ℕ) → w ≡ part l.file a e → (c s : List ℕ) (r : Result Chunks Fault)
       (c' s' : List ℕ) → Writes (value_of (resolve_literal verb w a)) c s r c' s' → Writes (field_of l verb which) c s r c' s'
   only_at_lem a e h w k c s r c' s' z =
       field_at c s r c' s'
@@ -292,7 +289,7 @@ module _ (l : Lent) (verb : Bool) (rows : List ℕ) (which : ℕ) (e : l.rows �
       (ap (λ (w : List ℕ). value_of (resolve_literal verb w a)) k ∙ sym (only-literal.value l verb most_open [] rows (which * 4 + 4) a e h)) z)
 
 -- the literal lies in the file
-pub only-inside : (file rows months words : List ℕ) (which a e : ℕ) → are_lent file rows months words ≡ true → only_at rows (which * 4 + 4) ≡ only.Literal a e
+pub only-inside : (file rows months words : List ℕ) (which a e : ℕ) → are_lent file rows months words ≡ true → only_at rows (which * 4 + 4) ≡ Some (a, e)
     → (a ≤ e) × (e ≤ length file)
 only-inside file rows months words which a e lent h = only-literal.inside file rows months words (which * 4 + 4) a e lent (whole which) h
   where

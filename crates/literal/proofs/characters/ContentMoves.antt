@@ -3,19 +3,12 @@
 --     command-moves, backslash-moves       a command is a way, and so is all that may stand behind a backslash
 --     content-reads                        content is a way, with any number of arguments left to open
 -- Assumes nothing.
-use Prim.Native.Nat.{ℕ, zero, suc, ◌+◌, ◌≤◌, ◌<◌}
-use native.Mathlib.Omega.{arith}
-use mathlib.Core.Path.{◌≡◌, refl}
-use mathlib.Core.Bool.{Bool, true, false, cond, not, ◌&&◌}
-use mathlib.Core.List.{List, [], ◌∷◌}
-use lib.ListN.{length, take, length-take}
-use lib.Dec.{eqb, ltb}
-use borrow.Author.Tests.{eqb-true, ltb-true}
+use Rattle.std.proofs.Common.{ℕ, zero, suc, ◌+◌, ◌≤◌, ◌<◌, arith, ◌≡◌, refl, Bool, true, false}
+use Rattle.std.proofs.Common.{cond, not, ◌&&◌, List, [], ◌∷◌, length, take, length-take, eqb, ltb, eqb-true, ltb-true}
+use Rattle.std.specs.Prelude.{Option, Some, None}
 use Rattle.text.specs.Class.{is_whitespace, is_id_continue}
 use Rattle.text.specs.Utf8.{Octets, is_boundary}
 use Rattle.text.specs.Scan.{see, next_of, skip, fails, part}
-use Rattle.text.specs.declared.scanner.Seen.{Seen}
-use Rattle.text.specs.declared.scanner.Seen.TheVariants.{End, Char}
 use Rattle.text.specs.declared.class.Test.TheVariants as test
 use Rattle.text.proofs.general.Tests.{both_true}
 use Rattle.text.proofs.Seeing.{seeing}
@@ -56,10 +49,10 @@ module _ (s : List ℕ) (p : ℕ) where
   abbrev Turn : OutOf Part → Type 0
   Turn o = EndPlaces s p (more [] o)
 
-  goes : (a c n : ℕ) → see s j ≡ Char c n → Turn (again n [] a)
+  goes : (a c n : ℕ) → see s j ≡ Some (c, n) → Turn (again n [] a)
   goes a c n e o b = seen-place s j c n e o (to_j o b)
 
-  stops : (c n : ℕ) → see s j ≡ Char c n → eqb c 0x7D ≡ true → Turn (ok j [])
+  stops : (c n : ℕ) → see s j ≡ Some (c, n) → eqb c 0x7D ≡ true → Turn (ok j [])
   stops c n e t o b = let x = to_j o b in (x, ascii-place s j c n e (small c 0x7D (omega arith) t) o x)
 
   end-turn : (d : ℕ) → EndPlaces s p (end_turn d s p)
@@ -96,16 +89,16 @@ ends-place s p = ends-loop (suc (length s)) 0 s p
 opens-place : (s : List ℕ) (w : ℕ) → opens_at (see s w) ≡ true → To s w (w + 1)
 opens-place s w = by (see s w) refl
   where
-    by : (v : Seen) → see s w ≡ v → opens_at v ≡ true → To s w (w + 1)
-    by End e h = let z : ◌≡◌ {A = ℕ} 0 1 = cc in absurd (omega (arith, z))
-    by (Char c n) e h = ascii-place s w c n e (small c 0x7B (omega arith) h)
+    by : (v : Option (ℕ × ℕ)) → see s w ≡ v → opens_at v ≡ true → To s w (w + 1)
+    by None e h = let z : ◌≡◌ {A = ℕ} 0 1 = cc in absurd (omega (arith, z))
+    by (Some (c, n)) e h = ascii-place s w c n e (small c 0x7B (omega arith) h)
 
 next_place : (s : List ℕ) (p : ℕ) → To s p (next_of p (see s p))
 next_place s p = by (see s p) refl
   where
-    by : (v : Seen) → see s p ≡ v → To s p (next_of p v)
-    by End e = λ o b. b
-    by (Char c n) e = seen-place s p c n e
+    by : (v : Option (ℕ × ℕ)) → see s p ≡ v → To s p (next_of p v)
+    by None e = λ o b. b
+    by (Some (c, n)) e = seen-place s p c n e
 
 module _ (argument : Reader) (A : Reads argument) (s : List ℕ) (p n e : ℕ) (at : n ≡ p + 1) (free : owed s p ≡ 0) (l : n < e) (k : e ≤ length s)
     (to-n : To s p n) (to-e : To s p e) where
@@ -157,8 +150,8 @@ module _ (argument : Reader) (A : Reads argument) (s : List ℕ) (p n e : ℕ) (
 
 -- ---- behind the backslash at p, which ends at n
 
-module _ (argument : Reader) (A : Reads argument) (s : List ℕ) (p c n : ℕ) (e : see s p ≡ Char c n) (l : c < 0x80) where
-  command-moves : (c₁ m : ℕ) → see s n ≡ Char c₁ m → MovesOut s p (command argument c₁ m s n)
+module _ (argument : Reader) (A : Reads argument) (s : List ℕ) (p c n : ℕ) (e : see s p ≡ Some (c, n)) (l : c < 0x80) where
+  command-moves : (c₁ m : ℕ) → see s n ≡ Some (c₁, m) → MovesOut s p (command argument c₁ m s n)
   unfolding command
   command-moves c₁ m e₁ =
       let a = past s n c₁ m e₁ in
@@ -178,11 +171,11 @@ module _ (argument : Reader) (A : Reads argument) (s : List ℕ) (p c n : ℕ) (
       alone : MovesOut s p (ok n (put (0x5C ∷ []) ∷ []))
       alone = slash-move s p c n e l
 
-      by : (verb : Bool) (v : Seen) → see s n ≡ v → MovesOut s p (backslash_at argument verb s n v)
-      by true End q = alone
-      by false End q = tt
-      by true (Char c₁ m) q = cond-by (MovesOut s p) (is_escape true c₁) _ _ (escape-move s p c n e l c₁ m q) alone
-      by false (Char c₁ m) q = cond-by (MovesOut s p) (is_escape false c₁) _ _ (escape-move s p c n e l c₁ m q) (two (begins c₁) refl)
+      by : (verb : Bool) (v : Option (ℕ × ℕ)) → see s n ≡ v → MovesOut s p (backslash_at argument verb s n v)
+      by true None q = alone
+      by false None q = tt
+      by true (Some (c₁, m)) q = cond-by (MovesOut s p) (is_escape true c₁) _ _ (escape-move s p c n e l c₁ m q) alone
+      by false (Some (c₁, m)) q = cond-by (MovesOut s p) (is_escape false c₁) _ _ (escape-move s p c n e l c₁ m q) (two (begins c₁) refl)
         where
           two : (x : Bool) → begins c₁ ≡ x → MovesOut s p (cond x (command argument c₁ m s n) (ok n (put (0x5C ∷ part s n m) ∷ [])))
           two true h = command-moves c₁ m q
@@ -190,7 +183,7 @@ module _ (argument : Reader) (A : Reads argument) (s : List ℕ) (p c n : ℕ) (
 
 -- ---- the other turns
 
-maths-moves : (d : ℕ) (s : List ℕ) (p c n : ℕ) → see s p ≡ Char c n → c < 0x80 → MovesOut s p (maths d s p)
+maths-moves : (d : ℕ) (s : List ℕ) (p c n : ℕ) → see s p ≡ Some (c, n) → c < 0x80 → MovesOut s p (maths d s p)
 unfolding maths
 maths-moves d s p c n e l = by (skip (fails test.Dollar) s (p + 1)) refl
   where
@@ -226,11 +219,11 @@ turn-reads argument A verb d s p h =
     (eaten-by (MovesOut s p) is_whitespace s p _ _ (λ c n e t. blank-move s p c n e t)
     (eaten-by (MovesOut s p) any s p _ _ (λ c n e t. itself c n e) (move-none s p h)))))))
   where
-    closes : (d c n : ℕ) → see s p ≡ Char c n → c < 0x80 → MovesOut s p (closing d s p)
+    closes : (d c n : ℕ) → see s p ≡ Some (c, n) → c < 0x80 → MovesOut s p (closing d s p)
     closes zero c n e l = tt
     closes (suc d) c n e l = cut-move s p c n e l d
 
-    itself : (c n : ℕ) → see s p ≡ Char c n → MovesOut s p (and_then (copy s p) (turn d s))
+    itself : (c n : ℕ) → see s p ≡ Some (c, n) → MovesOut s p (and_then (copy s p) (turn d s))
     itself c n e = rw e (copy-move s p c n e)
 
 -- ---- content

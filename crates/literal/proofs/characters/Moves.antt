@@ -4,16 +4,10 @@
 --     MovesOut, Reads                             an outcome that is a way; a reader all of whose outcomes are ways
 --     eaten-by, turn-moves, many-reads            a reader that goes by what it sees; a turn; a loop
 -- Assumes nothing.
-use Prim.Native.Nat.{ℕ, zero, suc, ◌+◌, ◌*◌, ◌-◌, ◌≤◌, ◌<◌}
-use native.Mathlib.Omega.{arith}
-use mathlib.Core.Path.{◌≡◌, refl}
-use mathlib.Core.Bool.{Bool, true, false, cond}
-use mathlib.Core.List.{List, [], ◌∷◌, ◌++◌}
-use lib.ListN.{length}
+use Rattle.std.proofs.Common.{ℕ, zero, suc, ◌+◌, ◌*◌, ◌-◌, ◌≤◌, ◌<◌, arith, ◌≡◌, refl, Bool, true, false, cond, List, [], ◌∷◌, ◌++◌, length}
+use Rattle.std.specs.Prelude.{Option, Some, None}
 use Rattle.text.specs.Utf8.{Octets, is_boundary}
 use Rattle.text.specs.Scan.{see}
-use Rattle.text.specs.declared.scanner.Seen.{Seen}
-use Rattle.text.specs.declared.scanner.Seen.TheVariants.{End, Char}
 use Rattle.text.proofs.Seeing.{seeing}
 use Rattle.raw.specs.Reader.{OutOf, ok, again, bad, more, and_then, after, eaten, loop, many, turn}
 use Rattle.turn.specs.Content.{Part, put, Reader, begins}
@@ -23,14 +17,14 @@ use Rattle.literal.proofs.characters.PartsToChunks.{PartTexts, append-texts, wei
 
 -- A backslash before a character that no name begins with writes that character too, and does not eat it. So it has written more than twice
 -- its own byte, where the character has several octets. The excess is owed at the character's place, and made up for by the turn that reads it.
-abbrev owing : ℕ → Seen → ℕ
-owing p End = 0
-owing p (Char c n) = cond (begins c) 0 (n - p - 1)
+abbrev owing : ℕ → Option (ℕ × ℕ) → ℕ
+owing p None = 0
+owing p (Some (c, n)) = cond (begins c) 0 (n - p - 1)
 
 unfoldable pub owed : List ℕ → ℕ → ℕ
 owed s p = owing p (see s p)
 
-pub owed-most : (s : List ℕ) (p c n : ℕ) → see s p ≡ Char c n → owed s p + p + 1 ≤ n
+pub owed-most : (s : List ℕ) (p c n : ℕ) → see s p ≡ Some (c, n) → owed s p + p + 1 ≤ n
 unfolding owed
 owed-most s p c n e = rw e (by (begins c) (seeing.see-ahead s p c n e).0)
   where
@@ -38,7 +32,7 @@ owed-most s p c n e = rw e (by (begins c) (seeing.see-ahead s p c n e).0)
     by true h = omega (arith, h)
     by false h = omega (arith, h)
 
-pub owed-odd : (s : List ℕ) (p c n : ℕ) → see s p ≡ Char c n → begins c ≡ false → owed s p ≡ n - p - 1
+pub owed-odd : (s : List ℕ) (p c n : ℕ) → see s p ≡ Some (c, n) → begins c ≡ false → owed s p ≡ n - p - 1
 unfolding owed
 owed-odd s p c n e h = rw (e, h) refl
 
@@ -46,9 +40,9 @@ pub owed-inside : (s : List ℕ) (p : ℕ) → p ≤ length s → 2 * p + owed s
 unfolding owed
 owed-inside s p h = by (see s p) refl
   where
-    by : (v : Seen) → see s p ≡ v → 2 * p + owing p v ≤ 2 * length s
-    by End e = omega (arith, h)
-    by (Char c n) e = let a = seeing.see-ahead s p c n e in two (begins c) a.0 a.1
+    by : (v : Option (ℕ × ℕ)) → see s p ≡ v → 2 * p + owing p v ≤ 2 * length s
+    by None e = omega (arith, h)
+    by (Some (c, n)) e = let a = seeing.see-ahead s p c n e in two (begins c) a.0 a.1
       where
         two : (w : Bool) → p < n → n ≤ length s → 2 * p + cond w 0 (n - p - 1) ≤ 2 * length s
         two true k l = omega (arith, k, l)
@@ -107,12 +101,12 @@ more-moves s p q xs (bad f) m h = tt
 
 -- a reader that goes by what it sees
 pub eaten-by : (R : OutOf Part → Type 0) (t : ℕ → Bool) (s : List ℕ) (p : ℕ) (f : ℕ → OutOf Part) (o : OutOf Part)
-    → ((c n : ℕ) → see s p ≡ Char c n → t c ≡ true → R (f n)) → R o → R (eaten t (see s p) f o)
+    → ((c n : ℕ) → see s p ≡ Some (c, n) → t c ≡ true → R (f n)) → R o → R (eaten t (see s p) f o)
 eaten-by R t s p f o h k = by (see s p) refl
   where
-    by : (v : Seen) → see s p ≡ v → R (eaten t v f o)
-    by End e = k
-    by (Char c n) e = two (t c) (h c n e)
+    by : (v : Option (ℕ × ℕ)) → see s p ≡ v → R (eaten t v f o)
+    by None e = k
+    by (Some (c, n)) e = two (t c) (h c n e)
       where
         two : (b : Bool) → (b ≡ true → R (f n)) → R (cond b (f n) o)
         two true g = g refl

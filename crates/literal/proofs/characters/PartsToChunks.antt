@@ -6,12 +6,7 @@
 --     chunks-text, chunks-formatted                 the text of their chunks, and that text formatted, is no more than the parts write
 --     chunks-few                                    there is at most one chunk more than the parts end
 -- Assumes nothing.
-use Prim.Native.Nat.{ℕ, zero, suc, ◌+◌, ◌≤◌}
-use native.Mathlib.Omega.{arith}
-use mathlib.Core.Path.{◌≡◌, refl}
-use mathlib.Core.Bool.{Bool, true, false, cond}
-use mathlib.Core.List.{List, [], ◌∷◌, ◌++◌}
-use lib.ListN.{length, length-append}
+use Rattle.std.proofs.Common.{ℕ, zero, suc, ◌+◌, ◌≤◌, arith, ◌≡◌, refl, Bool, true, false, cond, List, [], ◌∷◌, ◌++◌, length, length-append}
 use Rattle.text.specs.Utf8.{Octets, none}
 use Rattle.text.proofs.Shapes.{shapes}
 use Rattle.chunk.specs.declared.form.Kind.{Kind}

@@ -2,17 +2,10 @@
 --     take-text, take-place   the text before a boundary is UTF-8, and the boundaries in it stay boundaries
 --     ascii-next              a character of ASCII is one octet
 -- Assumes nothing.
-use Prim.Native.Nat.{ℕ, ◌+◌, ◌≤◌, ◌<◌}
-use native.Mathlib.Omega.{arith}
-use mathlib.Core.Path.{◌≡◌, sym, ap, subst, ◌∙◌}
-use mathlib.Core.Bool.{true}
-use mathlib.Core.List.{List}
-use lib.ListN.{take, length-take}
-use lib.Seq.{take-take}
+use Rattle.std.proofs.Common.{ℕ, ◌+◌, ◌≤◌, ◌<◌, arith, ◌≡◌, sym, ap, subst, ◌∙◌, true, List, take, length-take, take-take}
+use Rattle.std.specs.Prelude.{Option, Some, None}
 use Rattle.text.specs.Utf8.{Octets, is_boundary}
 use Rattle.text.specs.Scan.{see}
-use Rattle.text.specs.declared.scanner.Seen.{Seen}
-use Rattle.text.specs.declared.scanner.Seen.TheVariants.{End, Char}
 use Rattle.text.proofs.general.Parts.{part-drop}
 use Rattle.text.proofs.Rfc3629.{rfc3629}
 use Rattle.text.proofs.Seeing.{seeing}
@@ -35,9 +28,9 @@ module _ (s : List ℕ) (e : ℕ) (o : Octets s) (q : is_boundary s e ≡ true) 
 
 -- ---- a character of ASCII
 
-abbrev place_of : Seen → ℕ
-place_of End = 0
-place_of (Char c n) = n
+abbrev place_of : Option (ℕ × ℕ) → ℕ
+place_of None = 0
+place_of (Some (c, n)) = n
 
-pub ascii-next : (s : List ℕ) (p c n : ℕ) → see s p ≡ Char c n → c < 0x80 → n ≡ p + 1
+pub ascii-next : (s : List ℕ) (p c n : ℕ) → see s p ≡ Some (c, n) → c < 0x80 → n ≡ p + 1
 ascii-next s p c n e h = ap place_of (sym e ∙ seeing.at_byte s p c (seeing.char-parts s p c n e).0 (seeing.byte_of s p c n e h) h)

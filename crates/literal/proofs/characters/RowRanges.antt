@@ -4,22 +4,16 @@
 --     rows_pass                   each row has a text range that lies on character boundaries
 --     check-passes                the whole check passes
 -- Assumes nothing.
-use Prim.Native.Nat.{ℕ, ◌+◌, ◌*◌, ◌%◌}
-use native.Mathlib.Omega.{arith}
-use mathlib.Core.Path.{◌≡◌, refl, sym, subst, ◌∙◌}
-use mathlib.Core.Bool.{Bool, true, false, cond}
-use mathlib.Core.List.{List, [], ◌∷◌, ◌++◌, append_assoc}
-use lib.ListN.{length, length-append}
+use Rattle.std.proofs.Common.{ℕ, ◌+◌, ◌*◌, ◌%◌, arith, ◌≡◌, refl, sym, subst, ◌∙◌, Bool, true}
+use Rattle.std.proofs.Common.{false, cond, List, [], ◌∷◌, ◌++◌, append_assoc, length, length-append, leb, le-leb, eq-eqb}
+use Rattle.std.specs.Prelude.{Ok}
 use lib.Seq.{take-append_seam, drop-append_seam}
-use lib.Dec.{leb}
-use borrow.Author.Tests.{le-leb, eq-eqb}
 use Rattle.text.specs.Utf8.{Octets, none, is_boundary}
 use Rattle.text.proofs.Rfc3629.{rfc3629}
 use Rattle.text.proofs.Shapes.{shapes}
 use Rattle.text.specs.Every.{every}
 use Rattle.chunk.specs.declared.form.Kind.{Kind}
 use Rattle.chunk.specs.declared.form.Kind.TheVariants.{Normal, Verbatim, Math}
-use Rattle.chunk.specs.declared.answer.Checked.TheVariants as checked
 use Rattle.chunk.specs.Chunk.{Chunk, kind_of, ChunkRow, flat_chunks, every_chunk, are_chunks}
 use Rattle.chunk.specs.Write.{checked_of}
 use Rattle.chunk.specs.WellFormed.{TextsUtf8}
@@ -95,7 +89,7 @@ unfolding flat_chunks
 five [] = refl
 five (r ∷ rs) = omega (arith, five rs)
 
-pub check-passes : (s : List ℕ) (rs : List ChunkRow) → Octets s → every_chunk s rs ≡ true → checked_of s (flat_chunks rs) ≡ checked.Passed
+pub check-passes : (s : List ℕ) (rs : List ChunkRow) → Octets s → every_chunk s rs ≡ true → checked_of s (flat_chunks rs) ≡ Ok tt
 unfolding checked_of are_chunks
 check-passes s rs o h = rw ((rfc3629.accepts s).1 o, eq-eqb (length (flat_chunks rs) % 5) 0 (whole _ _ (five rs)), rows-flat rs, h) refl
   where

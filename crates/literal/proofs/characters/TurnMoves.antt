@@ -4,18 +4,13 @@
 --     slash-move, escape-move, odd-move               what stands behind a backslash and is no command
 --     alone-move, one-move, braced-move               a command without an argument, with one character, with braces
 -- Assumes nothing.
-use Prim.Native.Nat.{ℕ, ◌+◌, ◌*◌, ◌-◌, ◌≤◌, ◌<◌}
-use native.Mathlib.Omega.{arith}
-use mathlib.Core.Path.{◌≡◌, refl, sym, ap, subst, ◌∙◌}
-use mathlib.Core.Bool.{Bool, true, false}
-use mathlib.Core.List.{List, [], ◌∷◌}
-use lib.ListN.{length, take, drop, length-take}
-use lib.Dec.{eqb}
-use borrow.Author.Tests.{eqb-true, not-false}
+use Rattle.std.proofs.Common.{ℕ, ◌+◌, ◌*◌, ◌-◌, ◌≤◌, ◌<◌, arith, ◌≡◌, refl, sym, ap, subst}
+use Rattle.std.proofs.Common.{◌∙◌, Bool, true, false, List, [], ◌∷◌, length, take, drop, length-take, eqb, eqb-true}
+use Rattle.std.specs.Prelude.{Some}
+use borrow.Author.Tests.{not-false}
 use Rattle.text.specs.Class.{is_whitespace, holds_of}
 use Rattle.text.specs.Utf8.{Octets, none, is_boundary, octets, is_scalar}
 use Rattle.text.specs.Scan.{see, skip, fails, part, code}
-use Rattle.text.specs.declared.scanner.Seen.TheVariants.{Char}
 use Rattle.text.specs.declared.class.Test.TheVariants as test
 use Rattle.text.proofs.general.Parts.{length_part}
 use Rattle.text.proofs.Boundaries.{boundaries}
@@ -47,10 +42,10 @@ skip-place t s p q f o b = boundaries.skips t s q o (f o b)
 
 -- ---- the character c at p, which ends at n
 
-pub seen-place : (s : List ℕ) (p c n : ℕ) → see s p ≡ Char c n → To s p n
+pub seen-place : (s : List ℕ) (p c n : ℕ) → see s p ≡ Some (c, n) → To s p n
 seen-place s p c n e o b = (boundaries.sees s p c n o b e).1
 
-pub ascii-place : (s : List ℕ) (p c n : ℕ) → see s p ≡ Char c n → c < 0x80 → To s p (p + 1)
+pub ascii-place : (s : List ℕ) (p c n : ℕ) → see s p ≡ Some (c, n) → c < 0x80 → To s p (p + 1)
 ascii-place s p c n e l o b = subst (λ (k : ℕ). is_boundary s k ≡ true) (ascii-next s p c n e l) (seen-place s p c n e o b)
 
 -- the dollar sign that a scan has found
@@ -61,7 +56,7 @@ dollar-place s i r q k =
     let c = eqb-true (code (drop r s)) 0x24 (not-false (eqb (code (drop r s)) 0x24) x) in
     ascii-place s r _ _ (seeing.see-at s r k) (omega (arith, c))
 
-module _ (s : List ℕ) (p c n : ℕ) (e : see s p ≡ Char c n) where
+module _ (s : List ℕ) (p c n : ℕ) (e : see s p ≡ Some (c, n)) where
   pub past : (p < n) × (n ≤ length s)
   past = seeing.see-ahead s p c n e
 
@@ -131,7 +126,7 @@ module _ (s : List ℕ) (p c n : ℕ) (e : see s p ≡ Char c n) where
 
 -- ---- the character c₁ behind it, which ends at m
 
-module _ (s : List ℕ) (p c n : ℕ) (e : see s p ≡ Char c n) (l : c < 0x80) (c₁ m : ℕ) (e₁ : see s n ≡ Char c₁ m) where
+module _ (s : List ℕ) (p c n : ℕ) (e : see s p ≡ Some (c, n)) (l : c < 0x80) (c₁ m : ℕ) (e₁ : see s n ≡ Some (c₁, m)) where
   at : n ≡ p + 1
   at = one s p c n e l
 
@@ -155,7 +150,7 @@ module _ (s : List ℕ) (p c n : ℕ) (e : see s p ≡ Char c n) (l : c < 0x80) 
       move-put s p m (0xE2 ∷ 0x80 ∷ 0x93 ∷ []) (omega (arith, at, on.0)) on.1 (omega (arith, at, none-owed, on.0))
       (λ o b. (on-place o b, en-text))
 
-  pub dash-three : (c₂ r : ℕ) → see s m ≡ Char c₂ r → Move s p r (put (0xE2 ∷ 0x80 ∷ 0x94 ∷ []) ∷ [])
+  pub dash-three : (c₂ r : ℕ) → see s m ≡ Some (c₂, r) → Move s p r (put (0xE2 ∷ 0x80 ∷ 0x94 ∷ []) ∷ [])
   dash-three c₂ r e₂ =
       let k = past s m c₂ r e₂ in
       move-put s p r (0xE2 ∷ 0x80 ∷ 0x94 ∷ []) (omega (arith, at, on.0, k.0)) k.1 (omega (arith, at, none-owed, on.0, k.0))

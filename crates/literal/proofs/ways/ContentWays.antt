@@ -4,12 +4,9 @@
 --     turn-argument, turn_stopped              a turn with an argument
 --     ahead_none, ahead-on, ready_on           bounds
 -- Assumes nothing.
-use Prim.Native.Nat.{ℕ, ◌+◌}
-use native.Mathlib.Omega.{arith}
-use mathlib.Core.Path.{◌≡◌, refl, sym, ap, subst, ◌∙◌}
-use mathlib.Core.Bool.{Bool}
-use mathlib.Core.List.{List, [], ◌∷◌, ◌++◌, append-nil}
-use lib.ListN.{length, take}
+use Rattle.std.proofs.Common.{ℕ, ◌+◌, arith, ◌≡◌, refl, sym, ap, subst, ◌∙◌, Bool, List, [], ◌∷◌, ◌++◌, append-nil, length, take}
+use Rattle.std.specs.Prelude.{Result, Ok, Err}
+use Rattle.turn.specs.declared.turn.Text.{Text}
 use Rattle.text.specs.Scan.{part}
 use Rattle.row.specs.declared.fault.Fault.{Fault}
 use Rattle.raw.specs.Reader.{OutOf, ok, again, bad, more}
@@ -18,13 +15,10 @@ use Rattle.command.specs.Commands.{meaning_of}
 use Rattle.command.proofs.stacks.LaysLaws.{lays-as}
 use Rattle.literal.specs.declared.making.Making.{Making}
 use Rattle.literal.specs.declared.making.Place.{Place}
-use Rattle.turn.specs.declared.turn.Text.{Text}
 use Rattle.turn.specs.declared.turn.Text.TheVariants as text
-use Rattle.literal.specs.declared.content.Made.{Made}
-use Rattle.literal.specs.declared.content.Made.TheVariants as made
 use Rattle.turn.specs.Content.{Part, put, Reader, State, step, steps, ran}
 use Rattle.literal.specs.Inner.{HoldsState, Goes, SaysContent, SaysSign, Onto, SaysArgument, Further, PutsText}
-use Rattle.literal.specs.Inner.{AheadState, ReadyContent, ReadySign, from, in_argument, whole_text}
+use Rattle.literal.specs.Inner.{AheadState, ReadyContent, from, in_argument, whole_text}
 use Rattle.turn.specs.Turns.{SaysText, concat, turns}
 use Rattle.literal.proofs.ways.StepWays.{goes-puts}
 
@@ -41,13 +35,13 @@ module _ (place : Place) (xs : List Part) (m : Making) (o b : List ℕ) (m₁ : 
       subst (λ (τ : State). HoldsState place t₀ ps b₀ τ m₂ o₂ b₂) (sym (steps-append xs σ ys)) (h t₀ ps b₀ (steps σ xs) (g t₀ ps b₀ σ held))
 
   -- an answer that is right for the rest of the content is right for the whole
-  says-more : (out : OutOf Part) (r : Made) (o₂ b₂ : List ℕ) → SaysContent place out m₁ o₁ b₁ r o₂ b₂ → SaysContent place (more xs out) m o b r o₂ b₂
-  says-more (ok q ys) (made.Done m₂) o₂ b₂ h = (h.0, goes_on ys m₂ o₂ b₂ h.1)
-  says-more (ok q ys) (made.Refused f) o₂ b₂ h = h
-  says-more (again q ys a) (made.Done m₂) o₂ b₂ h = (h.0, goes_on ys m₂ o₂ b₂ h.1)
-  says-more (again q ys a) (made.Refused f) o₂ b₂ h = h
-  says-more (bad g₁) (made.Done m₂) o₂ b₂ h = h
-  says-more (bad g₁) (made.Refused f) o₂ b₂ h = h
+  says-more : (out : OutOf Part) (r : Result Making Fault) (o₂ b₂ : List ℕ) → SaysContent place out m₁ o₁ b₁ r o₂ b₂ → SaysContent place (more xs out) m o b r o₂ b₂
+  says-more (ok q ys) (Ok m₂) o₂ b₂ h = (h.0, goes_on ys m₂ o₂ b₂ h.1)
+  says-more (ok q ys) (Err f) o₂ b₂ h = h
+  says-more (again q ys a) (Ok m₂) o₂ b₂ h = (h.0, goes_on ys m₂ o₂ b₂ h.1)
+  says-more (again q ys a) (Err f) o₂ b₂ h = h
+  says-more (bad g₁) (Ok m₂) o₂ b₂ h = h
+  says-more (bad g₁) (Err f) o₂ b₂ h = h
 
 -- one text behind the others
 goes-put : (place : Place) (w : List ℕ) (e : ℕ) (m : Making) (o b : List ℕ) (m' : Making) (o' : List ℕ) → PutsText w e m o m' o'
@@ -60,46 +54,46 @@ goes-put place w e m o b m' o' h =
 -- ---- a turn that goes on, and one of `sign`, which answered r
 
 module _ (place : Place) (argument : Reader) (verb : Bool) (s : List ℕ) (m : Making) (o b : List ℕ) where
-  pub turn-again : (m₁ : Making) (o₁ b₁ : List ℕ) → Onto place verb s m o b m₁ o₁ b₁ → (r₂ : Made) (o₂ b₂ : List ℕ)
+  pub turn-again : (m₁ : Making) (o₁ b₁ : List ℕ) → Onto place verb s m o b m₁ o₁ b₁ → (r₂ : Result Making Fault) (o₂ b₂ : List ℕ)
       → SaysContent place (from argument verb s m₁) m₁ o₁ b₁ r₂ o₂ b₂ → SaysContent place (from argument verb s m) m o b r₂ o₂ b₂
   turn-again m₁ o₁ b₁ y r₂ o₂ b₂ k =
       subst (λ (out : OutOf Part). SaysContent place out m o b r₂ o₂ b₂) (sym (y.leads argument))
       (says-more place y.parts m o b m₁ o₁ b₁ y.goes (from argument verb s m₁) r₂ o₂ b₂ k)
 
-  refusal : (f : Fault) (o₁ b₁ : List ℕ) → from argument verb s m ≡ bad f → SaysContent place (from argument verb s m) m o b (made.Refused f) o₁ b₁
-  refusal f o₁ b₁ e = subst (λ (out : OutOf Part). SaysContent place out m o b (made.Refused f) o₁ b₁) (sym e) refl
+  refusal : (f : Fault) (o₁ b₁ : List ℕ) → from argument verb s m ≡ bad f → SaysContent place (from argument verb s m) m o b (Err f) o₁ b₁
+  refusal f o₁ b₁ e = subst (λ (out : OutOf Part). SaysContent place out m o b (Err f) o₁ b₁) (sym e) refl
 
-  pub sign-again : {r : Made} (o₁ b₁ : List ℕ) → SaysSign place verb s m o b r o₁ b₁ → {m₁ : Making} → r ≡ made.Done m₁
+  pub sign-again : {r : Result Making Fault} (o₁ b₁ : List ℕ) → SaysSign place verb s m o b r o₁ b₁ → {m₁ : Making} → r ≡ Ok m₁
       → Onto place verb s m o b m₁ o₁ b₁
   sign-again o₁ b₁ h e = rw e at h
 
-  pub sign-refused : {r : Made} (o₁ b₁ : List ℕ) → SaysSign place verb s m o b r o₁ b₁ → {f : Fault} → r ≡ made.Refused f
-      → SaysContent place (from argument verb s m) m o b (made.Refused f) o₁ b₁
-  sign-refused o₁ b₁ h {f} e = let k : SaysSign place verb s m o b (made.Refused f) o₁ b₁ = rw e at h in refusal f o₁ b₁ (k argument)
+  pub sign-refused : {r : Result Making Fault} (o₁ b₁ : List ℕ) → SaysSign place verb s m o b r o₁ b₁ → {f : Fault} → r ≡ Err f
+      → SaysContent place (from argument verb s m) m o b (Err f) o₁ b₁
+  sign-refused o₁ b₁ h {f} e = let k : SaysSign place verb s m o b (Err f) o₁ b₁ = rw e at h in refusal f o₁ b₁ (k argument)
 
 -- ---- a turn of `text_at`, which answered r
 
-module _ (place : Place) (argument : Reader) (verb : Bool) (s : List ℕ) (m : Making) (o b : List ℕ) (r : Text) (o₁ : List ℕ)
+module _ (place : Place) (argument : Reader) (verb : Bool) (s : List ℕ) (m : Making) (o b : List ℕ) (r : Result Text Fault) (o₁ : List ℕ)
     (h : SaysText verb s m.at m.len o r o₁) where
-  answered : (r' : Text) → r ≡ r' → SaysText verb s m.at m.len o r' o₁
-  answered r' e = subst (λ (r : Text). SaysText verb s m.at m.len o r o₁) e h
+  answered : (r' : Result Text Fault) → r ≡ r' → SaysText verb s m.at m.len o r' o₁
+  answered r' e = subst (λ (r : Result Text Fault). SaysText verb s m.at m.len o r o₁) e h
 
-  pub turn-done : r ≡ text.End → SaysContent place (from argument verb s m) m o b (made.Done m) o₁ b
+  pub turn-done : r ≡ Ok text.End → SaysContent place (from argument verb s m) m o b (Ok m) o₁ b
   unfolding steps
   turn-done e =
-      let y = answered text.End e in
-      subst (λ (out : OutOf Part). SaysContent place out m o b (made.Done m) o₁ b) (sym (y.0 argument m.braces))
-      (subst (λ (l : List ℕ). SaysContent place (ok m.at []) m o b (made.Done m) l b) (sym y.1) (refl, λ t₀ ps b₀ σ x. x))
+      let y = answered (Ok text.End) e in
+      subst (λ (out : OutOf Part). SaysContent place out m o b (Ok m) o₁ b) (sym (y.0 argument m.braces))
+      (subst (λ (l : List ℕ). SaysContent place (ok m.at []) m o b (Ok m) l b) (sym y.1) (refl, λ t₀ ps b₀ σ x. x))
 
-  pub turn-refused : (f : Fault) → r ≡ text.Refused f → SaysContent place (from argument verb s m) m o b (made.Refused f) o₁ b
-  turn-refused f e = refusal place argument verb s m o b f o₁ b (answered (text.Refused f) e argument m.braces)
+  pub turn-refused : (f : Fault) → r ≡ Err f → SaysContent place (from argument verb s m) m o b (Err f) o₁ b
+  turn-refused f e = refusal place argument verb s m o b f o₁ b (answered (Err f) e argument m.braces)
 
-  pub meaning-told : (k : Meaning) (end a e : ℕ) → r ≡ text.Argument k end a e → k ≡ meaning_of (part s (m.at + 1) end)
-  meaning-told k end a e i = (answered (text.Argument k end a e) i).1
+  pub meaning-told : (k : Meaning) (end a e : ℕ) → r ≡ Ok (text.Argument k end a e) → k ≡ meaning_of (part s (m.at + 1) end)
+  meaning-told k end a e i = (answered (Ok (text.Argument k end a e)) i).1
 
   -- ---- a turn with an argument, which `argument` answered with r₂
 
-  module _ (k : Meaning) (end a e : ℕ) (i : r ≡ text.Argument k end a e) (r₂ : Made) (o₂ : List ℕ)
+  module _ (k : Meaning) (end a e : ℕ) (i : r ≡ Ok (text.Argument k end a e)) (r₂ : Result Making Fault) (o₂ : List ℕ)
       (y : SaysArgument (argument (take e s) a) (part s (m.at + 1) end) a e m o₁ r₂ o₂) where
     abbrev name : List ℕ
     name = part s (m.at + 1) end
@@ -107,20 +101,20 @@ module _ (place : Place) (argument : Reader) (verb : Bool) (s : List ℕ) (m : M
     abbrev rest : OutOf Part
     rest = turns argument verb m.braces s (e + 1)
 
-    told : SaysText verb s m.at m.len o (text.Argument k end a e) o₁
-    told = answered (text.Argument k end a e) i
+    told : SaysText verb s m.at m.len o (Ok (text.Argument k end a e)) o₁
+    told = answered (Ok (text.Argument k end a e)) i
 
     -- over the bytes as they were before the step
-    over : (r' : Made) → r₂ ≡ r' → SaysArgument (argument (take e s) a) name a e m o r' o₂
+    over : (r' : Result Making Fault) → r₂ ≡ r' → SaysArgument (argument (take e s) a) name a e m o r' o₂
     over r' j =
         subst (λ (l : List ℕ). SaysArgument (argument (take e s) a) name a e m l r' o₂) told.2
-        (subst (λ (r : Made). SaysArgument (argument (take e s) a) name a e m o₁ r o₂) j y)
+        (subst (λ (r : Result Making Fault). SaysArgument (argument (take e s) a) name a e m o₁ r o₂) j y)
 
-    opens : (r₃ : Made) (o₃ b₃ : List ℕ) → SaysContent place (ran a name (argument (take e s) a) (λ w. more (put w ∷ []) rest)) m o b r₃ o₃ b₃
+    opens : (r₃ : Result Making Fault) (o₃ b₃ : List ℕ) → SaysContent place (ran a name (argument (take e s) a) (λ w. more (put w ∷ []) rest)) m o b r₃ o₃ b₃
         → SaysContent place (from argument verb s m) m o b r₃ o₃ b₃
     opens r₃ o₃ b₃ x = subst (λ (out : OutOf Part). SaysContent place out m o b r₃ o₃ b₃) (sym (told.0 argument m.braces)) x
 
-    module _ (m₂ : Making) (r₃ : Made) (o₃ b₃ : List ℕ) (x : SaysContent place (from argument verb s m₂) m₂ o₂ b r₃ o₃ b₃) where
+    module _ (m₂ : Making) (r₃ : Result Making Fault) (o₃ b₃ : List ℕ) (x : SaysContent place (from argument verb s m₂) m₂ o₂ b r₃ o₃ b₃) where
       put_on : (w : List ℕ) → PutsText w e m o m₂ o₂ → SaysContent place (more (put w ∷ []) rest) m o b r₃ o₃ b₃
       put_on w p =
           says-more place (put w ∷ []) m o b m₂ o₂ b (goes-put place w e m o b m₂ o₂ p) rest r₃ o₃ b₃
@@ -128,28 +122,28 @@ module _ (place : Place) (argument : Reader) (verb : Bool) (s : List ℕ) (m : M
           (ap (λ (d : ℕ). turns argument verb d s m₂.at) p.0.braces ∙ ap (λ (q : ℕ). turns argument verb m.braces s q) p.0.at)
           x)
 
-      goes : (out : OutOf Part) → SaysArgument out name a e m o (made.Done m₂) o₂
+      goes : (out : OutOf Part) → SaysArgument out name a e m o (Ok m₂) o₂
           → SaysContent place (ran a name out (λ w. more (put w ∷ []) rest)) m o b r₃ o₃ b₃
       goes (ok q xs) p = put_on (whole_text name a q xs) p
       goes (again q xs n) p = put_on (whole_text name a q xs) p
       goes (bad f) p = absurd p
 
-      pub turn-argument : r₂ ≡ made.Done m₂ → SaysContent place (from argument verb s m) m o b r₃ o₃ b₃
-      turn-argument j = opens r₃ o₃ b₃ (goes (argument (take e s) a) (over (made.Done m₂) j))
+      pub turn-argument : r₂ ≡ Ok m₂ → SaysContent place (from argument verb s m) m o b r₃ o₃ b₃
+      turn-argument j = opens r₃ o₃ b₃ (goes (argument (take e s) a) (over (Ok m₂) j))
 
-    stops : (f : Fault) (out : OutOf Part) → SaysArgument out name a e m o (made.Refused f) o₂
-        → SaysContent place (ran a name out (λ w. more (put w ∷ []) rest)) m o b (made.Refused f) o₂ b
+    stops : (f : Fault) (out : OutOf Part) → SaysArgument out name a e m o (Err f) o₂
+        → SaysContent place (ran a name out (λ w. more (put w ∷ []) rest)) m o b (Err f) o₂ b
     stops f (ok q xs) p = absurd p
     stops f (again q xs n) p = absurd p
     stops f (bad g) p = p
 
-    pub turn_stopped : (f : Fault) → r₂ ≡ made.Refused f → SaysContent place (from argument verb s m) m o b (made.Refused f) o₂ b
-    turn_stopped f j = opens (made.Refused f) o₂ b (stops f (argument (take e s) a) (over (made.Refused f) j))
+    pub turn_stopped : (f : Fault) → r₂ ≡ Err f → SaysContent place (from argument verb s m) m o b (Err f) o₂ b
+    turn_stopped f j = opens (Err f) o₂ b (stops f (argument (take e s) a) (over (Err f) j))
 
 -- ---- bounds
 
-pub ahead_none : (s : List ℕ) (place : Place) (m : Making) (o by_name by_mark : List ℕ) → ReadyContent s place m o by_name by_mark → AheadState (length s) 0 m m
-ahead_none s place m o by_name by_mark h = record {
+pub ahead_none : (s : List ℕ) (place : Place) (m : Making) (o : List ℕ) → ReadyContent s place m o → AheadState (length s) 0 m m
+ahead_none s place m o h = record {
   grows = record { at = omega arith; inside = h.text.place; text = omega arith };
   rows = omega arith;
   braces = omega arith;
@@ -170,15 +164,13 @@ ahead-on len v m m₁ m₂ h k = record {
   start = k.start;
 }
 
-pub ready_on : (s : List ℕ) (place : Place) (v : ℕ) (m m₁ : Making) (o o₁ by_name by_mark : List ℕ) → ReadyContent s place m o by_name by_mark
-    → AheadState (length s) v m m₁ → length o₁ ≡ length o → ReadyContent s place m₁ o₁ by_name by_mark
-ready_on s place v m m₁ o o₁ by_name by_mark h k e = record {
+pub ready_on : (s : List ℕ) (place : Place) (v : ℕ) (m m₁ : Making) (o o₁ : List ℕ) → ReadyContent s place m o
+    → AheadState (length s) v m m₁ → length o₁ ≡ length o → ReadyContent s place m₁ o₁
+ready_on s place v m m₁ o o₁ h k e = record {
   literal = h.literal;
   text = record {
     place = k.grows.inside;
     room = omega (arith, h.text.room, k.grows.text, e);
-    names = h.text.names;
-    marks = h.text.marks;
   };
   from = k.from;
   start = k.start;
@@ -188,29 +180,14 @@ ready_on s place v m m₁ o o₁ by_name by_mark h k e = record {
   file = h.file;
 }
 
--- what `sign` requires
-pub ready-within : (s : List ℕ) (place : Place) (m : Making) (o by_name by_mark : List ℕ) → ReadyContent s place m o by_name by_mark → ReadySign s place m o
-ready-within s place m o by_name by_mark h = record {
-  literal = h.literal;
-  room = h.text.room;
-  from = h.from;
-  start = h.start;
-  braces = h.braces;
-  rows = h.rows;
-  value = h.value;
-  file = h.file;
-}
-
 -- what `argument` requires, wherever its command stands
-pub ready-argument : (s : List ℕ) (place : Place) (m : Making) (o o₁ by_name by_mark : List ℕ) → ReadyContent s place m o by_name by_mark
-    → length o₁ ≡ length o → ReadyContent s in_argument m o₁ by_name by_mark
-ready-argument s place m o o₁ by_name by_mark h e = record {
+pub ready-argument : (s : List ℕ) (place : Place) (m : Making) (o o₁ : List ℕ) → ReadyContent s place m o
+    → length o₁ ≡ length o → ReadyContent s in_argument m o₁
+ready-argument s place m o o₁ h e = record {
   literal = h.literal;
   text = record {
     place = h.text.place;
     room = omega (arith, h.text.room, e);
-    names = h.text.names;
-    marks = h.text.marks;
   };
   from = h.from;
   start = h.start;

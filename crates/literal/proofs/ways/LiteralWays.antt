@@ -5,15 +5,10 @@
 --     rest-ready, rest-fits, rest-grows          what `rest` owes to what it calls, and its bounds
 --     whole_row, parse-whole                     for `whole`; `parse` of a literal that is one chunk
 -- Assumes nothing.
-use Prim.Native.Nat.{ℕ, ◌+◌, ◌≤◌, ◌<◌}
-use native.Mathlib.Omega.{arith}
-use mathlib.Core.Path.{◌≡◌, refl, sym, ap, ap₂, subst, ◌∙◌}
-use mathlib.Core.Bool.{Bool, true, false, cond, not, ◌||◌}
-use mathlib.Core.List.{List, [], ◌∷◌, ◌++◌, map, append-nil}
-use lib.ListN.{length, take, length-append}
-use lib.Seq.{length-take-le}
-use lib.Dec.{ltb}
-use borrow.Author.Tests.{lt-ltb, le-ltb, ltb-false, lt-leb, le-leb}
+use Rattle.std.proofs.Common.{ℕ, ◌+◌, ◌≤◌, ◌<◌, arith, ◌≡◌, refl, sym, ap, ap₂, subst, ◌∙◌, Bool, true, false, cond}
+use Rattle.std.proofs.Common.{not, ◌||◌, List, [], ◌∷◌, ◌++◌, map, append-nil, length, take, length-append, length-take-le, ltb, lt-ltb, le-ltb, ltb-false, le-leb}
+use Rattle.std.specs.Prelude.{Result, Ok, Err}
+use borrow.Author.Tests.{lt-leb}
 use Rattle.row.specs.declared.fault.Fault.{Fault}
 use Rattle.row.specs.Limits.{most_literal, least_scratch, most_arguments}
 use Rattle.raw.specs.Reader.{OutOf, ok, again, bad, more}
@@ -24,9 +19,6 @@ use Rattle.chunk.specs.Format.{white_from}
 use Rattle.literal.specs.declared.rows.Rows.{Rows}
 use Rattle.literal.specs.declared.making.Making.{Making}
 use Rattle.literal.specs.declared.making.Place.{Place}
-use Rattle.literal.specs.declared.content.Made.{Made}
-use Rattle.literal.specs.declared.content.Made.TheVariants as made
-use Rattle.literal.specs.declared.parse.Parsed.TheVariants as parsed
 use Rattle.turn.specs.declared.turn.Text.TheVariants as text
 use Rattle.turn.specs.Content.{Part, put, State, beginning, step, steps, pushed, closed, chunks_of, content_by, content, inside, flatten}
 use Rattle.turn.specs.Turns.{turns, concat, Wrote, Grows}
@@ -131,11 +123,11 @@ module _ (place : Place) (t : Making) (o b : List ℕ) (no : place.argument ≡ 
 -- ---- a literal
 
 pub rest-long : (verb : Bool) (s : List ℕ) (base before : ℕ) (have : Rows) (b o' b' : List ℕ) → most_literal < length s
-    → SaysParsed (resolve_literal verb s base) before have b (parsed.Refused (too_long base (base + length s))) o' b'
+    → SaysParsed (resolve_literal verb s base) before have b (Err (too_long base (base + length s))) o' b'
 unfolding resolve_literal
 rest-long verb s base before have b o' b' h =
     subst (λ (x : Bool). SaysParsed (cond x (resolved_of base (content most_arguments verb s 0)) (refused (too_long base (base + length s)))) before have b
-    (parsed.Refused (too_long base (base + length s))) o' b') (sym (lt-leb (length s) most_literal h)) refl
+    (Err (too_long base (base + length s))) o' b') (sym (lt-leb (length s) most_literal h)) refl
 
 -- a literal inside the limit is its content
 short : (verb : Bool) (s : List ℕ) (base : ℕ) → length s ≤ most_literal → resolve_literal verb s base ≡ resolved_of base (content most_arguments verb s 0)
@@ -221,8 +213,8 @@ module _ (base before : ℕ) (have : Rows) (b : List ℕ) where
     rows = (subst (λ (l : List Chunk). RowsHold (flatten l) b₀ have b) (sym (append-nil ps)) h, k, refl);
   }
 
-  refused_as : (x : OutOf Part) (f u : Fault) (o₁ b₁ o' b' : List ℕ) → SaysContent place₁ x (first have 0 0) [] b (made.Refused f) o₁ b₁
-      → u ≡ fault_up base f → SaysParsed (resolved_of base x) before have b (parsed.Refused u) o' b'
+  refused_as : (x : OutOf Part) (f u : Fault) (o₁ b₁ o' b' : List ℕ) → SaysContent place₁ x (first have 0 0) [] b (Err f) o₁ b₁
+      → u ≡ fault_up base f → SaysParsed (resolved_of base x) before have b (Err u) o' b'
   refused_as (ok q xs) f u o₁ b₁ o' b' h e = absurd h
   refused_as (again q xs a) f u o₁ b₁ o' b' h e = absurd h
   refused_as (bad g) f u o₁ b₁ o' b' h e = e ∙ ap (fault_up base) h
@@ -240,13 +232,13 @@ module _ (base before : ℕ) (have : Rows) (b : List ℕ) where
           rows = all.0;
         })
 
-    chunks-as : (x : OutOf Part) → SaysContent place₁ x (first have 0 0) [] b (made.Done t) o₁ b₁
-        → SaysParsed (resolved_of base x) before have b (parsed.Chunks k t.len) o' b'
+    chunks-as : (x : OutOf Part) → SaysContent place₁ x (first have 0 0) [] b (Ok t) o₁ b₁
+        → SaysParsed (resolved_of base x) before have b (Ok (k, t.len)) o' b'
     chunks-as (ok q xs) h = added q xs h.0 h.1
     chunks-as (again q xs a) h = added q xs h.0 h.1
     chunks-as (bad g) h = absurd h
 
-  module _ (verb : Bool) (s : List ℕ) (p n : ℕ) (o : List ℕ) (to : ReadTo verb s p n o) (r : Made) (o₁ b₁ o' b' : List ℕ) (l : length s ≤ most_literal)
+  module _ (verb : Bool) (s : List ℕ) (p n : ℕ) (o : List ℕ) (to : ReadTo verb s p n o) (r : Result Making Fault) (o₁ b₁ o' b' : List ℕ) (l : length s ≤ most_literal)
       (h : SaysContent place₁ (from (inside most_arguments) verb s (first have p n)) (first have p n) o b r o₁ b₁) where
     -- an answer that is right for the rest of the content is right for the whole content
     from_start : SaysContent place₁ (content most_arguments verb s 0) (first have 0 0) [] b r o₁ b₁
@@ -254,7 +246,7 @@ module _ (base before : ℕ) (have : Rows) (b : List ℕ) where
     from_start = turn-again place₁ (inside most_arguments) verb s (first have 0 0) [] b (first have p n) o b read r o₁ b₁ h
       where
         read : Onto place₁ verb s (first have 0 0) [] b (first have p n) o b
-        read = text-put place₁ verb s (first have 0 0) [] b (text.Put p n) o to.wrote p n refl (first have p n) (record {
+        read = text-put place₁ verb s (first have 0 0) [] b (Ok (text.Put p n)) o to.wrote p n refl (first have p n) (record {
           at = refl;
           len = refl;
           braces = refl;
@@ -265,19 +257,19 @@ module _ (base before : ℕ) (have : Rows) (b : List ℕ) where
           rows = refl;
         })
 
-    pub rest-refused : (f u : Fault) → r ≡ made.Refused f → u ≡ fault_up base f
-        → SaysParsed (resolve_literal verb s base) before have b (parsed.Refused u) o' b'
+    pub rest-refused : (f u : Fault) → r ≡ Err f → u ≡ fault_up base f
+        → SaysParsed (resolve_literal verb s base) before have b (Err u) o' b'
     rest-refused f u e i =
-        subst (λ (x : Resolved). SaysParsed x before have b (parsed.Refused u) o' b') (sym (short verb s base l))
+        subst (λ (x : Resolved). SaysParsed x before have b (Err u) o' b') (sym (short verb s base l))
         (refused_as (content most_arguments verb s 0) f u o₁ b₁ o' b'
-        (subst (λ (r : Made). SaysContent place₁ (content most_arguments verb s 0) (first have 0 0) [] b r o₁ b₁) e from_start) i)
+        (subst (λ (r : Result Making Fault). SaysContent place₁ (content most_arguments verb s 0) (first have 0 0) [] b r o₁ b₁) e from_start) i)
 
-    pub rest-chunks : (t : Making) (k : Rows) → r ≡ made.Done t → LastChunkDone place₁ t o₁ b₁ k o' b'
-        → SaysParsed (resolve_literal verb s base) before have b (parsed.Chunks k t.len) o' b'
+    pub rest-chunks : (t : Making) (k : Rows) → r ≡ Ok t → LastChunkDone place₁ t o₁ b₁ k o' b'
+        → SaysParsed (resolve_literal verb s base) before have b (Ok (k, t.len)) o' b'
     rest-chunks t k e z =
-        subst (λ (x : Resolved). SaysParsed x before have b (parsed.Chunks k t.len) o' b') (sym (short verb s base l))
+        subst (λ (x : Resolved). SaysParsed x before have b (Ok (k, t.len)) o' b') (sym (short verb s base l))
         (chunks-as t o₁ b₁ k o' b' z (content most_arguments verb s 0)
-        (subst (λ (r : Made). SaysContent place₁ (content most_arguments verb s 0) (first have 0 0) [] b r o₁ b₁) e from_start))
+        (subst (λ (r : Result Making Fault). SaysContent place₁ (content most_arguments verb s 0) (first have 0 0) [] b r o₁ b₁) e from_start))
 
   -- ---- one chunk
 
@@ -297,10 +289,10 @@ module _ (base before : ℕ) (have : Rows) (b : List ℕ) where
   -- a literal that is one chunk, whose row is pushed
   pub parse-whole : (verb : Bool) (s : List ℕ) (n : ℕ) (o : List ℕ) (k : Rows) (b' : List ℕ) → OneChunk verb s n o → n ≤ length o
       → Pushes Normal before (before + n) base (base + length s) have b k b'
-      → SaysParsed (resolve_literal verb s base) before have b (parsed.Chunks k n) o b'
+      → SaysParsed (resolve_literal verb s base) before have b (Ok (k, n)) o b'
   unfolding texts_of
   parse-whole verb s n o k b' w l z =
-      subst (λ (x : Resolved). SaysParsed x before have b (parsed.Chunks k n) o b') (sym (w.is base)) λ ps b₀ i h. record {
+      subst (λ (x : Resolved). SaysParsed x before have b (Ok (k, n)) o b') (sym (w.is base)) λ ps b₀ i h. record {
         text = sym (append-nil (take n o));
         bytes = sym (length-take-le n o l) ∙ ap length (sym (append-nil (take n o)));
         rows = subst (λ (cs : List Chunk). RowsHold cs b₀ k b') (sym (joining ps (chunk Normal (take n o) base (base + length s))))
@@ -309,16 +301,14 @@ module _ (base before : ℕ) (have : Rows) (b : List ℕ) where
 
 -- ---- bounds
 
-module _ (s : List ℕ) (base before : ℕ) (have : Rows) (o by_name by_mark : List ℕ) (h : ReadyLiteral s base before have o by_name by_mark)
+module _ (s : List ℕ) (base before : ℕ) (have : Rows) (o : List ℕ) (h : ReadyLiteral s base before have o)
     (l : length s ≤ most_literal) (p n : ℕ) (g : Grows (length s) 0 0 0 p n) where
-  pub rest-ready : ReadyContent s (in_literal base before) (first have p n) o by_name by_mark
+  pub rest-ready : ReadyContent s (in_literal base before) (first have p n) o
   rest-ready = record {
     literal = l;
     text = record {
       place = g.inside;
       room = omega (arith, h.scratch, g.text);
-      names = h.names;
-      marks = h.marks;
     };
     from = omega arith;
     start = omega arith;
@@ -328,7 +318,7 @@ module _ (s : List ℕ) (base before : ℕ) (have : Rows) (o by_name by_mark : L
     file = omega (arith, h.file);
   }
 
-  module _ (t : Making) (r : Made) (e : r ≡ made.Done t) (a : AheadMade (length s) 0 (first have p n) r) where
+  module _ (t : Making) (r : Result Making Fault) (e : r ≡ Ok t) (a : AheadMade (length s) 0 (first have p n) r) where
     ahead : AheadState (length s) 0 (first have p n) t
     ahead = subst (AheadMade (length s) 0 (first have p n)) e a
 

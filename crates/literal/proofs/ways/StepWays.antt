@@ -8,14 +8,10 @@
 --     puts-state, goes-puts, text-put           text that is written leads from one state to the next
 --     ahead-further                             the bounds of the state after text
 -- Assumes nothing.
-use Prim.Native.Nat.{ℕ, zero, suc, ◌+◌, ◌-◌, ◌≤◌, ◌<◌}
-use native.Mathlib.Omega.{arith}
-use native.Mathlib.Numerals.{add-one, sub-one}
-use mathlib.Core.Path.{◌≡◌, refl, sym, ap, subst, ◌∙◌}
-use mathlib.Core.Bool.{Bool, false}
-use mathlib.Core.List.{List, [], ◌∷◌, ◌++◌, map, append_assoc, append-nil}
-use lib.ListN.{length, get_or, take, length-append}
-use borrow.Author.Tests.{lt-ltb, le-ltb, eq-eqb, ne_eqb}
+use Rattle.std.proofs.Common.{ℕ, zero, suc, ◌+◌, ◌-◌, ◌≤◌, ◌<◌, arith, add-one, sub-one, ◌≡◌, refl, sym, ap, subst, ◌∙◌}
+use Rattle.std.proofs.Common.{Bool, false, List, [], ◌∷◌, ◌++◌, map, append_assoc, append-nil, length, get_or, take, length-append, lt-ltb, le-ltb, eq-eqb, ne_eqb}
+use Rattle.std.specs.Prelude.{Result, Ok, Err}
+use Rattle.turn.specs.declared.turn.Text.{Text}
 use Rattle.text.specs.Scan.{skip, fails, part}
 use Rattle.text.specs.declared.class.Test.TheVariants as test
 use Rattle.row.specs.declared.fault.Reason.TheVariants.{UnexpectedEof, UnexpectedClosingBrace}
@@ -27,14 +23,10 @@ use Rattle.command.specs.Stack.{Lays, default_chunk}
 use Rattle.literal.specs.declared.rows.Rows.{Rows}
 use Rattle.literal.specs.declared.making.Making.{Making}
 use Rattle.literal.specs.declared.making.Place.{Place}
-use Rattle.turn.specs.declared.turn.Text.{Text}
 use Rattle.turn.specs.declared.turn.Text.TheVariants as text
-use Rattle.literal.specs.declared.content.Made.TheVariants as made
-use Rattle.literal.specs.declared.content.SignEnd.{SignEnd}
-use Rattle.literal.specs.declared.content.SignEnd.TheVariants as sign_end
 use Rattle.turn.specs.Content.{Part, put, cut, math, Reader, State, refused_byte, step, steps, maths, closing, content_turn}
 use Rattle.literal.specs.Rows.{most_number}
-use Rattle.literal.specs.Inner.{HoldsState, Goes, RowsHeld, standing, formula, SignTurn, SignEnds, SaysSign, ReadySign, Fits, Onto, ChunkDone, MathDone, Further, AheadState}
+use Rattle.literal.specs.Inner.{HoldsState, Goes, RowsHeld, standing, formula, SignTurn, SignEnds, SaysSign, ReadyContent, Fits, Onto, ChunkDone, MathDone, Further, AheadState}
 use Rattle.turn.specs.Turns.{turns, concat, SaysText, Placed, Grows}
 use Rattle.turn.proofs.Turning.{turning}
 
@@ -92,10 +84,10 @@ module _ (verb : Bool) (s : List ℕ) (p d : ℕ) (l : p < length s) where
 
 -- ---- what the answer says of a sign
 
-pub ends_at : {verb : Bool} {s : List ℕ} {p d : ℕ} {r : SignEnd} {q e : ℕ} → r ≡ sign_end.At q e → SignEnds verb s p d r → SignTurn verb s p d q e
+pub ends_at : {verb : Bool} {s : List ℕ} {p d : ℕ} {r : Result (ℕ × ℕ) Fault} {q e : ℕ} → r ≡ Ok (q, e) → SignEnds verb s p d r → SignTurn verb s p d q e
 ends_at e h = rw e at h
 
-pub ends-not : (verb : Bool) (s : List ℕ) (p d : ℕ) {r : SignEnd} {f : Fault} → r ≡ sign_end.Refused f → SignEnds verb s p d r
+pub ends-not : (verb : Bool) (s : List ℕ) (p d : ℕ) {r : Result (ℕ × ℕ) Fault} {f : Fault} → r ≡ Err f → SignEnds verb s p d r
     → ((argument : Reader) → content_turn argument verb d s p ≡ bad f) × Placed (length s) f
 ends-not verb s p d e h = rw e at h
 
@@ -103,7 +95,7 @@ ends-not verb s p d e h = rw e at h
 
 module _ (place : Place) (verb : Bool) (s : List ℕ) (m : Making) (o b : List ℕ) where
   pub sign-refused : (f : Fault) → ((argument : Reader) → content_turn argument verb m.braces s m.at ≡ bad f)
-      → SaysSign place verb s m o b (made.Refused f) o b
+      → SaysSign place verb s m o b (Err f) o b
   sign-refused f h argument = turning.stopped argument verb m.braces s m.at f (h argument)
 
   module _ (q d : ℕ) (h : SignTurn verb s m.at m.braces q d) (m₁ : Making) (o₁ b₁ : List ℕ)
@@ -121,7 +113,7 @@ module _ (place : Place) (verb : Bool) (s : List ℕ) (m : Making) (o b : List �
       goes = g;
     }
 
-    pub sign-again : (get_or s m.at 0 ≡ 0x24 → ⊥) → SaysSign place verb s m o b (made.Done m₁) o₁ b₁
+    pub sign-again : (get_or s m.at 0 ≡ 0x24 → ⊥) → SaysSign place verb s m o b (Ok m₁) o₁ b₁
     sign-again n = onto [] (rw (ne_eqb (get_or s m.at 0) 0x24 n) refl) m₁ o₁ b₁ x.at x.braces x.goes
 
     -- at most one chunk is done, and at most one brace more is open
@@ -135,16 +127,16 @@ module _ (place : Place) (verb : Bool) (s : List ℕ) (m : Making) (o b : List �
     }
 
     -- what `put_math` requires
-    pub math-ready : get_or s m.at 0 ≡ 0x24 → ReadySign s place m o → length o₁ ≡ length o
+    pub math-ready : get_or s m.at 0 ≡ 0x24 → ReadyContent s place m o → length o₁ ≡ length o
         → ((m.at + 1 ≤ q) × (q ≤ length s) × (m₁.len + q + 2 ≤ length o₁ + (m.at + 1)) × (m₁.from ≡ m₁.len))
         × (Fits place m₁ (length o₁) × (place.base + q ≤ most_number))
     math-ready e r n =
         let f = h.math e in (
-          (omega (arith, f), omega (arith, h.inside), omega (arith, f, h.inside, r.room, x.len, n), x.from),
+          (omega (arith, f), omega (arith, h.inside), omega (arith, f, h.inside, r.text.room, x.len, n), x.from),
           (
             record {
               from = omega (arith, x.from);
-              to = omega (arith, x.len, r.room, n, f, h.inside);
+              to = omega (arith, x.len, r.text.room, n, f, h.inside);
               text = omega (arith, x.len, r.value, r.literal, f, h.inside);
               start = omega (arith, x.start, r.file, r.literal, h.inside);
               rows = omega (arith, x.rows, r.rows, r.literal, f, h.inside);
@@ -154,7 +146,7 @@ module _ (place : Place) (verb : Bool) (s : List ℕ) (m : Making) (o b : List �
         )
 
     module _ (e : get_or s m.at 0 ≡ 0x24) (m₂ : Making) (o₂ b₂ : List ℕ) (y : MathDone s (m.at + 1) q place m₁ o₁ b₁ m₂ o₂ b₂) where
-      pub math-again : SaysSign place verb s m o b (made.Done m₂) o₂ b₂
+      pub math-again : SaysSign place verb s m o b (Ok m₂) o₂ b₂
       unfolding steps
       math-again =
           onto (math (part s (m.at + 1) q) (m.at + 1) q ∷ []) (rw (eq-eqb (get_or s m.at 0) 0x24 e) refl) m₂ o₂ b₂ (y.at ∙ x.at) (y.braces ∙ x.braces)
@@ -205,11 +197,11 @@ module _ (place : Place) (m : Making) (o b : List ℕ) (q l : ℕ) (m' : Making)
   pub goes-puts : (ws : List (List ℕ)) → Lays m.len (concat ws) o l o' → Goes place (map put ws) m o b m' o' b
   goes-puts ws x t₀ ps b₀ σ h = subst (λ (τ : State). HoldsState place t₀ ps b₀ τ m' o' b) (sym (puts-state ws σ)) (put-held (concat ws) x t₀ ps b₀ σ h)
 
-module _ (place : Place) (verb : Bool) (s : List ℕ) (m : Making) (o b : List ℕ) (r : Text) (o' : List ℕ) (h : SaysText verb s m.at m.len o r o')
+module _ (place : Place) (verb : Bool) (s : List ℕ) (m : Making) (o b : List ℕ) (r : Result Text Fault) (o' : List ℕ) (h : SaysText verb s m.at m.len o r o')
   where
-    pub text-put : (q l : ℕ) → r ≡ text.Put q l → (m' : Making) → Further m q l m' → Onto place verb s m o b m' o' b
+    pub text-put : (q l : ℕ) → r ≡ Ok (text.Put q l) → (m' : Making) → Further m q l m' → Onto place verb s m o b m' o' b
     text-put q l e m' f =
-        let y : SaysText verb s m.at m.len o (text.Put q l) o' = rw e at h in
+        let y : SaysText verb s m.at m.len o (Ok (text.Put q l)) o' = rw e at h in
         record {
           parts = map put y.texts;
           leads = λ argument.
@@ -219,7 +211,7 @@ module _ (place : Place) (verb : Bool) (s : List ℕ) (m : Making) (o b : List �
           goes = goes-puts place m o b q l m' o' f y.texts y.lays;
         }
 
-pub ahead-further : (len : ℕ) (verb : Bool) (s : List ℕ) (m : Making) (o : List ℕ) (q l : ℕ) (o' : List ℕ) (r : Text) (m' : Making) → r ≡ text.Put q l
+pub ahead-further : (len : ℕ) (verb : Bool) (s : List ℕ) (m : Making) (o : List ℕ) (q l : ℕ) (o' : List ℕ) (r : Result Text Fault) (m' : Making) → r ≡ Ok (text.Put q l)
     → SaysText verb s m.at m.len o r o' → Grows len 1 m.at m.len q l → m.from ≤ m.len → m.start ≤ m.at → Further m q l m'
     → AheadState len 1 m m'
 ahead-further len verb s m o q l o' r m' e y h x z f = record {
@@ -230,6 +222,6 @@ ahead-further len verb s m o q l o' r m' e y h x z f = record {
   };
   rows = omega (arith, h.at, f.at, ap (λ (k : Rows). k.n) f.rows);
   braces = omega (arith, h.at, f.at, f.braces);
-  from = let k : SaysText verb s m.at m.len o (text.Put q l) o' = rw e at y in omega (arith, k.lays.end, f.from, f.len, x);
+  from = let k : SaysText verb s m.at m.len o (Ok (text.Put q l)) o' = rw e at y in omega (arith, k.lays.end, f.from, f.len, x);
   start = omega (arith, f.start, f.at, h.at, z);
 }

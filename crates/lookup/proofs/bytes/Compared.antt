@@ -1,25 +1,20 @@
--- Texts compared byte by byte.
---     same_turn, same_differs, same_end     one turn of the comparison, by what its code does
+-- Texts compared as the library compares slices.
+--     same_decided    a test of whether two texts are equal answers what `same_bytes` says
+--     order_cmp       `cmp` answers what `order_of` says
 -- Assumes nothing.
-use Prim.Native.Nat.{ℕ, ◌+◌, ◌≤◌, ◌<◌}
-use native.Mathlib.Numerals.{add-one}
-use mathlib.Core.Path.{◌≡◌}
-use mathlib.Core.Bool.{true, false}
-use mathlib.Core.List.{List}
-use lib.ListN.{length, get_or, drop, drop_of_length-le}
-use lib.Seq.{drop-cons}
-use borrow.Author.Tests.{eq-eqb, ne_eqb}
+use Rattle.std.proofs.Common.{◌≡◌, ℕ, Bool, Decides, List, [], ◌∷◌, nat_cmp, refl, arith}
+use Rattle.std.proofs.lemmas.Bool.Decides.{nat_tests, same_from_decides}
+use Rattle.std.specs.Cmp.Lexicographic.{slice_cmp}
 use Rattle.text.specs.SameBytes.{same_bytes}
+use Rattle.text.proofs.general.SameBytes.{same_true, same_self}
+use Rattle.lookup.specs.Order.{order_of}
 
-module _ (a b : List ℕ) (i : ℕ) where
-  pub same_turn : i < length a → i < length b → get_or a i 0 ≡ get_or b i 0 → same_bytes (drop i a) (drop i b) ≡ same_bytes (drop (i + 1) a) (drop (i + 1) b)
-  unfolding same_bytes
-  same_turn h k e = rw (add-one i, drop-cons a i 0 h, drop-cons b i 0 k, eq-eqb (get_or a i 0) (get_or b i 0) e)
+pub same_decided : (a b : List ℕ) (r : Bool) → Decides r (a ≡ b) → r ≡ same_bytes a b
+same_decided a b r d = same_from_decides r (same_bytes a b) d (same_true a b, λ e. rw e (same_self b))
 
-  pub same_differs : i < length a → i < length b → (get_or a i 0 ≡ get_or b i 0 → ⊥) → same_bytes (drop i a) (drop i b) ≡ false
-  unfolding same_bytes
-  same_differs h k e = rw (drop-cons a i 0 h, drop-cons b i 0 k, ne_eqb (get_or a i 0) (get_or b i 0) e)
-
-  pub same_end : length a ≤ i → length b ≤ i → same_bytes (drop i a) (drop i b) ≡ true
-  unfolding same_bytes
-  same_end h k = rw (drop_of_length-le a h, drop_of_length-le b k)
+pub order_cmp : (a b : List ℕ) → slice_cmp nat_cmp a b ≡ order_of a b
+unfolding order_of
+order_cmp [] [] = refl
+order_cmp [] (y ∷ b) = refl
+order_cmp (x ∷ a) [] = refl
+order_cmp (x ∷ a) (y ∷ b) = grind (arith, nat_tests, order_cmp a b)

@@ -1,20 +1,14 @@
 -- The search along a chain of the rows' index: the ways through `follow`.
 --     Going                                                where the search stands
 --     follow-starts, follow-hit, follow-on, follow-ends    it starts; finds the row; goes on; ends without a row
---     follows-row, follows-none, follows-long              the answer: a row, none, or that the chain is too long
+--     follow-whole                                         where all rows may be looked at the chain is not too long
 -- Assumes nothing.
-use Prim.Native.Nat.{ℕ, suc, ◌/◌, ◌%◌, ◌≤◌, ◌<◌}
-use native.Mathlib.Omega.{arith}
-use mathlib.Core.Path.{◌≡◌, sym, subst}
-use mathlib.Core.Bool.{Bool, true, false}
-use mathlib.Core.List.{List}
-use lib.ListN.{length, get_or}
+use Rattle.std.proofs.Common.{ℕ, suc, ◌/◌, ◌%◌, ◌≤◌, ◌<◌, arith, ◌≡◌, sym, Bool, true, false, List, length, get_or, ◌+◌, Option, Some, None, Result}
+use Rattle.std.proofs.Common.{Ok, Err}
+use Rattle.std.specs.Result.{result_unwrap_or}
 use Rattle.row.specs.Numbers.{rows_of}
 use Rattle.row.proofs.Laid.{laid}
-use Rattle.lookup.specs.declared.plain.Found.{Found}
-use Rattle.lookup.specs.declared.plain.Found.TheVariants as found
-use Rattle.lookup.specs.declared.index.Followed.{Followed}
-use Rattle.lookup.specs.declared.index.Followed.TheVariants as followed
+use Rattle.lookup.specs.declared.index.TooLong.{TooLong}
 use Rattle.lookup.specs.Fnv.{hash_of}
 use Rattle.lookup.specs.Names.{is_named, row_no}
 use Rattle.lookup.specs.RowIndex.{row_in, IndexedFrom, Follows, last_from}
@@ -36,7 +30,7 @@ module _ (file name rows heads next : List ℕ) (from b : ℕ) (x : IndexedFrom 
 
   module _ (at : ℕ) (g : Going file name rows (length heads) b from at) where
     module _ (i : ℕ) (e : at ≡ suc i) where
-      pub follow-hit : from < at → hits file name rows i ≡ true → found.Row i ≡ last_from file name (rows_of rows) from
+      pub follow-hit : from < at → hits file name rows i ≡ true → Some i ≡ last_from file name (rows_of rows) from
       follow-hit k h =
           let rs = rows_of rows in
           let r = row-says file rs (length heads) i b (g.own.passes i e) in
@@ -49,7 +43,7 @@ module _ (file name rows heads next : List ℕ) (from b : ℕ) (x : IndexedFrom 
           let o = chains.going_on (row_in file (rows_of rows) (length heads)) (length rows / 4) from heads next x.index b (hits file name rows) at i after e p h g in
           (going_less (length rows / 4) at after (omega arith) g.own.most o.0, o.1)
 
-    pub follow-ends : b ≡ hash_of name % length heads → at ≤ from → found.Nothing ≡ last_from file name (rows_of rows) from
+    pub follow-ends : b ≡ hash_of name % length heads → at ≤ from → None ≡ last_from file name (rows_of rows) from
     follow-ends e k = from-none file name (rows_of rows) from none
       where
         none : (i : ℕ) → from ≤ i → SaysLast file name (rows_of rows) i → ⊥
@@ -59,12 +53,7 @@ module _ (file name rows heads next : List ℕ) (from b : ℕ) (x : IndexedFrom 
             going-ends (hits file name rows) (row_in file (rows_of rows) (length heads) b) (length rows / 4) from at k g i m
             (omega (arith, s.below, laid.rows-length rows)) (row-in file (rows_of rows) (length heads) i b r) s.named
 
-module _ (f : Found) (n most : ℕ) {r : Followed} (x : Follows f n most r) where
-  pub follows-row : (i : ℕ) → r ≡ followed.Row i → found.Row i ≡ f
-  follows-row i e = subst (Follows f n most) e x
-
-  pub follows-none : r ≡ followed.Nothing → found.Nothing ≡ f
-  follows-none e = subst (Follows f n most) e x
-
-  pub follows-long : r ≡ followed.TooLong → most ≤ n
-  follows-long e = subst (Follows f n most) e x
+-- no chain has more rows than the file
+pub follow-whole : (f : Option ℕ) (n : ℕ) (r : Result (Option ℕ) TooLong) → Follows f n (n + 1) r → result_unwrap_or r None ≡ f
+follow-whole f n (Ok x) h = h
+follow-whole f n (Err e) h = absurd (omega arith)

@@ -5,18 +5,12 @@
 --     row_counts, counts-in, counts-inside    rows that count
 --     named-name, name-named                  a row defines a name exactly if it is a definition with its bytes
 -- Assumes nothing.
-use Prim.Native.Nat.{ℕ, suc, ◌%◌, ◌≤◌, ◌<◌}
-use native.Mathlib.Omega.{arith}
-use mathlib.Core.Path.{◌≡◌, refl, sym, ap, ◌∙◌}
-use mathlib.Core.Bool.{Bool, true, false, ◌&&◌, false≢true}
-use mathlib.Core.List.{List}
-use lib.ListN.{length, drop, get_or-eq_default}
-use lib.Dec.{eqb, leb, ltb}
-use borrow.Author.Tests.{ltb-true, ltb-false, leb-true, eqb-true, eq-eqb, ne_eqb}
+use Rattle.std.proofs.Common.{ℕ, suc, ◌%◌, ◌≤◌, ◌<◌, arith, ◌≡◌, refl, sym, ap, ◌∙◌, Bool, true, false, ◌&&◌, List, length, drop, eqb, leb, ltb}
+use Rattle.std.proofs.Common.{ltb-true, ltb-false, leb-true, eqb-true, eq-eqb, ne_eqb, Option, Some, None}
+use Rattle.std.proofs.Math.ListN.{get_or-eq_default}
+use Rattle.std.proofs.lemmas.Bool.{false≢true}
 use Rattle.text.proofs.general.Tests.{both_true}
 use Rattle.row.specs.Row.{Row, row_of}
-use Rattle.lookup.specs.declared.plain.Found.{Found}
-use Rattle.lookup.specs.declared.plain.Found.TheVariants as found
 use Rattle.lookup.specs.Fnv.{hash_of}
 use Rattle.text.specs.SameBytes.{same_bytes}
 use Rattle.lookup.specs.Names.{name_of, is_named, row_no, last_named}
@@ -38,13 +32,13 @@ room n heads next e =
 
 -- ---- which bucket
 
-is-nothing : (f : Found) → is_nothing f ≡ true → f ≡ found.Nothing
-is-nothing (found.Row n) e = absurd (false≢true e)
-is-nothing found.Nothing e = refl
+is-nothing : (f : Option ℕ) → is_nothing f ≡ true → f ≡ None
+is-nothing (Some n) e = absurd (false≢true e)
+is-nothing None e = refl
 
 pub record RowIn (file : List ℕ) (rs : List Row) (size b i : ℕ) : Type 0 where
   pub kind : (row_no rs i).kind ≡ 8
-  pub last : last_named file (name_of file (row_no rs i)) (drop (suc i) rs) ≡ found.Nothing
+  pub last : last_named file (name_of file (row_no rs i)) (drop (suc i) rs) ≡ None
   pub bucket : hash_of (name_of file (row_no rs i)) % size ≡ b
 
 module _ (file : List ℕ) (rs : List Row) (size i : ℕ) where
@@ -80,7 +74,7 @@ module _ (file : List ℕ) (rs : List Row) (size i : ℕ) where
   unfolding row_in counts
   row_out n b = rw (ne_eqb (row_no rs i).kind 8 n)
 
-  pub row-shadowed : (k : ℕ) → (row_no rs i).kind ≡ 8 → last_named file (name_of file (row_no rs i)) (drop (suc i) rs) ≡ found.Row k → (b : ℕ) → row_in file rs size b i ≡ false
+  pub row-shadowed : (k : ℕ) → (row_no rs i).kind ≡ 8 → last_named file (name_of file (row_no rs i)) (drop (suc i) rs) ≡ Some k → (b : ℕ) → row_in file rs size b i ≡ false
   unfolding row_in counts
   row-shadowed k e l b = rw (eq-eqb (row_no rs i).kind 8 e, l)
 

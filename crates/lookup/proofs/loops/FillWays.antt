@@ -1,37 +1,19 @@
 -- The definitions gathered at the beginning of `next` and put in order there: `fill`.
---     gathered-size, gathered-inside, gathered-most    how many are gathered: as many as `next` then begins with, and no more than rows
---     too_few, enough                                  whether there is room to put them in order
---     filled                                           they are in order, and the mark tells how many
+--     gathered-most    no more are gathered than there are rows
+--     filled           they are in order, and the mark tells how many
 -- Assumes nothing.
-use Prim.Native.Nat.{ℕ, suc, ◌+◌, ◌/◌, ◌≤◌, ◌<◌}
-use native.Mathlib.Omega.{arith}
-use mathlib.Core.Path.{◌≡◌, sym, ap, ◌∙◌}
-use mathlib.Core.Bool.{true, false}
-use mathlib.Core.List.{List, ◌++◌}
-use lib.ListN.{length, take, drop, set, length-take}
-use lib.Seq.{get_or-set_same, take_at}
-use lib.Dec.{leb}
-use borrow.Author.Tests.{le-leb, lt-leb}
+use Rattle.std.proofs.Common.{ℕ, suc, ◌+◌, ◌/◌, ◌≤◌, ◌<◌, arith, ◌≡◌, sym, ap, ◌∙◌, List, ◌++◌, length, take, drop, set, get_or-set_same, take_at}
 use Rattle.row.specs.Numbers.{rows_of}
 use Rattle.row.proofs.Laid.{laid}
 use Rattle.lookup.specs.Order.{comes, sorted, definitions, in_order, Ordered}
 use Rattle.lookup.proofs.sorting.Definitions.{definitions-length}
 
 module _ (rows next : List ℕ) (m : ℕ) (count : m ≡ length (definitions (rows_of rows))) (first : take m next ≡ definitions (rows_of rows)) where
-  pub gathered-size : m ≡ length (take m next)
+  gathered-size : m ≡ length (take m next)
   gathered-size = count ∙ sym (ap length first)
-
-  pub gathered-inside : m ≤ length next
-  gathered-inside = omega (arith, gathered-size, length-take m next)
 
   pub gathered-most : m ≤ length rows / 4
   gathered-most = omega (arith, count, definitions-length (rows_of rows), laid.rows-length rows)
-
-  pub too_few : (heads : List ℕ) → length heads < m → false ≡ leb (length (definitions (rows_of rows))) (length heads)
-  too_few heads h = sym (lt-leb (length (definitions (rows_of rows))) (length heads) (omega (arith, count, h)))
-
-  pub enough : (heads : List ℕ) → m ≤ length heads → true ≡ leb (length (definitions (rows_of rows))) (length heads)
-  enough heads h = sym (le-leb (length (definitions (rows_of rows))) (length heads) (omega (arith, count, h)))
 
   pub filled : (file heads ys : List ℕ) → 0 < length heads → ys ≡ sorted (comes file (rows_of rows)) 32 (take m next) → length ys ≡ length (take m next) →
       Ordered file rows (set heads 0 (length rows / 4 + 1 + m)) (ys ++ drop m next)

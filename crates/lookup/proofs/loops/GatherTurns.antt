@@ -3,15 +3,9 @@
 --     going-in, going-not      row i is a definition; it is none
 --     going-ends               behind the last row all are gathered
 -- Assumes nothing.
-use Prim.Native.Nat.{ℕ, suc, ◌+◌, ◌-◌, ◌*◌, ◌/◌, ◌≤◌, ◌<◌}
-use native.Mathlib.Numerals.{add-one}
-use native.Mathlib.Omega.{arith}
-use mathlib.Core.Path.{◌≡◌, sym, ap, ◌∙◌}
-use mathlib.Core.Bool.{Bool, true, false}
-use mathlib.Core.List.{List, [], ◌∷◌, ◌++◌, append-nil}
-use lib.ListN.{length, get_or, take, set, length-set}
-use lib.Seq.{take-suc-set, append_snoc, length-take-le}
-use borrow.Author.Tests.{eq-eqb, ne_eqb}
+use Rattle.std.proofs.Common.{ℕ, suc, ◌+◌, ◌-◌, ◌*◌, ◌/◌, ◌≤◌, ◌<◌, add-one, arith, ◌≡◌, sym, ap, ◌∙◌, Bool, true, false, List, [], ◌∷◌, ◌++◌}
+use Rattle.std.proofs.Common.{append-nil, length, get_or, take, set, length-set, take-suc-set, length-take-le, eq-eqb, ne_eqb}
+use Rattle.std.proofs.Math.Seq.{append_snoc}
 use Rattle.row.specs.Numbers.{rows_of}
 use Rattle.row.proofs.Laid.{laid}
 use Rattle.lookup.specs.Buckets.{rising}

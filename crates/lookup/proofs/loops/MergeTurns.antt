@@ -4,22 +4,12 @@
 --     Going                                  where the loop stands: i and j numbers are merged, and those behind them make up the rest
 --     going-left, going-right                the next number is put behind those that are merged
 --     going-ends                             at the end all numbers are merged
---     halves-length, halves-merged           a list is merged from its halves
 -- Assumes nothing.
-use Prim.Native.Nat.{ℕ, suc, ◌+◌, ◌-◌, ◌≤◌, ◌<◌}
-use native.Mathlib.Numerals.{add-one}
-use native.Mathlib.Omega.{arith}
-use mathlib.Core.Path.{◌≡◌, refl, sym, ap, ◌∙◌}
-use mathlib.Core.Bool.{Bool, true, false, true≢false}
-use mathlib.Core.List.{List, [], ◌∷◌, ◌++◌, append-nil}
-use lib.ListN.{length, get_or, take, drop, set, length-set, length-drop, drop_of_length-le}
-use lib.Seq.{drop-cons, take-suc-set, append_snoc, take_all, length-take-le}
-use lib.Dec.{ltb}
-use borrow.Author.Tests.{ltb-true, ltb-false}
+use Rattle.std.proofs.Common.{ℕ, suc, ◌+◌, ◌≤◌, ◌<◌, add-one, arith, ◌≡◌, refl, sym, ap, ◌∙◌, Bool, true, false, true≢false, List, [], ◌∷◌, ◌++◌}
+use Rattle.std.proofs.Common.{append-nil, length, get_or, take, drop, set, length-set, drop_of_length-le, drop-cons, take-suc-set, ltb, ltb-true}
+use Rattle.std.proofs.Common.{ltb-false}
+use Rattle.std.proofs.Math.Seq.{append_snoc}
 use Rattle.lookup.specs.Order.{merged, merged_at, left_first}
-
-pub halves-length : (a : List ℕ) (h : ℕ) → h ≤ length a → length (take h a) + length (take (length a - h) (drop h a)) ≡ length a
-halves-length a h k = omega (arith, length-take-le h a k, length-take-le (length a - h) (drop h a) (omega (arith, length-drop h a)), length-drop h a)
 
 module _ (le : ℕ → ℕ → Bool) where
   turn-left : (x : ℕ) (xs ys : List ℕ) → left_first le (x ∷ xs) ys ≡ true → merged le (x ∷ xs) ys ≡ x ∷ merged le xs ys
@@ -114,11 +104,3 @@ module _ (le : ℕ → ℕ → Bool) where
 
     pub going-ends : length a + length b ≤ i + j → take (length a + length b) out ≡ merged le a b
     going-ends h = merge-ends a b out (merged le a b) i j (omega (arith, g.1, g.2)) (omega (arith, g.1, g.2)) g.3
-
-  -- a list is merged from its halves
-  pub halves-merged : (a out : List ℕ) (h : ℕ) → h ≤ length a →
-      take (length (take h a) + length (take (length a - h) (drop h a))) out ≡ merged le (take h a) (take (length a - h) (drop h a)) →
-      take (length a) out ≡ merged le (take h a) (drop h a)
-  halves-merged a out h k e =
-      let z = take_all (length a - h) (drop h a) (omega (arith, length-drop h a)) in
-      ap (λ (n : ℕ). take n out) (sym (halves-length a h k)) ∙ e ∙ ap (merged le (take h a)) z

@@ -2,16 +2,12 @@
 --     name-past    the name past the last row is empty
 --     comes-by     row i comes before row j, by how their names stand
 -- Assumes nothing.
-use Prim.Native.Nat.{ℕ, ◌/◌, ◌≤◌}
-use native.Mathlib.Omega.{arith}
-use mathlib.Core.Path.{◌≡◌, sym, ap}
-use mathlib.Core.List.{List}
-use lib.ListN.{length, get_or-eq_default}
+use Rattle.std.proofs.Common.{ℕ, ◌/◌, ◌≤◌, arith, ◌≡◌, sym, ap, List, length, Ordering}
+use Rattle.std.proofs.Math.ListN.{get_or-eq_default}
 use Rattle.text.specs.Scan.{part}
 use Rattle.row.specs.Row.{Row, row_of}
 use Rattle.row.specs.Numbers.{rows_of}
 use Rattle.row.proofs.Laid.{laid}
-use Rattle.lookup.specs.declared.order.Order.{Order}
 use Rattle.lookup.specs.Names.{name_of, row_no}
 use Rattle.lookup.specs.Order.{order_of, comes, comes_by}
 
@@ -21,6 +17,6 @@ name-past file rows i h =
     sym (ap (name_of file) (get_or-eq_default (rows_of rows) (row_of 0 0 0 0) k))
 
 module _ (file : List ℕ) (rs : List Row) (i j : ℕ) (a b : List ℕ) (p : a ≡ name_of file (row_no rs i)) (q : b ≡ name_of file (row_no rs j)) where
-  pub comes-by : (o : Order) → o ≡ order_of a b → comes_by o i j ≡ comes file rs i j
+  pub comes-by : (o : Ordering) → o ≡ order_of a b → comes_by o i j ≡ comes file rs i j
   unfolding comes
   comes-by o e = rw (e, p, q)

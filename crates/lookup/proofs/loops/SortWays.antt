@@ -3,15 +3,11 @@
 --     half, one_done, other, both_done     the list while its halves are sorted, and the part that is lent for the second
 --     sort-whole                           the halves are sorted, merged into the spare numbers, and copied back
 -- Assumes nothing.
-use Prim.Native.Nat.{ℕ, zero, suc, ◌-◌, ◌/◌, ◌≤◌}
-use native.Mathlib.Omega.{arith}
-use mathlib.Core.Path.{◌≡◌, refl, sym, ap, ap₂, ◌∙◌}
-use mathlib.Core.Bool.{Bool, true, false, cond, ◌||◌, false≢true}
-use mathlib.Core.List.{List, [], ◌++◌, append-nil}
-use lib.ListN.{length, take, drop, drop_of_length-le, length-drop}
-use lib.Seq.{take_all, take_at, drop_at, length-take-le, length_front}
-use lib.Dec.{ltb, eqb}
-use borrow.Author.Tests.{eqb-true}
+use Rattle.std.proofs.Common.{ℕ, zero, suc, ◌-◌, ◌/◌, ◌≤◌, arith, ◌≡◌, refl, sym, ap, ap₂, ◌∙◌, Bool, true, false, cond, ◌||◌, List, [], ◌++◌}
+use Rattle.std.proofs.Common.{append-nil, length, take, drop, drop_of_length-le, length-drop, take_all, take_at, drop_at, length-take-le, ltb, eqb}
+use Rattle.std.proofs.Common.{eqb-true}
+use Rattle.std.proofs.Math.Seq.{length_front}
+use Rattle.std.proofs.lemmas.Bool.{false≢true}
 use borrow.Rule.Slice.PartMut.{mid_of, put_mid}
 use Rattle.lookup.specs.Order.{merged, sorted}
 

@@ -5,79 +5,72 @@
 --     from_is, from-none                     what is found among the rows from row `from` on
 --     from_row, from_nothing, from_first     what `last_from` says, as `last_named` says it
 -- Assumes nothing.
-use Prim.Native.Nat.{ℕ, zero, suc, ◌+◌, ◌-◌, ◌≤◌, ◌<◌}
-use native.Mathlib.Omega.{arith}
-use mathlib.Core.Path.{◌≡◌, refl, sym, ap, ◌∙◌}
-use mathlib.Core.Bool.{Bool, true, false, cond}
-use mathlib.Core.List.{List, [], ◌∷◌}
-use lib.ListN.{length, drop, length-drop}
-use lib.Seq.{drop-cons, drop-drop, get_or-drop}
+use Rattle.std.proofs.Common.{ℕ, zero, suc, ◌+◌, ◌-◌, ◌≤◌, ◌<◌, arith, ◌≡◌, refl, sym, ap, ◌∙◌, Bool, true, false, cond, List, [], ◌∷◌, length, drop}
+use Rattle.std.proofs.Common.{length-drop, drop-cons, drop-drop, get_or-drop, Option, Some, None}
 use Rattle.row.specs.Row.{Row, row_of}
-use Rattle.lookup.specs.declared.plain.Found.{Found}
-use Rattle.lookup.specs.declared.plain.Found.TheVariants as found
 use Rattle.lookup.specs.Names.{is_named, later, last_named, row_no}
 use Rattle.lookup.specs.RowIndex.{counted, last_from}
 
 -- one more than the number of the row, or 0
-abbrev rank : Found → ℕ
-rank (found.Row n) = suc n
-rank found.Nothing = 0
+abbrev rank : Option ℕ → ℕ
+rank (Some n) = suc n
+rank None = 0
 
-row-nothing : {A : Type 0} (f : Found) (n : ℕ) → f ≡ found.Row n → f ≡ found.Nothing → A
+row-nothing : {A : Type 0} (f : Option ℕ) (n : ℕ) → f ≡ Some n → f ≡ None → A
 row-nothing f n p q = let z : suc n ≡ 0 = ap rank (sym p ∙ q) in absurd (omega arith)
 
-row_one : (n m : ℕ) → found.Row n ≡ found.Row m → n ≡ m
+row_one : (n m : ℕ) → Some n ≡ Some m → n ≡ m
 row_one n m e = let z : suc n ≡ suc m = ap rank e in omega arith
 
-later-nothing : (f : Found) (b : Bool) → later f b ≡ found.Nothing → (f ≡ found.Nothing) × (b ≡ false)
+later-nothing : (f : Option ℕ) (b : Bool) → later f b ≡ None → (f ≡ None) × (b ≡ false)
 unfolding later
-later-nothing (found.Row n) true e = row-nothing _ _ refl e
-later-nothing (found.Row n) false e = row-nothing _ _ refl e
-later-nothing found.Nothing true e = row-nothing _ _ refl e
-later-nothing found.Nothing false e = (refl, refl)
+later-nothing (Some n) true e = row-nothing _ _ refl e
+later-nothing (Some n) false e = row-nothing _ _ refl e
+later-nothing None true e = row-nothing _ _ refl e
+later-nothing None false e = (refl, refl)
 
 -- row i is there and defines the name, and nothing is found behind it
 pub record SaysLast (file name : List ℕ) (rs : List Row) (i : ℕ) : Type 0 where
   pub below : i < length rs
   pub named : is_named file name (row_no rs i) ≡ true
-  pub behind : last_named file name (drop (suc i) rs) ≡ found.Nothing
+  pub behind : last_named file name (drop (suc i) rs) ≡ None
 
 module _ (file name : List ℕ) where
   pub none_more : (rs : List Row) (i : ℕ) → i < length rs → is_named file name (row_no rs i) ≡ false →
-      last_named file name (drop (suc i) rs) ≡ found.Nothing → last_named file name (drop i rs) ≡ found.Nothing
+      last_named file name (drop (suc i) rs) ≡ None → last_named file name (drop i rs) ≡ None
   unfolding last_named later
   none_more rs i h n e = rw (drop-cons rs i (row_of 0 0 0 0) h, e, n)
 
   pub last-is : (rs : List Row) (i : ℕ) → i < length rs → is_named file name (row_no rs i) ≡ true →
-      last_named file name (drop (suc i) rs) ≡ found.Nothing → last_named file name rs ≡ found.Row i
+      last_named file name (drop (suc i) rs) ≡ None → last_named file name rs ≡ Some i
   unfolding last_named later
   last-is [] i h n e = absurd (omega arith)
   last-is (r ∷ rs) zero h n e = rw (e, n)
   last-is (r ∷ rs) (suc i) h n e = rw (last-is rs i (omega arith) n e)
 
-  pub last_says : (rs : List Row) (i : ℕ) → last_named file name rs ≡ found.Row i → SaysLast file name rs i
+  pub last_says : (rs : List Row) (i : ℕ) → last_named file name rs ≡ Some i → SaysLast file name rs i
   unfolding last_named later
-  last_says [] i e = row-nothing found.Nothing i e refl
+  last_says [] i e = row-nothing None i e refl
   last_says (r ∷ rs) i e = by (last_named file name rs) refl e (last_says rs)
     where
-      first : (b : Bool) → is_named file name r ≡ b → last_named file name rs ≡ found.Nothing → cond b (found.Row 0) found.Nothing ≡ found.Row i →
+      first : (b : Bool) → is_named file name r ≡ b → last_named file name rs ≡ None → cond b (Some 0) None ≡ Some i →
           SaysLast file name (r ∷ rs) i
       first true t n e = rw (sym (row_one 0 i e)) (record { below = omega arith; named = t; behind = n })
-      first false t n e = row-nothing found.Nothing i e refl
+      first false t n e = row-nothing None i e refl
 
-      by : (f : Found) → last_named file name rs ≡ f → later f (is_named file name r) ≡ found.Row i →
-          ((j : ℕ) → last_named file name rs ≡ found.Row j → SaysLast file name rs j) → SaysLast file name (r ∷ rs) i
-      by (found.Row n) t e ih =
+      by : (f : Option ℕ) → last_named file name rs ≡ f → later f (is_named file name r) ≡ Some i →
+          ((j : ℕ) → last_named file name rs ≡ Some j → SaysLast file name rs j) → SaysLast file name (r ∷ rs) i
+      by (Some n) t e ih =
           let s = ih n t in
           rw (sym (row_one (suc n) i e)) (record { below = omega (arith, s.below); named = s.named; behind = s.behind })
-      by found.Nothing t e ih = first (is_named file name r) refl t e
+      by None t e ih = first (is_named file name r) refl t e
 
-  pub none_is : (rs : List Row) → ((j : ℕ) → j < length rs → is_named file name (row_no rs j) ≡ false) → last_named file name rs ≡ found.Nothing
+  pub none_is : (rs : List Row) → ((j : ℕ) → j < length rs → is_named file name (row_no rs j) ≡ false) → last_named file name rs ≡ None
   unfolding last_named later
   none_is [] h = refl
   none_is (r ∷ rs) h = rw (none_is rs (λ j k. h (suc j) (omega arith)), h 0 (omega arith))
 
-  pub none-says : (rs : List Row) → last_named file name rs ≡ found.Nothing → (j : ℕ) → j < length rs → is_named file name (row_no rs j) ≡ false
+  pub none-says : (rs : List Row) → last_named file name rs ≡ None → (j : ℕ) → j < length rs → is_named file name (row_no rs j) ≡ false
   unfolding last_named
   none-says [] e j h = absurd (omega arith)
   none-says (r ∷ rs) e zero h = (later-nothing (last_named file name rs) (is_named file name r) e).1
@@ -99,20 +92,20 @@ module _ (file name : List ℕ) where
         past i h = omega arith
 
     pub from_is : (i : ℕ) → from ≤ i → i < length rs → is_named file name (row_no rs i) ≡ true →
-        last_named file name (drop (suc i) rs) ≡ found.Nothing → found.Row i ≡ last_from file name rs from
+        last_named file name (drop (suc i) rs) ≡ None → Some i ≡ last_from file name rs from
     from_is i h k n e =
         let inside : i - from < length (drop from rs) = omega (arith, length-drop from rs) in
         let l = last-is (drop from rs) (i - from) inside (rw (part-row i h) n) (rw (part-rest i h) e) in
         rw (l, onward i h)
 
-    pub from-none : ((i : ℕ) → from ≤ i → SaysLast file name rs i → ⊥) → found.Nothing ≡ last_from file name rs from
+    pub from-none : ((i : ℕ) → from ≤ i → SaysLast file name rs i → ⊥) → None ≡ last_from file name rs from
     from-none u = by (last_named file name (drop from rs)) refl
       where
         back : (k : ℕ) → from + k - from ≡ k
         back k = omega arith
 
-        by : (f : Found) → last_named file name (drop from rs) ≡ f → found.Nothing ≡ counted from f
-        by (found.Row k) t =
+        by : (f : Option ℕ) → last_named file name (drop from rs) ≡ f → None ≡ counted from f
+        by (Some k) t =
             let s = last_says (drop from rs) k t in
             let h : from ≤ from + k = omega arith in
             let z = back k in
@@ -121,28 +114,28 @@ module _ (file name : List ℕ) where
               named = rw (← part-row (from + k) h, z) s.named;
               behind = rw (← part-rest (from + k) h, z) s.behind;
             }))
-        by found.Nothing t = refl
+        by None t = refl
 
-  pub from_nothing : (rs : List Row) (i : ℕ) → found.Nothing ≡ last_from file name rs i → last_named file name (drop i rs) ≡ found.Nothing
+  pub from_nothing : (rs : List Row) (i : ℕ) → None ≡ last_from file name rs i → last_named file name (drop i rs) ≡ None
   from_nothing rs i e = by (last_named file name (drop i rs)) e
     where
-      by : (f : Found) → found.Nothing ≡ counted i f → f ≡ found.Nothing
-      by (found.Row k) e = row-nothing found.Nothing (i + k) e refl
-      by found.Nothing e = refl
+      by : (f : Option ℕ) → None ≡ counted i f → f ≡ None
+      by (Some k) e = row-nothing None (i + k) e refl
+      by None e = refl
 
-  pub from_row : (rs : List Row) (i k : ℕ) → found.Row k ≡ last_from file name rs i → last_named file name (drop i rs) ≡ found.Row (k - i)
+  pub from_row : (rs : List Row) (i k : ℕ) → Some k ≡ last_from file name rs i → last_named file name (drop i rs) ≡ Some (k - i)
   from_row rs i k e = by (last_named file name (drop i rs)) e
     where
-      by : (f : Found) → found.Row k ≡ counted i f → f ≡ found.Row (k - i)
-      by (found.Row m) e = let z : k ≡ i + m = row_one k (i + m) e in ap found.Row (omega arith)
-      by found.Nothing e = row-nothing (found.Row k) k refl e
+      by : (f : Option ℕ) → Some k ≡ counted i f → f ≡ Some (k - i)
+      by (Some m) e = let z : k ≡ i + m = row_one k (i + m) e in ap Some (omega arith)
+      by None e = row-nothing (Some k) k refl e
 
   pub from_first : (rs : List Row) → last_from file name rs 0 ≡ last_named file name rs
   from_first rs = by (last_named file name rs)
     where
-      by : (f : Found) → counted 0 f ≡ f
-      by (found.Row n) = ap found.Row (same n)
+      by : (f : Option ℕ) → counted 0 f ≡ f
+      by (Some n) = ap Some (same n)
         where
           same : (n : ℕ) → 0 + n ≡ n
           same n = omega arith
-      by found.Nothing = refl
+      by None = refl

@@ -3,13 +3,7 @@
 --     kind-by, name_by        its kind, and its name
 --     named-not, named-if     whether it is a definition of a name, by what the code tests
 -- Assumes nothing.
-use Prim.Native.Nat.{ℕ, zero, suc, ◌+◌, ◌*◌, ◌/◌, ◌≤◌, ◌<◌}
-use native.Mathlib.Omega.{arith}
-use mathlib.Core.Path.{◌≡◌, ap, ◌∙◌}
-use mathlib.Core.Bool.{Bool, false}
-use mathlib.Core.List.{List}
-use lib.ListN.{length, get_or, drop}
-use borrow.Author.Tests.{eq-eqb, ne_eqb}
+use Rattle.std.proofs.Common.{ℕ, zero, suc, ◌+◌, ◌*◌, ◌/◌, ◌≤◌, ◌<◌, arith, ◌≡◌, ap, ◌∙◌, Bool, false, List, length, get_or, drop, eq-eqb, ne_eqb}
 use Rattle.text.specs.Scan.{part}
 use Rattle.row.specs.Row.{Row}
 use Rattle.row.specs.Numbers.{rows_of}

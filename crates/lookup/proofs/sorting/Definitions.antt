@@ -4,14 +4,9 @@
 --     definition-in, in-definitions         `definitions` has exactly the numbers of the definition rows
 --     definitions-length                    there are no more definitions than rows
 -- Assumes nothing.
-use Prim.Native.Nat.{ℕ, zero, suc, ◌+◌, ◌≤◌, ◌<◌}
-use native.Mathlib.Omega.{arith}
-use native.Mathlib.Nat.{eq-or-lt_of_le}
-use mathlib.Core.Path.{◌≡◌, refl, sym, ap, ◌∙◌}
-use mathlib.Core.Bool.{Bool, true, false, cond, false≢true}
-use mathlib.Core.List.{List, ◌∷◌}
-use mathlib.Core.Logic.{◌⊎◌, inl, inr}
-use lib.ListN.{length}
+use Rattle.std.proofs.Common.{ℕ, zero, suc, ◌+◌, ◌≤◌, ◌<◌, arith, eq-or-lt_of_le, ◌≡◌, refl, sym, ap, ◌∙◌, Bool, true, false, cond, List, ◌∷◌, ◌⊎◌}
+use Rattle.std.proofs.Common.{inl, inr, length}
+use Rattle.std.proofs.lemmas.Bool.{false≢true}
 use Rattle.row.specs.Row.{Row}
 use Rattle.lookup.specs.Buckets.{rising}
 use Rattle.lookup.specs.Order.{is_definition, definitions}

@@ -7,16 +7,9 @@
 -- Then by an order that is total and transitive:
 --     merged-sorted, sorted-sorted    two sorted lists merged are sorted, and `sorted` sorts
 -- Assumes nothing.
-use Prim.Native.Nat.{ℕ, zero, suc, ◌+◌, ◌/◌, ◌^◌, ◌≤◌, ◌<◌}
-use native.Mathlib.Omega.{arith}
-use native.Mathlib.Nat.{two-pow-succ}
-use mathlib.Core.Path.{◌≡◌, refl, sym}
-use mathlib.Core.Bool.{Bool, true, false, cond}
-use mathlib.Core.List.{List, [], ◌∷◌}
-use mathlib.Core.Logic.{◌⊎◌, inl, inr, ⊎_elim}
-use lib.ListN.{length, get_or, take, drop, length-take, length-drop}
-use lib.Dec.{ltb}
-use borrow.Author.Tests.{ltb-true}
+use Rattle.std.proofs.Common.{ℕ, zero, suc, ◌+◌, ◌/◌, ◌^◌, ◌≤◌, ◌<◌, arith, ◌≡◌, refl, sym, Bool, true, false, cond, List, [], ◌∷◌, ◌⊎◌, inl, inr}
+use Rattle.std.proofs.Common.{⊎_elim, length, get_or, take, drop, length-take, length-drop, ltb, ltb-true}
+use Rattle.std.proofs.Math.Nat.{two-pow-succ}
 use Rattle.lookup.specs.Order.{merged, merged_at, sorted}
 
 -- ---- what is in a list

@@ -8,14 +8,7 @@
 --     spans-of-ends                     rows that were unpacked, and pass the test of unpacking, pass that of packing
 --     flat-packable                     the numbers of rows that keep the rules, with spans of a file, are packable
 -- Assumes nothing.
-use Prim.Native.Nat.{ℕ, ◌+◌, ◌%◌, ◌≤◌}
-use native.Mathlib.Omega.{arith}
-use mathlib.Core.Path.{◌≡◌, refl}
-use mathlib.Core.Bool.{true, ◌&&◌}
-use mathlib.Core.List.{List, [], ◌∷◌}
-use lib.ListN.{length, drop}
-use lib.Dec.{eqb, leb}
-use borrow.Author.Tests.{leb-true, le-leb, eqb-true}
+use Rattle.std.proofs.Common.{ℕ, ◌+◌, ◌%◌, ◌≤◌, arith, ◌≡◌, refl, true, ◌&&◌, List, [], ◌∷◌, length, drop, eqb, leb, leb-true, le-leb, eqb-true}
 use Rattle.text.proofs.general.Tests.{both_true}
 use Rattle.text.specs.Every.{every}
 use Rattle.row.specs.Row.{Row, flat}

@@ -2,11 +2,7 @@
 --     packing-length, packs-back        rows that seven bytes hold come back when they are packed and unpacked
 --     unpacks-back                      bytes whose number is a multiple of seven come back when they are unpacked and packed
 -- Assumes nothing.
-use Prim.Native.Nat.{ℕ, ◌+◌, ◌-◌, ◌*◌, ◌/◌, ◌%◌, ◌≤◌}
-use native.Mathlib.Omega.{arith}
-use mathlib.Core.Path.{◌≡◌, refl, ap, ap₂, ◌∙◌}
-use mathlib.Core.List.{List, [], ◌∷◌, ◌++◌}
-use lib.ListN.{length}
+use Rattle.std.proofs.Common.{ℕ, ◌+◌, ◌-◌, ◌*◌, ◌/◌, ◌%◌, ◌≤◌, arith, ◌≡◌, refl, ap, ap₂, ◌∙◌, List, [], ◌∷◌, ◌++◌, length}
 use Rattle.row.specs.Row.{Row}
 use Rattle.row.specs.Limits.{most_bytes}
 use Rattle.pack.specs.Digits.{digits, AllBelow, Bytes, three_bytes, of_bytes}

@@ -3,11 +3,7 @@
 --     unpacking-length            how many rows a list of bytes is
 --     seven_is                    the seven bytes of a row, one by one
 -- Assumes nothing.
-use Prim.Native.Nat.{ℕ, ◌+◌, ◌-◌, ◌*◌, ◌/◌, ◌%◌, ◌≤◌, ◌<◌}
-use native.Mathlib.Omega.{arith}
-use mathlib.Core.Path.{◌≡◌, refl}
-use mathlib.Core.List.{List, [], ◌∷◌}
-use lib.ListN.{length, get_or, drop, length-drop}
+use Rattle.std.proofs.Common.{ℕ, ◌+◌, ◌-◌, ◌*◌, ◌/◌, ◌%◌, ◌≤◌, ◌<◌, arith, ◌≡◌, refl, List, [], ◌∷◌, length, get_or, drop, length-drop}
 use Rattle.text.proofs.general.Places.{drop-next, drop_more}
 use Rattle.row.specs.Row.{Row}
 use Rattle.pack.specs.Digits.{digits}

@@ -4,12 +4,8 @@
 --     four-count, four-start           the loop over numbers, four to a row: their number is refused, or the loop begins
 --     seven-count, seven-start         the loop over bytes, seven to a row: their number is refused, or the loop begins
 -- Assumes nothing.
-use Prim.Native.Nat.{ℕ, ◌%◌}
-use mathlib.Core.Path.{◌≡◌, sym, ap, ◌∙◌}
-use mathlib.Core.Bool.{Bool, true, false, ◌&&◌, and-true, and-false}
-use mathlib.Core.List.{List, [], ◌∷◌}
-use lib.ListN.{length}
-use borrow.Author.Tests.{ne_eqb}
+use Rattle.std.proofs.Common.{ℕ, ◌%◌, ◌≡◌, sym, ap, ◌∙◌, Bool, true, false, ◌&&◌, List, [], ◌∷◌, length, ne_eqb}
+use mathlib.Core.Bool.{and-true, and-false}
 use Rattle.text.specs.Every.{every}
 use Rattle.row.specs.declared.mask.Masks.{Masks}
 use Rattle.row.specs.Row.{Row}

@@ -3,12 +3,9 @@
 --     WrittenTo                    the front of the list stands in the lent one, and the rest is still to come
 --     at_first, go_on, at_last     before the first piece, after one more, and after the last
 -- Assumes nothing.
-use Prim.Native.Nat.{ℕ, suc, ◌+◌, ◌≤◌}
-use native.Mathlib.Omega.{arith}
-use mathlib.Core.Path.{◌≡◌, refl, sym, ap, ap₂, ◌∙◌}
-use mathlib.Core.List.{List, [], ◌∷◌, ◌++◌, append_assoc, append-nil}
-use lib.ListN.{length, set, take, drop, length-append}
-use lib.Seq.{sets-eq, take_at, drop-append-add, drop-drop}
+use Rattle.std.proofs.Common.{ℕ, suc, ◌+◌, ◌≤◌, arith, ◌≡◌, refl, sym, ap, ap₂, ◌∙◌, List, [], ◌∷◌, ◌++◌, append_assoc, append-nil, length, set, take, drop, length-append}
+use Rattle.std.proofs.Common.{take_at, drop-drop}
+use lib.Seq.{sets-eq, drop-append-add}
 
 module _ (l : List ℕ) (i a b c d e f g : ℕ) (h : i + 7 ≤ length l) where
   pub set-seven :

@@ -3,17 +3,9 @@
 --     refused-of                        what is known of a refusal by the grammar
 --     culprit-order, culprit-of         its widened place is in the text, and is over its culprit
 -- Assumes nothing.
-use Prim.Native.Nat.{ℕ, ◌≤◌, ◌<◌}
-use native.Mathlib.Omega.{arith}
-use mathlib.Core.Path.{◌≡◌, refl, ap, ◌∙◌, subst}
-use mathlib.Core.Logic.{◌↔◌}
-use mathlib.Core.Bool.{true}
-use mathlib.Core.List.{List}
-use lib.ListN.{length}
+use Rattle.std.proofs.Common.{Option, Some, None, ℕ, ◌≤◌, ◌<◌, arith, ◌≡◌, refl, ap, ◌∙◌, subst, ◌↔◌, true, List, length}
 use Rattle.text.specs.Utf8.{Octets, decode_at, is_boundary}
 use Rattle.text.specs.Scan.{see, next_of, Inside}
-use Rattle.text.specs.declared.scanner.Seen.{Seen}
-use Rattle.text.specs.declared.scanner.Seen.TheVariants.{End, Char}
 use Rattle.text.specs.declared.utf8.Decoded.TheVariants as decoded
 use Rattle.text.proofs.Seeing.{seeing}
 use Rattle.text.proofs.Boundaries.{boundaries}
@@ -33,39 +25,39 @@ use Rattle.raw.proofs.grammar.Files.{file-laws}
 module _ (s : List ℕ) where
   pub underlined-ok : (o : Out) {q : ℕ} {rs : List Row} → underlined s o ≡ ok q rs → o ≡ ok q rs
   underlined-ok (ok q rs) e = e
-  underlined-ok (again q rs a) e = let z : ◌≡◌ {A = ℕ} 0 1 = cc in absurd (omega arith)
-  underlined-ok (bad f) e = let z : ◌≡◌ {A = ℕ} 0 1 = cc in absurd (omega arith)
+  underlined-ok (again q rs a) e = cc
+  underlined-ok (bad f) e = cc
 
   pub underlined-again : (o : Out) {q a : ℕ} {rs : List Row} → underlined s o ≡ again q rs a → o ≡ again q rs a
-  underlined-again (ok q rs) e = let z : ◌≡◌ {A = ℕ} 0 1 = cc in absurd (omega arith)
+  underlined-again (ok q rs) e = cc
   underlined-again (again q rs a) e = e
-  underlined-again (bad f) e = let z : ◌≡◌ {A = ℕ} 0 1 = cc in absurd (omega arith)
+  underlined-again (bad f) e = cc
 
   pub underlined-bad : (o : Out) {f : Fault} → underlined s o ≡ bad f → (g : Fault) × (o ≡ bad g) × (culprit s g ≡ f)
-  underlined-bad (ok q rs) e = let z : ◌≡◌ {A = ℕ} 0 1 = cc in absurd (omega arith)
-  underlined-bad (again q rs a) e = let z : ◌≡◌ {A = ℕ} 0 1 = cc in absurd (omega arith)
+  underlined-bad (ok q rs) e = cc
+  underlined-bad (again q rs a) e = cc
   underlined-bad (bad g) e = (g, refl, cc)
 
 -- ---- by what is seen at p
 
 module _ (s : List ℕ) (p : ℕ) where
   -- the character ends in the text, and nothing is seen at its end only
-  seen-order : p ≤ length s → (x : Seen) → Inside s p x → (p ≤ next_of p x) × (next_of p x ≤ length s)
-  seen-order h End i = (omega arith, h)
-  seen-order h (Char c n) i = (omega arith, omega arith)
+  seen-order : p ≤ length s → (x : Option (ℕ × ℕ)) → Inside s p x → (p ≤ next_of p x) × (next_of p x ≤ length s)
+  seen-order h None i = (omega arith, h)
+  seen-order h (Some (c, n)) i = (omega arith, omega arith)
 
-  seen-empty : p ≤ length s → (x : Seen) → Inside s p x → (next_of p x ≡ p) ↔ (p ≡ length s)
-  seen-empty h End i = (λ e. omega arith, λ e. refl)
-  seen-empty h (Char c n) i = (λ e. absurd (omega arith), λ e. absurd (omega arith))
+  seen-empty : p ≤ length s → (x : Option (ℕ × ℕ)) → Inside s p x → (next_of p x ≡ p) ↔ (p ≡ length s)
+  seen-empty h None i = (λ e. omega arith, λ e. refl)
+  seen-empty h (Some (c, n)) i = (λ e. absurd (omega arith), λ e. absurd (omega arith))
 
   module _ (o : Octets s) (b : is_boundary s p ≡ true) where
-    seen-ends : (x : Seen) → see s p ≡ x → is_boundary s (next_of p x) ≡ true
-    seen-ends End e = b
-    seen-ends (Char c n) e = (boundaries.sees s p c n o b e).1
+    seen-ends : (x : Option (ℕ × ℕ)) → see s p ≡ x → is_boundary s (next_of p x) ≡ true
+    seen-ends None e = b
+    seen-ends (Some (c, n)) e = (boundaries.sees s p c n o b e).1
 
-    seen-whole : (x : Seen) → see s p ≡ x → Inside s p x → p < length s → (c : ℕ) × (decode_at s p ≡ decoded.Char c (next_of p x))
-    seen-whole End e i h = absurd (omega arith)
-    seen-whole (Char c n) e i h = (c, (boundaries.sees s p c n o b e).0)
+    seen-whole : (x : Option (ℕ × ℕ)) → see s p ≡ x → Inside s p x → p < length s → (c : ℕ) × (decode_at s p ≡ decoded.Char c (next_of p x))
+    seen-whole None e i h = absurd (omega arith)
+    seen-whole (Some (c, n)) e i h = (c, (boundaries.sees s p c n o b e).0)
 
 -- ---- a refusal of the grammar
 

@@ -4,16 +4,9 @@
 --     more-early, chain-early, under-early, loop-early     of answers that are put together
 --     eaten-else, any-early, no_value     where no character of a class is seen
 -- Assumes nothing.
-use Prim.Native.Nat.{ℕ, zero, suc, ◌+◌, ◌≤◌}
-use native.Mathlib.Omega.{arith}
-use mathlib.Core.Path.{◌≡◌, refl}
-use mathlib.Core.Bool.{Bool, true, false, cond}
-use mathlib.Core.List.{List}
-use lib.ListN.{length}
+use Rattle.std.proofs.Common.{Option, Some, None, ℕ, zero, suc, ◌+◌, ◌≤◌, arith, ◌≡◌, refl, Bool, true, false, cond, List, length}
 use Rattle.text.specs.Class.{is_id_start, holds_of}
 use Rattle.text.specs.Scan.{see}
-use Rattle.text.specs.declared.scanner.Seen.{Seen}
-use Rattle.text.specs.declared.scanner.Seen.TheVariants.{End, Char}
 use Rattle.text.specs.declared.class.Test.TheVariants as test
 use Rattle.text.proofs.Seeing.{seeing}
 use Rattle.row.specs.declared.fault.Reason.TheVariants.{UnexpectedEof}
@@ -51,28 +44,28 @@ module _ (s : List ℕ) where
 -- ---- by what is seen
 
 -- a character of class t is seen
-abbrev pub hits : (ℕ → Bool) → Seen → Bool
-hits t End = false
-hits t (Char c n) = t c
+abbrev pub hits : (ℕ → Bool) → Option (ℕ × ℕ) → Bool
+hits t None = false
+hits t (Some (c, n)) = t c
 
 -- P holds of `eaten t x f o` if it holds of what f answers, and of o where no character of class t is seen
-pub eaten-else : (P : Out → Type 0) (t : ℕ → Bool) (x : Seen) (f : ℕ → Out) (o : Out) → ((n : ℕ) → P (f n)) → (hits t x ≡ false → P o)
+pub eaten-else : (P : Out → Type 0) (t : ℕ → Bool) (x : Option (ℕ × ℕ)) (f : ℕ → Out) (o : Out) → ((n : ℕ) → P (f n)) → (hits t x ≡ false → P o)
     → P (eaten t x f o)
-eaten-else P t End f o F G = G refl
-eaten-else P t (Char c n) f o F G = by (t c) refl
+eaten-else P t None f o F G = G refl
+eaten-else P t (Some (c, n)) f o F G = by (t c) refl
   where
     by : (b : Bool) → t c ≡ b → P (cond b (f n) o)
     by true e = F n
     by false e = G e
 
-none-begins : (x : Seen) → hits any x ≡ false → begins_value x ≡ false
-none-begins End e = refl
-none-begins (Char c n) e = let z : ◌≡◌ {A = ℕ} 0 1 = cc in absurd (omega arith)
+none-begins : (x : Option (ℕ × ℕ)) → hits any x ≡ false → begins_value x ≡ false
+none-begins None e = refl
+none-begins (Some (c, n)) e = cc
 
-pub no_value : (x : Seen) → hits (holds_of test.Digit) x ≡ false → hits is_id_start x ≡ false → hits (is 0x7B) x ≡ false
+pub no_value : (x : Option (ℕ × ℕ)) → hits (holds_of test.Digit) x ≡ false → hits is_id_start x ≡ false → hits (is 0x7B) x ≡ false
     → hits (is 0x22) x ≡ false → begins_value x ≡ false
-no_value End d i b q = refl
-no_value (Char c n) d i b q = rw (d, i, b, q)
+no_value None d i b q = refl
+no_value (Some (c, n)) d i b q = rw (d, i, b, q)
 
 pub any-early : (s : List ℕ) (p : ℕ) (f : ℕ → Out) → ((n : ℕ) → EarlyOut s (f n)) → EarlyOut s (eaten any (see s p) f (bad (fault_at UnexpectedEof p)))
 any-early s p f F = eaten-else (EarlyOut s) any (see s p) f (bad (fault_at UnexpectedEof p)) F (λ e x. none-begins (see s p) e)

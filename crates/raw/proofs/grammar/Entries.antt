@@ -2,11 +2,7 @@
 --     named, typed                an entry from behind its type on, and from its type on
 --     entry_kept, entry-laws      an entry's own text decides what is read of it, because its last character closes it
 -- Assumes nothing.
-use Prim.Native.Nat.{ℕ, suc, ◌+◌}
-use native.Mathlib.Omega.{arith}
-use mathlib.Core.Path.{◌≡◌, refl, sym, subst}
-use mathlib.Core.List.{List, ◌++◌}
-use lib.ListN.{length}
+use Rattle.std.proofs.Common.{ℕ, suc, ◌+◌, arith, ◌≡◌, refl, sym, subst, List, ◌++◌, length}
 use Rattle.row.specs.declared.form.Kind.TheVariants as kind
 use Rattle.row.specs.Row.{plain}
 use Rattle.row.specs.Rules as awaits

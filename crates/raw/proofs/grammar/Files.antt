@@ -3,16 +3,9 @@
 --     file-rules, file-few        the rows pass the row rules, and are at most as many as the bytes
 --     file-early                  where a file is refused with 3, no value begins
 -- Assumes nothing.
-use Prim.Native.Nat.{ℕ, suc, ◌+◌, ◌≤◌}
-use native.Mathlib.Omega.{arith}
-use mathlib.Core.Path.{◌≡◌, refl, subst}
-use mathlib.Core.Bool.{Bool, true, false, cond}
-use mathlib.Core.List.{List}
-use lib.ListN.{length}
+use Rattle.std.proofs.Common.{Option, Some, None, ℕ, suc, ◌+◌, ◌≤◌, arith, ◌≡◌, refl, subst, Bool, true, false, cond, List, length}
 use Rattle.text.specs.Class.{holds_of}
 use Rattle.text.specs.Scan.{see, fails}
-use Rattle.text.specs.declared.scanner.Seen.{Seen}
-use Rattle.text.specs.declared.scanner.Seen.TheVariants.{End, Char}
 use Rattle.text.specs.declared.class.Test.TheVariants as test
 use Rattle.row.specs.declared.fault.Fault.{Fault}
 use Rattle.row.specs.Fault.{number_of}
@@ -37,9 +30,9 @@ use Rattle.raw.proofs.grammar.Readers.{from_start, white-laws}
 seen-eaten : (c : ℕ → Bool) (f g h k : Reader) (s : List ℕ) (p : ℕ) → when c (f then h) k s p ≡ sees c (when c f g then h) k s p
 seen-eaten c f g h k s p = by (see s p)
   where
-    by : (x : Seen) → eaten c x (λ n. and_then (f s n) (h s)) (k s p) ≡ eaten c x (λ n. and_then (eaten c x (f s) (g s p)) (h s)) (k s p)
-    by End = refl
-    by (Char d n) = on (c d)
+    by : (x : Option (ℕ × ℕ)) → eaten c x (λ n. and_then (f s n) (h s)) (k s p) ≡ eaten c x (λ n. and_then (eaten c x (f s) (g s p)) (h s)) (k s p)
+    by None = refl
+    by (Some (d, n)) = on (c d)
       where
         on : (b : Bool) → cond b (and_then (f s n) (h s)) (k s p) ≡ cond b (and_then (cond b (f s n) (g s p)) (h s)) (k s p)
         on true = refl

@@ -4,11 +4,7 @@
 --     from_start                                                  the laws of a reader, where it does not matter from which point
 --     quoted-turn-kept, number-turn-kept, braced-turn-kept        what the turns of the loops over bytes keep
 -- Assumes nothing.
-use Prim.Native.Nat.{ℕ, zero, suc}
-use native.Mathlib.Omega.{arith}
-use mathlib.Core.Path.{◌≡◌, refl}
-use mathlib.Core.Bool.{Bool, true, false, ◌||◌}
-use lib.Dec.{eqb}
+use Rattle.std.proofs.Common.{ℕ, zero, suc, arith, ◌≡◌, refl, Bool, true, false, ◌||◌, eqb}
 use Rattle.text.specs.Class.{is_whitespace, is_key, is_id_start, is_id_continue, holds_of}
 use Rattle.text.specs.Scan.{fails}
 use Rattle.text.specs.declared.class.Test.TheVariants as test

@@ -3,10 +3,7 @@
 --     Is, AwaitsElement, AwaitsItem      what is awaited
 --     x-takes                            a row of the kind x, from what is awaited before it to what is awaited after it
 -- Assumes nothing.
-use Prim.Native.Nat.{ℕ}
-use mathlib.Core.Path.{◌≡◌, refl}
-use mathlib.Core.Bool.{Bool, true, false}
-use mathlib.Core.List.{[]}
+use Rattle.std.proofs.Common.{ℕ, ◌≡◌, refl, Bool, true, false, []}
 use Rattle.row.specs.declared.form.Kind.{Kind}
 use Rattle.row.specs.declared.form.Kind.TheVariants as kind
 use Rattle.row.specs.Row.{Row, plain, kind_of}

@@ -4,13 +4,8 @@
 --     rowless                       a reader that has the laws from any point has such an answer
 --     x-rowless                     the readers for which the code answers a step
 -- Assumes nothing.
-use Prim.Native.Nat.{ℕ}
-use mathlib.Core.Path.{◌≡◌, refl, sym, ap, ◌∙◌, subst}
-use mathlib.Core.List.{List, [], ◌++◌, append-nil, append_assoc}
-use native.Mathlib.Omega.{arith}
+use Rattle.std.proofs.Common.{Ok, Err, ℕ, ◌≡◌, refl, sym, ap, subst, List, [], ◌++◌, append-nil, append_assoc}
 use Rattle.row.specs.declared.fault.Fault.{Fault}
-use Rattle.raw.specs.declared.answer.Step.{Step}
-use Rattle.raw.specs.declared.answer.Step.TheVariants as step
 use Rattle.raw.specs.Reader.{Out, ok, again, bad, Reader}
 use Rattle.raw.specs.Says.{step_of}
 use Rattle.row.specs.Row.{Row}
@@ -26,20 +21,14 @@ pub data Rowless : Out → Type 0 where
 
 -- ---- by the step that the code answered
 
-at-not-refused : {q : ℕ} {f : Fault} → step.At q ≡ step.Refused f → ⊥
-at-not-refused h = let z : ◌≡◌ {A = ℕ} 0 1 = cc in absurd (omega arith)
+pub rowless-at : {o : Out} {q : ℕ} → Rowless o → Ok q ≡ step_of o → o ≡ ok q []
+rowless-at {q = q} (rowless-ok {q = p}) e = let d : p ≡ q = cc in ap (λ (x : ℕ). ok x []) d
+rowless-at rowless-bad e = cc
 
-pub rowless-at : {o : Out} {r : Step} {q : ℕ} → Rowless o → r ≡ step_of o → r ≡ step.At q → o ≡ ok q []
-rowless-at {q = q} (rowless-ok {q = p}) e h = let d : p ≡ q = cc in ap (λ (x : ℕ). ok x []) d
-rowless-at rowless-bad e h = absurd (at-not-refused (sym h ∙ e))
-
-off-was : (o : Out) {f : Fault} → step.Refused f ≡ step_of o → o ≡ bad f
-off-was (ok p rs) h = absurd (at-not-refused (sym h))
-off-was (again p rs a) h = absurd (at-not-refused (sym h))
-off-was (bad g) {f} h = let e : g ≡ f = cc in ap bad e
-
-pub rowless-off : (o : Out) {r : Step} {f : Fault} → r ≡ step_of o → r ≡ step.Refused f → o ≡ bad f
-rowless-off o e p = off-was o (sym p ∙ e)
+pub rowless-off : (o : Out) {f : Fault} → Err f ≡ step_of o → o ≡ bad f
+rowless-off (ok p rs) e = cc
+rowless-off (again p rs a) e = cc
+rowless-off (bad g) e = cc
 
 -- ---- a reader without rows
 

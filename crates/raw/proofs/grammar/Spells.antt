@@ -2,44 +2,37 @@
 --     form-same     two texts that show the same from a to e have the same form there
 --     form-up       behind another text the form is the same, at places moved
 -- Assumes nothing.
-use Prim.Native.Nat.{ℕ, ◌+◌}
-use native.Mathlib.Omega.{arith}
-use mathlib.Core.Path.{◌≡◌, refl, sym, ap, ◌∙◌}
-use mathlib.Core.Bool.{Bool, true, false, cond, ◌&&◌}
-use mathlib.Core.List.{List, [], ◌∷◌, ◌++◌}
-use lib.ListN.{length}
-use lib.Dec.{eqb, ltb}
-use borrow.Author.Tests.{ltb-true, ltb-false, eqb-true, eqb-false, lt-ltb, le-ltb, eq-eqb, ne_eqb}
+use Rattle.std.proofs.Common.{Option, Some, None, ℕ, ◌+◌, arith, ◌≡◌, refl, sym, ap, ◌∙◌, Bool, true, false, cond, ◌&&◌, List, [], ◌∷◌, ◌++◌, length, eqb, ltb, ltb-true}
+use Rattle.std.proofs.Common.{ltb-false, eqb-true, lt-ltb, le-ltb, eq-eqb, ne_eqb}
+use borrow.Author.Tests.{eqb-false}
 use Rattle.text.specs.Scan.{see}
-use Rattle.text.specs.declared.scanner.Seen.{Seen}
-use Rattle.text.specs.declared.scanner.Seen.TheVariants.{End, Char}
 use Rattle.text.proofs.Seeing.{seeing}
 use Rattle.text.specs.Seeing.{seen_up}
 use Rattle.raw.specs.Grammar.{lower, spells, form_of}
 use Rattle.raw.specs.Strict.{ShowsSame}
 
 -- the character seen is w, and f passes at the place behind it
-abbrev led : ℕ → (ℕ → Bool) → Seen → Bool
-led w f End = false
-led w f (Char c n) = eqb (lower c) w && f n
+abbrev led : ℕ → (ℕ → Bool) → Option (ℕ × ℕ) → Bool
+led w f None = false
+led w f (Some (c, n)) = eqb (lower c) w && f n
 
 spells-by : (w : ℕ) (word s : List ℕ) (a e : ℕ) → spells (w ∷ word) s a e ≡ cond (ltb a e) (led w (λ n. spells word s n e) (see s a)) false
 unfolding spells
 spells-by w word s a e = by (see s a)
   where
-    by : (x : Seen)
-        → cond (ltb a e) (elim x [ End ↦ false | Char c n ↦ eqb (lower c) w && spells word s n e ]) false
+    by : (x : Option (ℕ × ℕ))
+        → cond (ltb a e) (elim x [ None ↦ false | Some (c, n) ↦ eqb (lower c) w && spells word s n e ]) false
         ≡ cond (ltb a e) (led w (λ n. spells word s n e) x) false
-    by End = refl
-    by (Char c n) = refl
+    by None = refl
+    by (Some (c, n)) = refl
 
-led-same : (w : ℕ) (f g : ℕ → Bool) (x : Seen) → ((c n : ℕ) → x ≡ Char c n → f n ≡ g n) → led w f x ≡ led w g x
-led-same w f g End h = refl
-led-same w f g (Char c n) h = ap (λ (b : Bool). eqb (lower c) w && b) (h c n refl)
+led-same : (w : ℕ) (f g : ℕ → Bool) (x : Option (ℕ × ℕ)) → ((c n : ℕ) → x ≡ Some (c, n) → f n ≡ g n) → led w f x ≡ led w g x
+led-same w f g None h = refl
+led-same w f g (Some (c, n)) h = ap (λ (b : Bool). eqb (lower c) w && b) (h c n refl)
 
-led-up : (w d : ℕ) (f g : ℕ → Bool) (x : Seen) → ((n : ℕ) → g (n + d) ≡ f n) → led w g (seen_up d x) ≡ led w f x
-led-up w d f g End h = refl
-led-up w d f g (Char c n) h = ap (λ (b : Bool). eqb (lower c) w && b) (h n)
+led-up : (w d : ℕ) (f g : ℕ → Bool) (x : Option (ℕ × ℕ)) → ((n : ℕ) → g (n + d) ≡ f n) → led w g (seen_up d x) ≡ led w f x
+led-up w d f g None h = refl
+led-up w d f g (Some (c, n)) h = ap (λ (b : Bool). eqb (lower c) w && b) (h n)
 
 spells-same : (word s t : List ℕ) (a e : ℕ) → ShowsSame s t a e → spells word t a e ≡ spells word s a e
 unfolding spells

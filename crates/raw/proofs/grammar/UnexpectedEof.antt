@@ -2,11 +2,7 @@
 --     when-any, sees-any      a reader that goes on at any character, which it eats or not, and refuses at the end of the text
 --     value-laws              a reader that goes on where a value begins, and refuses where none does
 -- Assumes nothing.
-use native.Mathlib.Omega.{arith}
-use Prim.Native.Nat.{ℕ}
-use mathlib.Core.Path.{◌≡◌, refl}
-use mathlib.Core.Bool.{false}
-use mathlib.Core.List.{List}
+use Rattle.std.proofs.Common.{arith, ℕ, ◌≡◌, refl, false, List}
 use Rattle.text.specs.Class.{is_id_start, holds_of}
 use Rattle.text.specs.Scan.{see}
 use Rattle.text.specs.declared.class.Test.TheVariants as test

@@ -6,15 +6,8 @@
 --     eaten-both, eaten-holds                           what holds of both cases of `eaten` holds of it
 --     when-kept, sees-kept                              readers that look at a character
 -- Assumes nothing.
-use Prim.Native.Nat.{ℕ, suc, ◌+◌, ◌≤◌, ◌<◌, max}
-use native.Mathlib.Omega.{arith}
-use mathlib.Core.Path.{◌≡◌, refl}
-use mathlib.Core.Bool.{Bool, true, false, cond}
-use mathlib.Core.List.{List}
-use lib.ListN.{length}
+use Rattle.std.proofs.Common.{Option, Some, None, ℕ, suc, ◌+◌, ◌≤◌, ◌<◌, max, arith, ◌≡◌, refl, Bool, true, false, cond, List, length}
 use Rattle.text.specs.Scan.{see}
-use Rattle.text.specs.declared.scanner.Seen.{Seen}
-use Rattle.text.specs.declared.scanner.Seen.TheVariants.{End, Char}
 use Rattle.text.proofs.Seeing.{seeing}
 use Rattle.row.specs.Row.{Mark}
 use Rattle.row.specs.declared.fault.Reason.{Reason}
@@ -67,18 +60,18 @@ kept-weaker {v = v} {w} {v' = v'} {w'} {f = f} F m =
 -- ---- by what is seen
 
 -- R holds of `eaten` if it holds in both cases, where a character of class c is seen and where none is
-pub eaten-both : {P : Type 0} (R : OutOf P → OutOf P → Type 0) (c : ℕ → Bool) (x : Seen) (f f' : ℕ → OutOf P) (o o' : OutOf P)
-    → ((k n : ℕ) → x ≡ Char k n → R (f n) (f' n)) → R o o'
+pub eaten-both : {P : Type 0} (R : OutOf P → OutOf P → Type 0) (c : ℕ → Bool) (x : Option (ℕ × ℕ)) (f f' : ℕ → OutOf P) (o o' : OutOf P)
+    → ((k n : ℕ) → x ≡ Some (k, n) → R (f n) (f' n)) → R o o'
     → R (eaten c x f o) (eaten c x f' o')
-eaten-both R c End f f' o o' h i = i
-eaten-both R c (Char k n) f f' o o' h i = by (c k)
+eaten-both R c None f f' o o' h i = i
+eaten-both R c (Some (k, n)) f f' o o' h i = by (c k)
   where
     by : (b : Bool) → R (cond b (f n) o) (cond b (f' n) o')
     by true = h k n refl
     by false = i
 
-pub eaten-holds : {P : Type 0} (R : OutOf P → Type 0) (c : ℕ → Bool) (x : Seen) (f : ℕ → OutOf P) (o : OutOf P)
-    → ((k n : ℕ) → x ≡ Char k n → R (f n)) → R o → R (eaten c x f o)
+pub eaten-holds : {P : Type 0} (R : OutOf P → Type 0) (c : ℕ → Bool) (x : Option (ℕ × ℕ)) (f : ℕ → OutOf P) (o : OutOf P)
+    → ((k n : ℕ) → x ≡ Some (k, n) → R (f n)) → R o → R (eaten c x f o)
 eaten-holds R c x f o h i = eaten-both (λ o o'. R o) c x f f o o h i
 
 -- the least place of an answer that advances

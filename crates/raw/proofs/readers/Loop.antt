@@ -5,11 +5,7 @@
 --                                less of the turns
 --     many-kept, loop-traced     a loop keeps to what its turns keep to, and its rows stand over what it ate
 -- Assumes nothing.
-use Prim.Native.Nat.{ℕ, zero, suc, ◌+◌, ◌≤◌, ◌<◌}
-use native.Mathlib.Omega.{arith}
-use mathlib.Core.Path.{◌≡◌, refl, sym, ap, ◌∙◌, subst}
-use mathlib.Core.List.{List}
-use lib.ListN.{length}
+use Rattle.std.proofs.Common.{ℕ, zero, suc, ◌+◌, ◌≤◌, ◌<◌, arith, ◌≡◌, refl, sym, ap, ◌∙◌, subst, List, length}
 use Rattle.raw.specs.Reader.{OutOf, ok, again, bad, ReaderOf, Reader, more, after, loop, many}
 use Rattle.raw.proofs.readers.Trace.{here, Traced, after-traced}
 use Rattle.raw.specs.Strict.{ShowsSame, Stops}

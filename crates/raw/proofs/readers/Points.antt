@@ -6,11 +6,7 @@
 --     Route, RouteOut                     a way from one point at a place to another point at another place, with these parts; and of an answer
 --     Takes                               a row leads from what is awaited before it to what is awaited after it
 -- Assumes nothing.
-use Prim.Native.Nat.{ℕ, zero, suc, ◌+◌, ◌≤◌, ◌<◌}
-use native.Mathlib.Omega.{arith}
-use mathlib.Core.Path.{◌≡◌, sym, subst}
-use mathlib.Core.List.{List, [], ◌∷◌, ◌++◌}
-use lib.ListN.{length, length-append}
+use Rattle.std.proofs.Common.{ℕ, zero, suc, ◌+◌, ◌≤◌, ◌<◌, arith, ◌≡◌, sym, subst, List, [], ◌∷◌, ◌++◌, length, length-append}
 use Rattle.row.specs.declared.fault.Fault.{Fault}
 use Rattle.row.specs.Row.{Row, Mark, marked}
 use Rattle.raw.specs.Reader.{OutOf, ok, again, bad, ReaderOf, Out, more, and_then, after, under, loop}

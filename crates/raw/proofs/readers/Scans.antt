@@ -1,13 +1,6 @@
 -- A scan of the grammar ends where the scanner's `skip` does: `scan-skip`.
 -- Assumes nothing.
-use Prim.Native.Nat.{ℕ, zero, suc, ◌+◌, ◌≤◌, ◌<◌}
-use native.Mathlib.Omega.{arith}
-use mathlib.Core.Path.{◌≡◌, refl, ◌∙◌}
-use mathlib.Core.Bool.{Bool, true, false}
-use mathlib.Core.List.{List, []}
-use lib.ListN.{length, drop}
-use lib.Dec.{ltb}
-use borrow.Author.Tests.{ltb-true, ltb-false}
+use Rattle.std.proofs.Common.{ℕ, zero, suc, ◌+◌, ◌≤◌, ◌<◌, arith, ◌≡◌, refl, ◌∙◌, Bool, true, false, List, [], length, drop, ltb, ltb-true, ltb-false}
 use Rattle.text.specs.Scan.{code, rest, skip}
 use Rattle.text.proofs.Seeing.{seeing}
 use Rattle.raw.specs.Reader.{ok, scan_turn, scan, many}

@@ -3,15 +3,8 @@
 --     stop-shifts, turn-shifts, refuse-shifts, put-shifts                              readers that are not made of others
 --     when-shifts, sees-shifts, then-shifts, over-shifts, from-shifts, many-shifts     readers that are
 -- Assumes nothing.
-use Prim.Native.Nat.{ℕ, zero, suc, ◌+◌}
-use native.Mathlib.Omega.{arith}
-use mathlib.Core.Path.{◌≡◌, refl, ◌∙◌}
-use mathlib.Core.Bool.{Bool, true, false, cond}
-use mathlib.Core.List.{List, ◌++◌}
-use lib.ListN.{length, length-append}
+use Rattle.std.proofs.Common.{Option, Some, None, ℕ, zero, suc, ◌+◌, arith, ◌≡◌, refl, ◌∙◌, Bool, true, false, cond, List, ◌++◌, length, length-append}
 use Rattle.text.specs.Scan.{see}
-use Rattle.text.specs.declared.scanner.Seen.{Seen}
-use Rattle.text.specs.declared.scanner.Seen.TheVariants.{End, Char}
 use Rattle.text.specs.Seeing.{seen_up}
 use Rattle.text.proofs.Seeing.{seeing}
 use Rattle.row.specs.Row.{Row, Mark, marked, moved}
@@ -47,10 +40,10 @@ module _ {x : List ℕ} where
 
 -- ---- by what is seen
 
-pub eaten-up : (d : ℕ) (c : ℕ → Bool) (x : Seen) (f f' : ℕ → Out) (o o' : Out) → ((n : ℕ) → f' (n + d) ≡ shifted d (f n)) → o' ≡ shifted d o
+pub eaten-up : (d : ℕ) (c : ℕ → Bool) (x : Option (ℕ × ℕ)) (f f' : ℕ → Out) (o o' : Out) → ((n : ℕ) → f' (n + d) ≡ shifted d (f n)) → o' ≡ shifted d o
     → eaten c (seen_up d x) f' o' ≡ shifted d (eaten c x f o)
-eaten-up d c End f f' o o' h i = i
-eaten-up d c (Char k n) f f' o o' h i = by (c k)
+eaten-up d c None f f' o o' h i = i
+eaten-up d c (Some (k, n)) f f' o o' h i = by (c k)
   where
     by : (b : Bool) → cond b (f' (n + d)) o' ≡ shifted d (cond b (f n) o)
     by true = h n

@@ -3,12 +3,7 @@
 --     reach-order, reach-inside, reach-boundary       the place that is reached is not before the first, in the text, and a boundary
 --     trace-rising, trace-spans, trace-clean          the rows rise, have spans in the text, and none of them is damage
 -- Assumes nothing.
-use Prim.Native.Nat.{ℕ, ◌≤◌}
-use native.Mathlib.Omega.{arith}
-use mathlib.Core.Path.{◌≡◌, refl, ◌∙◌, subst}
-use mathlib.Core.Bool.{true}
-use mathlib.Core.List.{List, [], ◌∷◌, ◌++◌, append_assoc, append-nil}
-use lib.ListN.{length}
+use Rattle.std.proofs.Common.{ℕ, ◌≤◌, arith, ◌≡◌, refl, ◌∙◌, subst, true, List, [], ◌∷◌, ◌++◌, append_assoc, append-nil, length}
 use Rattle.text.specs.Utf8.{Octets, is_boundary}
 use Rattle.text.proofs.Seeing.{seeing}
 use Rattle.text.proofs.Boundaries.{boundaries}

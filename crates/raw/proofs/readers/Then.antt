@@ -3,11 +3,7 @@
 --     then-kept, over-kept, from-kept         two readers; a row over a reader, from its own beginning or from an earlier place
 --     more-none, then-on, then-off, bad-is    answers: without rows in front; after a reader whose answer is known; equal refusals
 -- Assumes nothing.
-use Prim.Native.Nat.{ℕ, ◌+◌, ◌≤◌, max}
-use native.Mathlib.Omega.{arith}
-use mathlib.Core.Path.{◌≡◌, refl, sym, ap, ◌∙◌, subst}
-use mathlib.Core.List.{List, []}
-use lib.ListN.{length}
+use Rattle.std.proofs.Common.{ℕ, ◌+◌, ◌≤◌, max, arith, ◌≡◌, refl, sym, ap, ◌∙◌, subst, List, [], length}
 use Rattle.row.specs.declared.fault.Fault.{Fault}
 use Rattle.row.specs.Row.{Row, Mark, marked}
 use Rattle.raw.specs.Reader.{OutOf, ok, again, bad, ReaderOf, Out, Reader, more, and_then, under, ◌then◌, over, over_from}

@@ -3,13 +3,8 @@
 --     reach-on, trace-reach, reach-trace, joined      one way after another
 --     eat-traced, back-traced, lay-traced             an answer after a character, or after several; a row over what was read
 -- Assumes nothing.
-use Prim.Native.Nat.{ℕ, ◌≤◌}
-use mathlib.Core.Path.{◌≡◌}
-use mathlib.Core.Bool.{false}
-use mathlib.Core.List.{List, [], ◌∷◌, ◌++◌}
-use lib.Dec.{eqb}
+use Rattle.std.proofs.Common.{Some, ℕ, ◌≤◌, ◌≡◌, false, List, [], ◌∷◌, ◌++◌, eqb}
 use Rattle.text.specs.Scan.{see}
-use Rattle.text.specs.declared.scanner.Seen.TheVariants.{Char}
 use Rattle.row.specs.declared.fault.Fault.{Fault}
 use Rattle.row.specs.Fault.{number_of}
 use Rattle.row.specs.Row.{Row, Mark, marked, kind_of}
@@ -20,12 +15,12 @@ use Rattle.raw.specs.Reader.{Out, ok, again, bad, more, and_then, under, after}
 -- by whole characters from p to q
 pub data Reach (s : List ℕ) : ℕ → ℕ → Type 0 where
   here : {p : ℕ} → Reach s p p
-  on : {p n q c : ℕ} → see s p ≡ Char c n → Reach s n q → Reach s p q
+  on : {p n q c : ℕ} → see s p ≡ Some (c, n) → Reach s n q → Reach s p q
 
 -- by whole characters from p to q with these rows: none is a damage row, and each goes from where its reading began to where it ended
 pub data Trace (s : List ℕ) : ℕ → List Row → ℕ → Type 0 where
   none : {p : ℕ} → Trace s p [] p
-  eats : {p n q c : ℕ} {rs : List Row} → see s p ≡ Char c n → Trace s n rs q → Trace s p rs q
+  eats : {p n q c : ℕ} {rs : List Row} → see s p ≡ Some (c, n) → Trace s n rs q → Trace s p rs q
   joins : {p q r : ℕ} {rs ss : List Row} → Trace s p rs q → Trace s q ss r → Trace s p (rs ++ ss) r
   lays : {p q : ℕ} {rs : List Row} (m : Mark) → eqb (kind_of m.kind) 9 ≡ false → Trace s p rs q → Trace s p (marked m p q ∷ rs) q
 
@@ -67,7 +62,7 @@ module _ {s : List ℕ} where
   joined (bad f) t u = refused-from (trace-reach t) u
 
 module _ (s : List ℕ) (p : ℕ) where
-  pub eat-traced : (c n : ℕ) (o : Out) → see s p ≡ Char c n → Traced s n o → Traced s p o
+  pub eat-traced : (c n : ℕ) (o : Out) → see s p ≡ Some (c, n) → Traced s n o → Traced s p o
   eat-traced c n (ok q rs) e t = eats e t
   eat-traced c n (again q rs a) e t = eats e t
   eat-traced c n (bad f) e t = refused-from (on e here) t

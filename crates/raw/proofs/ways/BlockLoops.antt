@@ -5,21 +5,14 @@
 --     braces-eof                  a backslash at the end of the text is refused
 --     quoted-rest                 what the loop over blocks leaves to the loop over bytes
 -- Assumes nothing.
-use Prim.Native.Nat.{ℕ, zero, suc, ◌+◌, ◌-◌, ◌≤◌, ◌<◌, max}
-use native.Mathlib.Omega.{arith}
-use native.Mathlib.Nat.{add-zero, add-suc}
-use native.Mathlib.Numerals.{add-one}
-use mathlib.Core.Path.{◌≡◌, refl, sym, ap, ◌∙◌, subst}
-use mathlib.Core.Bool.{false}
-use mathlib.Core.List.{List}
-use lib.ListN.{length, get_or}
+use Rattle.std.proofs.Common.{Result, Ok, Err, ℕ, zero, suc, ◌+◌, ◌-◌, ◌≤◌, ◌<◌, max, arith, add-zero, add-suc, add-one, ◌≡◌, refl, sym, ap, ◌∙◌, subst, false, List, length}
+use Rattle.std.proofs.Common.{get_or}
+use Rattle.row.specs.declared.fault.Fault.{Fault}
 use Rattle.text.specs.declared.block.Set.{Set}
 use Rattle.text.specs.Block.{in_set, braces, quotes, Clear}
 use Rattle.text.proofs.general.Tests.{told-apart}
 use Rattle.row.specs.declared.fault.Reason.TheVariants.{UnexpectedEof}
 use Rattle.row.specs.Fault.{fault_at}
-use Rattle.raw.specs.declared.answer.Step.{Step}
-use Rattle.raw.specs.declared.answer.Step.TheVariants as step
 use Rattle.raw.specs.Reader.{Reader}
 use Rattle.raw.specs.Says.{step_of, Onward}
 use Rattle.raw.specs.Grammar.{quoted_turn, quoted, braced_turn, in_braces}
@@ -58,7 +51,7 @@ module _ {s : List ℕ} {at d : ℕ} where
     braces-far l = let q : i + 1 + 1 ≡ i + 2 = omega arith in subst (Reached braced_turn s at d) q (braces-escape r h e l)
 
     pub braces-eof : length s ≤ i + 1 →
-        (step.Refused (fault_at UnexpectedEof (i + 1)) ≡ step_of (in_braces s at)) × Onward (length s) 0 at (step.Refused (fault_at UnexpectedEof (i + 1)))
+        (Err (fault_at UnexpectedEof (i + 1)) ≡ step_of (in_braces s at)) × Onward (length s) 0 at (Err (fault_at UnexpectedEof (i + 1)))
     braces-eof l = braces-end (braces-cut r h e l) l
 
 module _ {s : List ℕ} {at : ℕ} where
@@ -72,11 +65,11 @@ module _ {s : List ℕ} {at : ℕ} where
   pub quoted-far : {i : ℕ} → Reached quoted_turn s at 0 i → i + 1 < length s → get_or s i 0 ≡ 0x5C → Reached quoted_turn s at 0 (i + 2)
   quoted-far {i} r h e = let q : i + 1 + 1 ≡ i + 2 = omega arith in subst (Reached quoted_turn s at 0) q (quoted-escape r (omega arith) e h)
 
-onward : (n i j : ℕ) (r : Step) → i ≤ j → j ≤ max i n → Onward n 0 j r → Onward n 0 i r
-onward n i j (step.At p) l m h = (omega arith, omega arith)
-onward n i j (step.Refused f) l m h = h
+onward : (n i j : ℕ) (r : Result ℕ Fault) → i ≤ j → j ≤ max i n → Onward n 0 j r → Onward n 0 i r
+onward n i j (Ok p) l m h = (omega arith, omega arith)
+onward n i j (Err f) l m h = h
 
-pub quoted-rest : {s : List ℕ} {at i : ℕ} {r : Step} → Reached quoted_turn s at 0 i → (r ≡ step_of (quoted s i)) × Onward (length s) 0 i r →
+pub quoted-rest : {s : List ℕ} {at i : ℕ} {r : Result ℕ Fault} → Reached quoted_turn s at 0 i → (r ≡ step_of (quoted s i)) × Onward (length s) 0 i r →
     (r ≡ step_of (quoted s at)) × Onward (length s) 0 at r
 unfolding quoted
 quoted-rest {s} {at} {i} {r} x h = (h.0 ∙ ap step_of (sym x.same), onward (length s) at i r x.from x.to h.1)

@@ -1,6 +1,5 @@
 -- Loops of the code go by bytes, and turns of the grammar by characters: they agree, because only ASCII decides.
 --     seen_key, seen_other     what is seen at a byte: one that the code asks for, or none of them
---     AsciiOnly                a class of ASCII characters
 --     Unrolls                  a loop is its first turn and then the loop
 --     Wide                     a turn passes every character that is not ASCII
 --     Reached                  the loop's invariant: from here on the loop answers what the whole loop answers
@@ -9,54 +8,44 @@
 --     on-escape, on-cut        a turn that passes a backslash and the character after it, and one at the end of the text
 --     at-stop, at-bad          the loop's answers
 -- Assumes nothing.
-use Prim.Native.Nat.{ℕ, zero, suc, ◌+◌, ◌-◌, ◌≤◌, ◌<◌, max}
-use native.Mathlib.Omega.{arith}
-use mathlib.Core.Path.{◌≡◌, refl, sym, ap, ◌∙◌, subst}
-use mathlib.Core.Bool.{Bool, true, false}
-use mathlib.Core.List.{List, []}
-use lib.ListN.{length, get_or, take, drop}
-use lib.Seq.{length-take-le, get_or-take, get_or-drop}
-use lib.Dec.{ltb}
-use borrow.Author.Tests.{ltb-true, ltb-false}
+use Rattle.std.proofs.Common.{Some, Ok, Err, ℕ, zero, suc, ◌+◌, ◌-◌, ◌≤◌, ◌<◌, max, arith, ◌≡◌, refl, sym, ap, ◌∙◌, subst, Bool, true, false, List, [], length, get_or, take}
+use Rattle.std.proofs.Common.{drop, length-take-le, get_or-take, get_or-drop, ltb, ltb-true, ltb-false}
+use Rattle.std.proofs.lemmas.Option.{some_pair_parts}
 use Rattle.text.specs.Range.{within}
 use Rattle.text.specs.Utf8.{tail, width}
 use Rattle.text.specs.Scan.{code, rest, see, Inside}
-use Rattle.text.specs.declared.scanner.Seen.TheVariants.{Char}
 use Rattle.text.proofs.Shapes.{shapes}
 use Rattle.text.proofs.general.Places.{drop-next}
 use Rattle.text.proofs.Seeing.{seeing}
 use Rattle.row.specs.declared.fault.Fault.{Fault}
-use Rattle.raw.specs.declared.answer.Step.TheVariants as step
 use Rattle.raw.specs.Reader.{ok, again, bad, Reader, after, many}
 use Rattle.raw.specs.Grammar.{escape}
+use Rattle.raw.specs.Inner.{AsciiOnly}
 use Rattle.raw.specs.Says.{step_of, Onward}
 use Rattle.raw.proofs.readers.Then.{more-none}
 
 -- ---- what is seen at a byte
 
-abbrev pub AsciiOnly : (ℕ → Bool) → Type 0
-AsciiOnly p = (c : ℕ) → 0x80 ≤ c → p c ≡ false
-
 module _ (s : List ℕ) (i : ℕ) (h : i < length s) where
-  pub seen_key : (k : ℕ) → get_or s i 0 ≡ k → k < 0x80 → see s i ≡ Char k (i + 1)
-  seen_key k e l = seeing.see-ascii s i h (omega arith) ∙ ap (λ (c : ℕ). Char c (i + 1)) e
+  pub seen_key : (k : ℕ) → get_or s i 0 ≡ k → k < 0x80 → see s i ≡ Some (k, i + 1)
+  seen_key k e l = seeing.see-ascii s i h (omega arith) ∙ ap (λ (c : ℕ). Some (c, i + 1)) e
 
   -- a class of ASCII characters that does not have the byte does not have the character that begins with it
-  pub seen_other : (c : ℕ) × (n : ℕ) × (see s i ≡ Char c n) × ((p : ℕ → Bool) → AsciiOnly p → p (get_or s i 0) ≡ false → p c ≡ false)
+  pub seen_other : (c : ℕ) × (n : ℕ) × (see s i ≡ Some (c, n)) × ((p : ℕ → Bool) → AsciiOnly p → p (get_or s i 0) ≡ false → p c ≡ false)
   seen_other = go (ltb (get_or s i 0) 0x80) refl
     where
       go : (t : Bool) → ltb (get_or s i 0) 0x80 ≡ t →
-          (c : ℕ) × (n : ℕ) × (see s i ≡ Char c n) × ((p : ℕ → Bool) → AsciiOnly p → p (get_or s i 0) ≡ false → p c ≡ false)
+          (c : ℕ) × (n : ℕ) × (see s i ≡ Some (c, n)) × ((p : ℕ → Bool) → AsciiOnly p → p (get_or s i 0) ≡ false → p c ≡ false)
       go true e = (get_or s i 0, i + 1, seeing.see-ascii s i h (ltb-true _ _ e), λ p a q. q)
       go false e =
           let w : 0x80 ≤ code (drop i s) = rw (drop-next s i h) (seeing.code-wide (get_or s i 0) (drop (i + 1) s) (ltb-false _ _ e)) in
           (code (drop i s), i + 1 + rest (drop i s), seeing.see-at s i h, λ p a q. a _ w)
 
-  pub seen-tail : within tail (get_or s i 0) ≡ true → see s i ≡ Char 0xFFFD (i + 1)
+  pub seen-tail : within tail (get_or s i 0) ≡ true → see s i ≡ Some (0xFFFD, i + 1)
   unfolding code rest
   seen-tail t =
       let w : width (drop i s) ≡ 0 = rw (drop-next s i h) (shapes.width-tail (get_or s i 0) (drop (i + 1) s) t) in
-      seeing.see-at s i h ∙ rw w (ap (Char 0xFFFD) (omega arith))
+      seeing.see-at s i h ∙ rw w (ap (λ (n' : ℕ). Some (0xFFFD, n')) (omega arith))
 
 -- ---- turns
 
@@ -64,7 +53,7 @@ abbrev pub Unrolls : (ℕ → Reader) → Type 0
 Unrolls f = (a : ℕ) (s : List ℕ) (p : ℕ) → many f a s p ≡ after (f a s p) (λ b q. many f b s q)
 
 abbrev pub Wide : (ℕ → Reader) → Type 0
-Wide f = (a : ℕ) (s : List ℕ) (i c n : ℕ) → see s i ≡ Char c n → 0x80 ≤ c → f a s i ≡ again n [] a
+Wide f = (a : ℕ) (s : List ℕ) (i c n : ℕ) → see s i ≡ Some (c, n) → 0x80 ≤ c → f a s i ≡ again n [] a
 
 -- the octets behind the first of a character are tails
 tails : (u : List ℕ) (k : ℕ) → width u ≡ suc k → (j : ℕ) → j < k → within tail (get_or u (j + 1) 0) ≡ true
@@ -87,11 +76,11 @@ module _ (f : ℕ → Reader) (un : Unrolls f) (s : List ℕ) where
         ∙ ap (many f a s) (omega arith)
 
     -- from behind a character the loop answers what it answers from behind its first byte
-    many-char : (i : ℕ) {c n : ℕ} → see s i ≡ Char c n → many f a s n ≡ many f a s (i + 1)
+    many-char : (i : ℕ) {c n : ℕ} → see s i ≡ Some (c, n) → many f a s n ≡ many f a s (i + 1)
     unfolding rest
     many-char i {c} {n} e =
         let h = subst (Inside s i) e (seeing.see-inside s i) in
-        let q : n ≡ i + 1 + (width (drop i s) - 1) = let x = sym e ∙ seeing.see-at s i (omega arith) in cc in
+        let q : n ≡ i + 1 + (width (drop i s) - 1) = (some_pair_parts c _ n _ (sym e ∙ seeing.see-at s i (omega arith))).1 in
         go (width (drop i s)) refl h q
       where
         tail_at : (j : ℕ) → within tail (get_or (drop i s) (j + 1) 0) ≡ true → within tail (get_or s (i + 1 + j) 0) ≡ true
@@ -117,17 +106,17 @@ module _ {f : ℕ → Reader} (un : Unrolls f) {s : List ℕ} {at a i : ℕ} (r 
   pub on-turn : {j b : ℕ} → f a s i ≡ again j [] b → i ≤ j → j ≤ length s → Reached f s at b j
   on-turn e l h = record { same = r.same ∙ many-on f un s a i e; from = omega arith; to = omega arith }
 
-  pub at-stop : f a s i ≡ ok i [] → (step.At i ≡ step_of (many f 0 s at)) × Onward (length s) 0 at (step.At i)
+  pub at-stop : f a s i ≡ ok i [] → (Ok i ≡ step_of (many f 0 s at)) × Onward (length s) 0 at (Ok i)
   at-stop e = let q : many f 0 s at ≡ ok i [] = r.same ∙ un a s i ∙ rw e in (ap step_of (sym q), (omega arith, r.to))
 
-  pub at-bad : {x : Fault} → f a s i ≡ bad x → (step.Refused x ≡ step_of (many f 0 s at)) × Onward (length s) 0 at (step.Refused x)
+  pub at-bad : {x : Fault} → f a s i ≡ bad x → (Err x ≡ step_of (many f 0 s at)) × Onward (length s) 0 at (Err x)
   at-bad {x} e = let q : many f 0 s at ≡ bad x = r.same ∙ un a s i ∙ rw e in (ap step_of (sym q), tt)
 
   pub on-cut : length s ≤ i + 1 → i < length s → f a s i ≡ escape a s (i + 1) → Reached f s at a (i + 1)
   on-cut l h e = on-turn (e ∙ rw (seeing.see-end s (i + 1) l)) (omega arith) (omega arith)
 
   module _ (w : Wide f) where
-    pub on-char : {c n b : ℕ} → see s i ≡ Char c n → f a s i ≡ again n [] b → Reached f s at b (i + 1)
+    pub on-char : {c n b : ℕ} → see s i ≡ Some (c, n) → f a s i ≡ again n [] b → Reached f s at b (i + 1)
     on-char {b = b} p e =
         let h = subst (Inside s i) p (seeing.see-inside s i) in
         record { same = r.same ∙ many-on f un s a i e ∙ many-char f un s w b i p; from = omega arith; to = omega arith }

@@ -1,12 +1,7 @@
 -- An element of a value that begins with a brace or a quote.
 --     element-braced, element-quoted     it is read as `braced`, or as `string_literal`
 -- Assumes nothing.
-use Prim.Native.Nat.{ℕ, ◌<◌}
-use native.Mathlib.Omega.{arith}
-use mathlib.Core.Path.{◌≡◌, refl, ◌∙◌}
-use mathlib.Core.Bool.{false}
-use mathlib.Core.List.{List}
-use lib.ListN.{length, get_or}
+use Rattle.std.proofs.Common.{ℕ, ◌<◌, arith, ◌≡◌, refl, ◌∙◌, false, List, length, get_or}
 use Rattle.text.specs.Class.{white_space, control, is_whitespace, is_control, is_id_continue, is_id_start, holds_of}
 use Rattle.text.specs.declared.class.Test.TheVariants as test
 use Rattle.raw.specs.Grammar.{abbr_element, single_field, braced, string_literal}

@@ -1,19 +1,15 @@
 -- The ways through `field`, `field_end` and `fields_turn`.
 --     name-off, equals-off, value-off, value_on    `field`: its name, its equals sign or its value is refused, or none of them
 --     value-comma                                  a comma stands right behind its value
---     comma-within, value-within                   the bounds of a field that is read up to that comma, and of one that is read to its end
+--     value-within                                 the bounds of a field that is read to its end
 --     end-end, end-comma, end-brace, end-off       `field_end`: at the end of the text, a comma, a closing brace, another byte
 --     end-here                                     a comma stands right behind the field
 --     fields-eof, fields-brace                     `fields_turn` at the end of the text, and at the brace that closes the entry
 --     fields-other, fields-end                     where it reads a field: before another byte, or where the text has ended
 --     fields-off, fields-on                        and the field is refused, or read
 -- Assumes nothing.
-use Prim.Native.Nat.{ℕ, ◌+◌, ◌*◌, ◌≤◌, ◌<◌, max}
-use mathlib.Core.Path.{◌≡◌, refl, sym, ap, ◌∙◌}
-use mathlib.Core.List.{List, []}
-use native.Mathlib.Omega.{arith}
-use lib.ListN.{length, get_or}
-use borrow.Author.Tests.{eq-eqb, ne_eqb}
+use Rattle.std.proofs.Common.{Result, Ok, Err, ℕ, ◌+◌, ◌*◌, ◌≤◌, ◌<◌, ◌≡◌, refl, ap, ◌∙◌, List, [], arith, max, length, get_or, eq-eqb, ne_eqb}
+use Rattle.raw.specs.declared.answer.Turn.{Turn}
 use Rattle.text.specs.Class.{is_whitespace, white_space, holds_of}
 use Rattle.text.specs.Scan.{see, skip, Ahead}
 use Rattle.text.proofs.Seeing.{seeing}
@@ -21,64 +17,56 @@ use Rattle.row.specs.declared.form.Kind.{Kind}
 use Rattle.row.specs.declared.fault.Fault.{Fault}
 use Rattle.row.specs.declared.fault.Reason.TheVariants.{UnexpectedEof, ExpectedComma}
 use Rattle.row.specs.Fault.{fault_at}
-use Rattle.raw.specs.declared.answer.Step.{Step}
-use Rattle.raw.specs.declared.answer.Step.TheVariants as step
-use Rattle.raw.specs.declared.answer.Answer.{Answer}
-use Rattle.raw.specs.declared.answer.Answer.TheVariants as answer
-use Rattle.raw.specs.declared.answer.Turn.{Turn}
-use Rattle.raw.specs.declared.answer.Turn.TheVariants as turned
 use Rattle.row.specs.Row.{row, put_row}
 use Rattle.raw.specs.Reader.{Out, ok, again, bad, under, eaten, sees, stop, turn, refuse, ◌then◌}
 use Rattle.raw.specs.Grammar.{is, any, white, comma, ident, equals, abbr_field, comment, field, field_end, fields_turn}
-use Rattle.raw.specs.Says.{step_of, Says, Within, SaysTurn}
+use Rattle.raw.specs.Says.{step_of, Within, Says, SaysTurn}
 use Rattle.raw.proofs.grammar.Rowless.{rowless-at, rowless-off, ident-rowless, equals-rowless}
 use Rattle.raw.proofs.readers.Then.{then-on, then-off}
 use Rattle.raw.proofs.ways.OneCharacter.{byte-end, byte-on, byte-off}
 use Rattle.text.proofs.general.Tests.{narrow-is}
 use Rattle.raw.proofs.ways.TokenWays.{white-on, comment-on, no-white, no-comment}
-use Rattle.raw.proofs.contracts.SaysLaws.{says_of, says_at, says_on, says-off, says_then, says-mark, said-off, turn-of, turn-then, turn-off}
+use Rattle.raw.proofs.contracts.SaysLaws.{says_of, says_on, says_then, says-mark, said-off, turn-of, turn-then}
 
 -- ---- `field`
 
-module _ (k : Kind) (s : List ℕ) (i : ℕ) {r₁ : Step} (e₁ : r₁ ≡ step_of (ident s i)) where
-  pub name-off : {x : Fault} → r₁ ≡ step.Refused x → field k s i ≡ bad x
+module _ (k : Kind) (s : List ℕ) (i : ℕ) where
+  pub name-off : {x : Fault} → Err x ≡ step_of (ident s i) → field k s i ≡ bad x
   unfolding field
-  name-off d = then-off _ (ap (under (row k i)) (rowless-off (ident s i) e₁ d))
+  name-off e = then-off _ (ap (under (row k i)) (rowless-off (ident s i) e))
 
-  module _ {p₁ : ℕ} (d₁ : r₁ ≡ step.At p₁) {p₂ : ℕ} (w₂ : p₂ ≡ skip is_whitespace s p₁) {r₃ : Step} (e₃ : r₃ ≡ step_of (equals s p₂)) where
-    pub equals-off : {x : Fault} → r₃ ≡ step.Refused x → field k s i ≡ bad x
+  module _ {p₁ : ℕ} (e₁ : Ok p₁ ≡ step_of (ident s i)) {p₂ : ℕ} (w₂ : p₂ ≡ skip is_whitespace s p₁) where
+    pub equals-off : {x : Fault} → Err x ≡ step_of (equals s p₂) → field k s i ≡ bad x
     unfolding field
-    equals-off d = rw (rowless-at (ident-rowless s i) e₁ d₁, white-on s p₁ w₂, rowless-off (equals s p₂) e₃ d)
+    equals-off e = rw (rowless-at (ident-rowless s i) e₁, white-on s p₁ w₂, rowless-off (equals s p₂) e)
 
-    module _ {p₃ : ℕ} (d₃ : r₃ ≡ step.At p₃) {p₄ : ℕ} (w₄ : p₄ ≡ skip is_whitespace s p₃) {base n : ℕ} {b c b' : List ℕ}
-        (put : c ≡ put_row b n (row k (base + i) (base + p₁))) {r : Answer} (h : Says base (abbr_field s p₄) (n + 1) c r b') where
-      to-value : {q : Answer} {d : List ℕ} → Says base ((abbr_field then white then comment) s p₄) (n + 1) c q d → Says base (field k s i) n b q d
+    module _ {p₃ : ℕ} (e₃ : Ok p₃ ≡ step_of (equals s p₂)) {p₄ : ℕ} (w₄ : p₄ ≡ skip is_whitespace s p₃) where
+      pub value-off : {x : Fault} {base m : ℕ} {c b' : List ℕ} → Says base (abbr_field s p₄) m c (Err x) b' → field k s i ≡ bad x
       unfolding field
-      to-value w =
-          says-mark k i _ (rowless-at (ident-rowless s i) e₁ d₁)
-          (says_of (then-on _ (white-on s p₁ w₂) ∙ then-on _ (rowless-at (equals-rowless s p₂) e₃ d₃) ∙ then-on _ (white-on s p₃ w₄)) (rw put at w))
+      value-off h =
+          rw (rowless-at (ident-rowless s i) e₁, white-on s p₁ w₂, rowless-at (equals-rowless s p₂) e₃, white-on s p₃ w₄, said-off h)
 
-      pub value-off : {x : Fault} {d : List ℕ} → r ≡ answer.Refused x → Says base (field k s i) n b r d
-      value-off e = says_at (sym e) (to-value (says-off (then-off _ (said-off (says_at e h)))))
+      module _ {base n : ℕ} {b c : List ℕ} (put : c ≡ put_row b n (row k (base + i) (base + p₁))) where
+        to-value : {q : Result (ℕ × ℕ) Fault} {d : List ℕ} → Says base ((abbr_field then white then comment) s p₄) (n + 1) c q d → Says base (field k s i) n b q d
+        unfolding field
+        to-value w =
+            says-mark k i _ (rowless-at (ident-rowless s i) e₁)
+            (says_of (then-on _ (white-on s p₁ w₂) ∙ then-on _ (rowless-at (equals-rowless s p₂) e₃) ∙ then-on _ (white-on s p₃ w₄)) (rw put at w))
 
-      pub value_on : {p₅ m p₆ p₇ : ℕ} → r ≡ answer.Next p₅ m → p₆ ≡ skip is_whitespace s p₅ → step.At p₇ ≡ step_of (comment s p₆) →
-          Says base (field k s i) n b (answer.Next p₇ m) b'
-      value_on {p₅} {p₆ = p₆} e w₆ e₇ = to-value (says_then _ (says_at e h) (says_of (then-on _ (white-on s p₅ w₆)) (says_on (comment-on s p₆ e₇))))
+        pub value_on : {p₅ m p₆ p₇ : ℕ} {b' : List ℕ} → Says base (abbr_field s p₄) (n + 1) c (Ok (p₅, m)) b' → p₆ ≡ skip is_whitespace s p₅ →
+            Ok p₇ ≡ step_of (comment s p₆) → Says base (field k s i) n b (Ok (p₇, m)) b'
+        value_on {p₅} {p₆ = p₆} h w₆ e₇ = to-value (says_then _ h (says_of (then-on _ (white-on s p₅ w₆)) (says_on (comment-on s p₆ e₇))))
 
-      pub value-comma : {p₅ m : ℕ} → r ≡ answer.Next p₅ m → p₅ < length s → get_or s p₅ 0 ≡ 0x2C → Says base (field k s i) n b (answer.Next p₅ m) b'
-      unfolding is_whitespace holds_of white_space
-      value-comma {p₅} e l c =
-          value_on e (no-white s p₅ 0x2C l c (omega arith) refl) (no-comment s p₅ 0x2C l c (omega arith) refl)
+        pub value-comma : {p₅ m : ℕ} {b' : List ℕ} → Says base (abbr_field s p₄) (n + 1) c (Ok (p₅, m)) b' → p₅ < length s → get_or s p₅ 0 ≡ 0x2C →
+            Says base (field k s i) n b (Ok (p₅, m)) b'
+        unfolding is_whitespace holds_of white_space
+        value-comma {p₅} h l c =
+            value_on h (no-white s p₅ 0x2C l c (omega arith) refl) (no-comment s p₅ 0x2C l c (omega arith) refl)
 
--- the bounds of a field that is read up to the comma behind its value, and of one that is read to its end
-pub comma-within : {s : List ℕ} (i n m : ℕ) {p₁ p₂ p₃ p₄ p₅ : ℕ} → (i + 1 ≤ p₁) × (p₁ ≤ length s) → Ahead s p₁ p₂ →
-    (p₂ + 1 ≤ p₃) × (p₃ ≤ length s) → Ahead s p₃ p₄ → (p₄ + 1 ≤ p₅) × (p₅ ≤ length s) × (m + 8 * p₄ ≤ n + 1 + 1 + 8 * p₅) →
-    Within (length s) 3 i n (answer.Next p₅ m)
-comma-within i n m a b c d e = (omega arith, omega arith, omega arith)
-
+-- The check finds this where a field is read; it stands here because docs/PROOFS.md names it.
 pub value-within : {s : List ℕ} (i n m : ℕ) {p₁ p₂ p₃ p₄ p₅ p₆ p₇ : ℕ} → (i + 1 ≤ p₁) × (p₁ ≤ length s) → Ahead s p₁ p₂ →
     (p₂ + 1 ≤ p₃) × (p₃ ≤ length s) → Ahead s p₃ p₄ → (p₄ + 1 ≤ p₅) × (p₅ ≤ length s) × (m + 8 * p₄ ≤ n + 1 + 1 + 8 * p₅) → Ahead s p₅ p₆ →
-    p₆ ≤ p₇ → p₇ ≤ max p₆ (length s) → Within (length s) 3 i n (answer.Next p₇ m)
+    p₆ ≤ p₇ → p₇ ≤ max p₆ (length s) → Within (length s) 3 i n (Ok (p₇, m))
 value-within i n m a b c d e f g h = (omega arith, omega arith, omega arith)
 
 -- ---- `field_end`
@@ -103,7 +91,7 @@ module _ (s : List ℕ) (i : ℕ) {p : ℕ} (w : p ≡ skip is_whitespace s i) w
     unfolding comma holds_of
     comma-eaten e = byte-on (is 0x2C) s p (λ n. ok n []) (bad (fault_at ExpectedComma p)) (narrow-is 0x2C (omega arith)) h (eq-eqb _ _ e)
 
-    pub end-comma : {p₂ p₃ : ℕ} → get_or s p 0 ≡ 0x2C → p₂ ≡ skip is_whitespace s (p + 1) → step.At p₃ ≡ step_of (comment s p₂) →
+    pub end-comma : {p₂ p₃ : ℕ} → get_or s p 0 ≡ 0x2C → p₂ ≡ skip is_whitespace s (p + 1) → Ok p₃ ≡ step_of (comment s p₂) →
         field_end s i ≡ again p₃ [] 0
     end-comma {p₂} e v d =
         after-field
@@ -121,7 +109,7 @@ module _ (s : List ℕ) (i : ℕ) {p : ℕ} (w : p ≡ skip is_whitespace s i) w
       end-off e = no-comma ∙ byte-off (is 0x7D) s p (λ n. ok p []) (bad (fault_at ExpectedComma p)) (narrow-is 0x7D (omega arith)) h (ne_eqb _ _ e)
 
 pub end-here : (s : List ℕ) (i : ℕ) → i < length s → get_or s i 0 ≡ 0x2C → {p₂ p₃ : ℕ} → p₂ ≡ skip is_whitespace s (i + 1) →
-    step.At p₃ ≡ step_of (comment s p₂) → field_end s i ≡ again p₃ [] 0
+    Ok p₃ ≡ step_of (comment s p₂) → field_end s i ≡ again p₃ [] 0
 unfolding is_whitespace white_space
 end-here s i h e v d = end-comma s i (no-white s i 0x2C h e (omega arith) refl) h e v d
 
@@ -149,10 +137,9 @@ module _ (k : Kind) (s : List ℕ) (i : ℕ) where
     fields-end l = at_field ∙ byte-end (is 0x7D) s p (λ n. ok p []) ((field k then field_end) s p) l
 
   module _ (p : ℕ) (e : fields_turn k 0 s i ≡ (field k then field_end) s p) {base n : ℕ} {b c : List ℕ} where
-    pub fields-off : {x : Fault} {b' : List ℕ} → Says base (field k s p) n b (answer.Refused x) c →
-        SaysTurn base (fields_turn k 0 s i) n b (turned.Refused x) b'
-    fields-off g = turn-off (e ∙ then-off _ (said-off g))
+    pub fields-off : {x : Fault} → Says base (field k s p) n b (Err x) c → fields_turn k 0 s i ≡ bad x
+    fields-off g = e ∙ then-off _ (said-off g)
 
-    pub fields-on : {q m : ℕ} {r : Turn} → Says base (field k s p) n b (answer.Next q m) c → SaysTurn base (field_end s q) m c r c →
+    pub fields-on : {q m : ℕ} {r : Result Turn Fault} → Says base (field k s p) n b (Ok (q, m)) c → SaysTurn base (field_end s q) m c r c →
         SaysTurn base (fields_turn k 0 s i) n b r c
     fields-on g f = turn-of e (turn-then _ g f)

@@ -3,22 +3,15 @@
 --     byte-on, byte-off, byte-end    by the byte, where only ASCII passes the test: `narrow-is`, `narrow-or`
 --     need-end, need-other, need-byte    the readers that want one character
 -- Assumes nothing.
-use Prim.Native.Nat.{ℕ, ◌+◌, ◌≤◌, ◌<◌, max}
-use mathlib.Core.Path.{◌≡◌, refl, sym, ap, ◌∙◌}
-use mathlib.Core.Bool.{Bool, true, false, cond, false≢true}
-use mathlib.Core.List.{List, []}
-use native.Mathlib.Omega.{arith}
-use lib.ListN.{length, get_or, drop}
-use lib.Dec.{eqb, ltb}
-use borrow.Author.Tests.{eqb-true, eqb-false, ltb-true, ltb-false}
+use Rattle.std.proofs.Common.{Option, Some, None, Ok, Err, ℕ, ◌+◌, ◌≤◌, ◌<◌, max, ◌≡◌, refl, sym, ap, ◌∙◌, Bool, true, false, cond, List, [], arith, length, get_or, drop, eqb}
+use Rattle.std.proofs.Common.{ltb, eqb-true, ltb-true, ltb-false}
+use mathlib.Core.Bool.{false≢true}
+use borrow.Author.Tests.{eqb-false}
 use Rattle.text.specs.Scan.{see, code, past_one, Inside}
-use Rattle.text.specs.declared.scanner.Seen.{Seen}
-use Rattle.text.specs.declared.scanner.Seen.TheVariants.{End, Char}
 use Rattle.text.proofs.general.Places.{drop-next}
 use Rattle.text.proofs.Seeing.{seeing}
 use Rattle.row.specs.declared.fault.Reason.{Reason}
 use Rattle.row.specs.Fault.{fault_at}
-use Rattle.raw.specs.declared.answer.Step.TheVariants as step
 use Rattle.raw.specs.Reader.{Out, ok, bad, eaten}
 use Rattle.raw.specs.Grammar.{need}
 use Rattle.raw.specs.Says.{step_of, Onward}
@@ -40,9 +33,9 @@ module _ (t : ℕ → Bool) (s : List ℕ) (i : ℕ) (f : ℕ → Out) (o : Out)
       by true n l q = absurd (omega arith)
       by false n l q = refl
 
-      go : (x : Seen) → Inside s i x → past_one t i x ≡ i → eaten t x f o ≡ o
-      go End l q = refl
-      go (Char c n) l q = by (t c) n l.0 q
+      go : (x : Option (ℕ × ℕ)) → Inside s i x → past_one t i x ≡ i → eaten t x f o ≡ o
+      go None l q = refl
+      go (Some (c, n)) l q = by (t c) n l.0 q
 
   pub eaten-on : (r ≡ i → ⊥) → eaten t (see s i) f o ≡ f r
   eaten-on h = go (see s i) e
@@ -51,9 +44,9 @@ module _ (t : ℕ → Bool) (s : List ℕ) (i : ℕ) (f : ℕ → Out) (o : Out)
       by true n q = ap f (sym q)
       by false n q = absurd (h q)
 
-      go : (x : Seen) → r ≡ past_one t i x → eaten t x f o ≡ f r
-      go End q = absurd (h q)
-      go (Char c n) q = by (t c) n q
+      go : (x : Option (ℕ × ℕ)) → r ≡ past_one t i x → eaten t x f o ≡ f r
+      go None q = absurd (h q)
+      go (Some (c, n)) q = by (t c) n q
 
 -- ---- by the byte
 
@@ -81,20 +74,20 @@ module _ (t : ℕ → Bool) (s : List ℕ) (i : ℕ) (f : ℕ → Out) (o : Out)
 -- ---- one character, or a refusal
 
 module _ (t : ℕ → Bool) (reason : Reason) (s : List ℕ) (i : ℕ) where
-  off-told : need t reason s i ≡ bad (fault_at reason i) → (step.Refused (fault_at reason i) ≡ step_of (need t reason s i)) × Unit {0}
+  off-told : need t reason s i ≡ bad (fault_at reason i) → (Err (fault_at reason i) ≡ step_of (need t reason s i)) × Unit {0}
   off-told e = (sym (ap step_of e), tt)
 
   on-told : {r : ℕ} → need t reason s i ≡ ok r [] → i + 1 ≤ r → r ≤ max i (length s) →
-      (step.At r ≡ step_of (need t reason s i)) × Onward (length s) 1 i (step.At r)
+      (Ok r ≡ step_of (need t reason s i)) × Onward (length s) 1 i (Ok r)
   on-told e h l = (sym (ap step_of e), (h, l))
 
   -- by the byte
-  pub need-end : length s ≤ i → (step.Refused (fault_at reason i) ≡ step_of (need t reason s i)) × Unit {0}
+  pub need-end : length s ≤ i → (Err (fault_at reason i) ≡ step_of (need t reason s i)) × Unit {0}
   need-end h = off-told (byte-end t s i (λ n. ok n []) (bad (fault_at reason i)) h)
 
   module _ (narrow : (c : ℕ) → 0x80 ≤ c → t c ≡ false) (h : i < length s) where
-    pub need-other : t (get_or s i 0) ≡ false → (step.Refused (fault_at reason i) ≡ step_of (need t reason s i)) × Unit {0}
+    pub need-other : t (get_or s i 0) ≡ false → (Err (fault_at reason i) ≡ step_of (need t reason s i)) × Unit {0}
     need-other q = off-told (byte-off t s i (λ n. ok n []) (bad (fault_at reason i)) narrow h q)
 
-    pub need-byte : t (get_or s i 0) ≡ true → (step.At (i + 1) ≡ step_of (need t reason s i)) × Onward (length s) 1 i (step.At (i + 1))
+    pub need-byte : t (get_or s i 0) ≡ true → (Ok (i + 1) ≡ step_of (need t reason s i)) × Onward (length s) 1 i (Ok (i + 1))
     need-byte q = on-told (byte-on t s i (λ n. ok n []) (bad (fault_at reason i)) narrow h q) (omega arith) (omega arith)

@@ -4,20 +4,16 @@
 --     spells-done              after the last letter
 --     ascii-word               that a word is ASCII, by computing
 -- Assumes nothing.
-use Prim.Native.Nat.{ℕ, suc, ◌+◌, ◌-◌, ◌≤◌, ◌<◌}
-use native.Mathlib.Omega.{arith}
-use mathlib.Core.Path.{◌≡◌, refl, ◌∙◌}
-use mathlib.Core.Bool.{Bool, true, false, cond, ◌&&◌}
-use mathlib.Core.List.{List, [], ◌∷◌}
-use lib.ListN.{length, get_or, drop, drop_of_length-le}
+use Rattle.std.proofs.Common.{ℕ, suc, ◌+◌, ◌-◌, ◌≤◌, ◌<◌, arith, ◌≡◌, refl, ◌∙◌, Bool, true, false, cond, ◌&&◌, List, [], ◌∷◌, length, get_or, drop, drop_of_length-le, T, ltb}
+use Rattle.std.proofs.Common.{leb, eqb, ltb→lt, lt-ltb, le-ltb, ltb-true, ltb-false, eq-eqb, ne_eqb, eqb-true}
 use Rattle.text.proofs.general.Places.{drop-next}
-use lib.Dec.{T, ltb, leb, eqb, ltb→lt}
-use borrow.Author.Tests.{lt-ltb, le-ltb, ltb-true, ltb-false, eq-eqb, ne_eqb, eqb-true, eqb-false}
+use borrow.Author.Tests.{eqb-false}
 use Rattle.text.proofs.general.Below.{below, each}
 use Rattle.text.proofs.Seeing.{seeing}
 use Rattle.raw.specs.Grammar.{lower, spells}
 use Rattle.raw.specs.Says.{Ascii}
-use Rattle.raw.proofs.ways.ByteLoops.{AsciiOnly, seen_other}
+use Rattle.raw.specs.Inner.{AsciiOnly}
+use Rattle.raw.proofs.ways.ByteLoops.{seen_other}
 
 lower-least : (c : ℕ) → c ≤ lower c
 lower-least c = go (leb 0x41 c && leb c 0x5A)

@@ -4,13 +4,7 @@
 --     equals-ends, brace-ends                     what `name` asks of the byte that ends it
 --     past-byte, no-white, no-comment             at a byte of ASCII: a test of one character; no white space goes on, no comment begins
 -- Assumes nothing.
-use Prim.Native.Nat.{ℕ, ◌+◌, ◌≤◌, ◌<◌, max}
-use mathlib.Core.Path.{◌≡◌, refl, sym, ap, ◌∙◌, subst}
-use mathlib.Core.Bool.{Bool, true, false, cond, ◌||◌}
-use mathlib.Core.List.{List, []}
-use native.Mathlib.Omega.{arith}
-use lib.ListN.{length, get_or}
-use lib.Dec.{eqb}
+use Rattle.std.proofs.Common.{Ok, Err, ℕ, ◌+◌, ◌≤◌, ◌<◌, max, ◌≡◌, refl, sym, ap, ◌∙◌, subst, Bool, true, false, cond, ◌||◌, List, [], arith, length, get_or, eqb}
 use Rattle.text.specs.Class.{is_whitespace, is_key, is_id_start, is_id_continue, holds_of}
 use Rattle.text.specs.Scan.{see, skip, past_one, fails, Ahead}
 use Rattle.text.specs.Inner.{Letters}
@@ -19,7 +13,6 @@ use Rattle.text.proofs.Seeing.{seeing}
 use Rattle.row.specs.declared.fault.Reason.TheVariants.{ExpectedIdentifier}
 use Rattle.row.specs.Fault.{fault_at}
 use Rattle.row.specs.Row.{Row}
-use Rattle.raw.specs.declared.answer.Step.TheVariants as step
 use Rattle.raw.specs.Reader.{ok, bad, scan}
 use Rattle.raw.specs.Grammar.{white, comment, key, ident}
 use Rattle.raw.specs.Says.{step_of, Onward}
@@ -41,35 +34,35 @@ module _ (s : List ℕ) (i : ℕ) where
 
 module _ (s : List ℕ) (i : ℕ) where
   -- readers that never refuse, by the place that the code answered
-  pub comment-on : {r : ℕ} → step.At r ≡ step_of (comment s i) → comment s i ≡ ok r []
-  comment-on e = rowless-at (comment-rowless s i) e refl
+  pub comment-on : {r : ℕ} → Ok r ≡ step_of (comment s i) → comment s i ≡ ok r []
+  comment-on e = rowless-at (comment-rowless s i) e
 
-  pub key-on : {r : ℕ} → step.At r ≡ step_of (key s i) → key s i ≡ ok r []
-  key-on e = rowless-at (key-rowless s i) e refl
+  pub key-on : {r : ℕ} → Ok r ≡ step_of (key s i) → key s i ≡ ok r []
+  key-on e = rowless-at (key-rowless s i) e
 
-  pub key-told : {r : ℕ} → r ≡ skip is_key s i → Ahead s i r → (step.At r ≡ step_of (key s i)) × (i ≤ r) × (r ≤ max i (length s))
+  pub key-told : {r : ℕ} → r ≡ skip is_key s i → Ahead s i r → (Ok r ≡ step_of (key s i)) × (i ≤ r) × (r ≤ max i (length s))
   unfolding key
   key-told e a = (sym (ap step_of (scan-on is_key s i e)), a.from, a.to)
 
   module _ {r : ℕ} (e : r ≡ past_one (holds_of test.Percent) i (see s i)) where
-    pub comment-off : r ≡ i → (step.At i ≡ step_of (comment s i)) × (i ≤ i) × (i ≤ max i (length s))
+    pub comment-off : r ≡ i → (Ok i ≡ step_of (comment s i)) × (i ≤ i) × (i ≤ max i (length s))
     unfolding comment
     comment-off h = (sym (ap step_of (eaten-off (holds_of test.Percent) s i (scan (fails test.Newline) s) (ok i []) e h)), omega arith, omega arith)
 
     pub comment-line : {q : ℕ} → (r ≡ i → ⊥) → Ahead s i r → q ≡ skip (fails test.Newline) s r → Ahead s r q
-        → (step.At q ≡ step_of (comment s i)) × (i ≤ q) × (q ≤ max i (length s))
+        → (Ok q ≡ step_of (comment s i)) × (i ≤ q) × (q ≤ max i (length s))
     unfolding comment
     comment-line h a d b =
         let line = scan-on (fails test.Newline) s r d in
         (sym (ap step_of (eaten-on (holds_of test.Percent) s i (scan (fails test.Newline) s) (ok i []) e h ∙ line)), omega arith, omega arith)
 
   module _ {r : ℕ} (e : r ≡ past_one is_id_start i (see s i)) where
-    pub ident-off : r ≡ i → (step.Refused (fault_at ExpectedIdentifier i) ≡ step_of (ident s i)) × Unit {0}
+    pub ident-off : r ≡ i → (Err (fault_at ExpectedIdentifier i) ≡ step_of (ident s i)) × Unit {0}
     unfolding ident
     ident-off h = (sym (ap step_of (eaten-off is_id_start s i (scan is_id_continue s) (bad (fault_at ExpectedIdentifier i)) e h)), tt)
 
     pub ident-line : {q : ℕ} → (r ≡ i → ⊥) → Ahead s i r → q ≡ skip is_id_continue s r → Ahead s r q
-        → (step.At q ≡ step_of (ident s i)) × Onward (length s) 1 i (step.At q)
+        → (Ok q ≡ step_of (ident s i)) × Onward (length s) 1 i (Ok q)
     unfolding ident
     ident-line h a d b =
         let l : i + 1 ≤ r = not_at a.from h in
@@ -78,7 +71,7 @@ module _ (s : List ℕ) (i : ℕ) where
 
   -- an identifier of letters alone, which a space ends, or a byte x that cannot be part of it
   pub ident-letters : {r x : ℕ} → Letters s i r → i < r → r < length s → (x < 128) × (is_id_continue x ≡ false)
-      → (eqb (get_or s r 0) 0x20 || eqb (get_or s r 0) x) ≡ true → (step.At r ≡ step_of (ident s i)) × Onward (length s) 1 i (step.At r)
+      → (eqb (get_or s r 0) 0x20 || eqb (get_or s r 0) x) ≡ true → (Ok r ≡ step_of (ident s i)) × Onward (length s) 1 i (Ok r)
   ident-letters {r} a p q e t =
       let x = seeing.letters-id a p q e.0 e.1 t in
       ident-line x.0 (λ z. omega arith) (record { from = omega arith; to = omega arith }) x.1 (record { from = omega arith; to = omega arith })
@@ -103,5 +96,5 @@ module _ (s : List ℕ) (i x : ℕ) (h : i < length s) (e : get_or s i 0 ≡ x) 
       let c = seeing.char-parts s i x (i + 1) (seeing.at_byte s i x h e l) in
       sym (seeing.skip_stop is_whitespace s i h (subst (λ (y : ℕ). is_whitespace y ≡ false) c.1 w))
 
-  pub no-comment : holds_of test.Percent x ≡ false → step.At i ≡ step_of (comment s i)
+  pub no-comment : holds_of test.Percent x ≡ false → Ok i ≡ step_of (comment s i)
   no-comment w = (comment-off s i (sym (ap (λ (b : Bool). cond b (i + 1) i) w) ∙ past-byte (holds_of test.Percent)) refl).0

@@ -5,6 +5,7 @@
 --     month-text, month-row                  `month`
 --     fits_by                                `fits`
 -- Assumes nothing.
+use Rattle.std.specs.Prelude.{Result, Ok, Err}
 use Prim.Native.Nat.{ℕ, ◌+◌, ◌-◌, ◌/◌, ◌≤◌}
 use native.Mathlib.Omega.{arith}
 use mathlib.Core.Path.{◌≡◌, refl, sym, ap, ap₂, subst, ◌∙◌}
@@ -24,8 +25,6 @@ use Rattle.chunk.specs.Chunk.{Chunk, chunk}
 use Rattle.chunk.specs.Put.{last_place}
 use Rattle.turn.specs.Content.{flatten}
 use Rattle.literal.specs.declared.rows.Rows.{Rows}
-use Rattle.literal.specs.declared.parse.Parsed.{Parsed}
-use Rattle.literal.specs.declared.parse.Parsed.TheVariants as parsed
 use Rattle.literal.specs.Literal.{Resolved, chunks}
 use Rattle.literal.specs.Literal as literal
 use Rattle.literal.specs.Inner.{SaysParsed, GrowsParsed}
@@ -33,7 +32,6 @@ use Rattle.literal.specs.Rows.{most_number, most_rows, RowsHold, Ranges, Pushes,
 use Rattle.literal.proofs.Flattening.{flattening}
 use Rattle.literal.proofs.Joining.{joining}
 use Rattle.resolve.specs.declared.progress.Progress.{Progress}
-use Rattle.resolve.specs.declared.progress.Went.TheVariants as went
 use Rattle.resolve.specs.Resolves.{roomy, fits}
 use Rattle.resolve.specs.Runs.{of_literal}
 use Rattle.resolve.specs.Progress.{small, Has, Appends, SaysRun, Narrow}
@@ -111,28 +109,28 @@ module _ (s : List ℕ) (st : Progress) (rows : Rows) (first last : ℕ) (f : fi
 -- ---- a literal
 
 -- how much a literal comes to
-pub literal-few : (have : Rows) (p : Parsed) → GrowsParsed have p → (k : Rows) (len : ℕ) → p ≡ parsed.Chunks k len
+pub literal-few : (have : Rows) (p : Result (Rows × ℕ) Fault) → GrowsParsed have p → (k : Rows) (len : ℕ) → p ≡ Ok (k, len)
     → (len ≤ least_scratch) × (k.n ≤ have.n + (most_literal + 1))
 literal-few have p g k len e = subst (GrowsParsed have) e g
 
 -- the places of its refusal have 32 bits
-pub literal-narrow : (have : Rows) (p : Parsed) → GrowsParsed have p → (f : Fault) → p ≡ parsed.Refused f → Narrow f
+pub literal-narrow : (have : Rows) (p : Result (Rows × ℕ) Fault) → GrowsParsed have p → (f : Fault) → p ≡ Err f → Narrow f
 literal-narrow have p g f e = let at = subst (GrowsParsed have) e g in (omega (arith, at.0), omega (arith, at.1))
 
-module _ (x : Resolved) (st : Progress) (b t o b' : List ℕ) (p : Parsed) (says : SaysParsed x st.bytes st.rows b p o b') where
-  pub literal-refused : (f : Fault) → p ≡ parsed.Refused f → SaysRun (of_literal x st.names) st b t (went.Refused f) b' t
-  literal-refused f e = by x (subst (λ (q : Parsed). SaysParsed x st.bytes st.rows b q o b') e says)
+module _ (x : Resolved) (st : Progress) (b t o b' : List ℕ) (p : Result (Rows × ℕ) Fault) (says : SaysParsed x st.bytes st.rows b p o b') where
+  pub literal-refused : (f : Fault) → p ≡ Err f → SaysRun (of_literal x st.names) st b t (Err f) b' t
+  literal-refused f e = by x (subst (λ (q : Result (Rows × ℕ) Fault). SaysParsed x st.bytes st.rows b q o b') e says)
     where
-      by : (x : Resolved) → SaysParsed x st.bytes st.rows b (parsed.Refused f) o b' → SaysRun (of_literal x st.names) st b t (went.Refused f) b' t
+      by : (x : Resolved) → SaysParsed x st.bytes st.rows b (Err f) o b' → SaysRun (of_literal x st.names) st b t (Err f) b' t
       by (chunks cs) h = absurd h
       by (literal.refused g) h = h
 
-  pub literal-done : (k : Rows) (len : ℕ) → p ≡ parsed.Chunks k len → len ≤ length o → (st' : Progress) (t' : List ℕ) → st'.names ≡ st.names
-      → Appends k o 0 len st t st' t' → SaysRun (of_literal x st.names) st b t (went.Done st') b' t'
-  literal-done k len e l st' t' n app = by x (subst (λ (q : Parsed). SaysParsed x st.bytes st.rows b q o b') e says)
+  pub literal-done : (k : Rows) (len : ℕ) → p ≡ Ok (k, len) → len ≤ length o → (st' : Progress) (t' : List ℕ) → st'.names ≡ st.names
+      → Appends k o 0 len st t st' t' → SaysRun (of_literal x st.names) st b t (Ok st') b' t'
+  literal-done k len e l st' t' n app = by x (subst (λ (q : Result (Rows × ℕ) Fault). SaysParsed x st.bytes st.rows b q o b') e says)
     where
-      by : (x : Resolved) → SaysParsed x st.bytes st.rows b (parsed.Chunks k len) o b'
-          → SaysRun (of_literal x st.names) st b t (went.Done st') b' t'
+      by : (x : Resolved) → SaysParsed x st.bytes st.rows b (Ok (k, len)) o b'
+          → SaysRun (of_literal x st.names) st b t (Ok st') b' t'
       by (chunks cs) h = (
         n,
         λ ps b₀ t₀ has.

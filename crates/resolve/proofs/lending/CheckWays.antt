@@ -3,8 +3,12 @@
 --     text-not, text-inside, text-there    `is_text`
 --     month-pass, month-not, month-end, count-not, count-whole      `are_months`
 --     value_none, value_there              `is_value`
---     lent-bad, lent-good                  `are_lent`
+--     lent-told                            `are_lent`
 -- Assumes nothing.
+use Rattle.text.specs.declared.utf8.IllFormed.{IllFormed}
+use Rattle.std.specs.Prelude.{Ok, Err, Result, ⊤, is_ok}
+use Rattle.row.specs.declared.fault.Reason.{Reason}
+use Rattle.row.specs.declared.fault.Reason.TheVariants.{BadRows}
 use Prim.Native.Nat.{ℕ, ◌+◌, ◌-◌, ◌*◌, ◌/◌, ◌%◌, ◌≤◌, ◌<◌}
 use native.Mathlib.Omega.{arith}
 use mathlib.Core.Path.{◌≡◌, refl, sym, ◌∙◌}
@@ -13,12 +17,10 @@ use mathlib.Core.List.{List}
 use lib.ListN.{length, get_or, take, drop, drop_of_length-le}
 use lib.Dec.{eqb, ltb}
 use borrow.Author.Tests.{ltb-true, ltb-false, lt-leb, le-leb, eq-eqb, ne_eqb}
-use Rattle.text.specs.declared.utf8.Validity.{Validity}
 use Rattle.text.specs.Utf8.{validity_of}
 use Rattle.text.proofs.general.Places.{part-clamped}
 use Rattle.text.specs.Every.{every}
-use Rattle.row.specs.declared.check.Checked.TheVariants as checked
-use Rattle.row.specs.Numbers.{rows_of, are_rows}
+use Rattle.row.specs.Numbers.{rows_of, are_rows, check_of}
 use Rattle.row.specs.Laid.{row_at}
 use Rattle.row.proofs.Laid.{laid}
 use Rattle.resolve.specs.OneLiteral.{is_span}
@@ -59,12 +61,17 @@ module _ (words : List ℕ) (from to : ℕ) where
       by false true p q e = let z : ◌≡◌ {A = ℕ} 0 1 = cc in absurd (omega arith)
       by false false p q e = (ltb-false to from p, ltb-false (length words) to q)
 
-  pub text-there : (ltb to from || ltb (length words) to) ≡ false → (v : Validity) → v ≡ validity_of (take (to - from) (drop from words))
+  pub text-there : (ltb to from || ltb (length words) to) ≡ false → (v : Result ⊤ IllFormed) → v ≡ validity_of (take (to - from) (drop from words))
       → is_valid v ≡ is_text words from to
   text-there t v e =
       let h = text-inside t in
       let p = part-clamped words from to {n = to} {m = from} (omega arith) (omega arith) in
       rw (le-leb from to h.0, le-leb to (length words) h.1, ← p, ← e)
+
+-- what the code asks, and the definition
+pub valid-told : (v : Result ⊤ IllFormed) → is_ok v ≡ is_valid v
+valid-told (Ok x) = refl
+valid-told (Err e) = refl
 
 -- ---- months
 
@@ -109,20 +116,11 @@ module _ (rows : List ℕ) (which : ℕ) where
 -- ---- all of it
 
 module _ (file rows months words : List ℕ) where
-  pub lent-bad : checked.BadRows ≡ cond (are_rows rows) checked.Passed checked.BadRows → false ≡ are_lent file rows months words
+  pub lent-told : ((is_ok (check_of rows) && every_span file (rows_of rows)) && are_months months words) ≡ are_lent file rows months words
   unfolding are_lent
-  lent-bad = by (are_rows rows)
+  lent-told = by (are_rows rows)
     where
-      by : (w : Bool) → checked.BadRows ≡ cond w checked.Passed checked.BadRows → false ≡ (w && (every_span file (rows_of rows) && are_months months words))
-      by true e = let z : ◌≡◌ {A = ℕ} 0 1 = cc in absurd (omega arith)
-      by false e = refl
-
-  pub lent-good : checked.Passed ≡ cond (are_rows rows) checked.Passed checked.BadRows
-      → (every_span file (rows_of rows) && are_months months words) ≡ are_lent file rows months words
-  unfolding are_lent
-  lent-good = by (are_rows rows)
-    where
-      by : (w : Bool) → checked.Passed ≡ cond w checked.Passed checked.BadRows
-          → (every_span file (rows_of rows) && are_months months words) ≡ (w && (every_span file (rows_of rows) && are_months months words))
-      by true e = refl
-      by false e = let z : ◌≡◌ {A = ℕ} 0 1 = cc in absurd (omega arith)
+      by : (x : Bool) → ((is_ok {T = ⊤} {E = Reason} (cond x (Ok tt) (Err BadRows)) && every_span file (rows_of rows)) && are_months months words)
+          ≡ (x && (every_span file (rows_of rows) && are_months months words))
+      by true = refl
+      by false = refl

@@ -5,6 +5,9 @@
 --     asked-file, asked-bad, asked-scratch       the refusals of a call
 --     asked-all                                  what is written, where all is right
 -- Assumes nothing.
+use Rattle.text.specs.declared.utf8.IllFormed.{IllFormed}
+use Rattle.std.specs.Prelude.{Result, Ok, Err, ⊤}
+use Rattle.resolve.specs.declared.answer.Chunks.{Chunks}
 use Prim.Native.Nat.{ℕ, ◌+◌, ◌-◌, ◌≤◌, ◌<◌}
 use native.Mathlib.Omega.{arith}
 use mathlib.Core.Path.{◌≡◌, refl, sym, ap, subst, ◌∙◌}
@@ -15,7 +18,6 @@ use lib.Dec.{leb}
 use borrow.Author.Tests.{leb-true, le-leb, lt-leb, not-true, not-false}
 use Rattle.text.specs.Utf8.{is_boundary, validity_of}
 use Rattle.text.specs.Scan.{part}
-use Rattle.text.specs.declared.utf8.Validity.{Validity}
 use Rattle.text.proofs.general.Tests.{both_true}
 use Rattle.text.proofs.general.Parts.{length_part}
 use Rattle.text.proofs.general.Places.{part-clamped}
@@ -23,32 +25,28 @@ use Rattle.row.specs.declared.fault.Fault.{Fault}
 use Rattle.row.specs.declared.fault.Reason.TheVariants.{TooLong, NoRoom, BadRows}
 use Rattle.row.specs.Fault.{nowhere}
 use Rattle.row.specs.Limits.{most_bytes, least_scratch}
-use Rattle.chunk.specs.declared.answer.Checked.{Checked}
-use Rattle.chunk.specs.declared.answer.Checked.TheVariants as checked
 use Rattle.literal.specs.Literal.{resolve_literal}
-use Rattle.resolve.specs.declared.answer.Answer.{Answer}
-use Rattle.resolve.specs.declared.answer.Answer.TheVariants as answer
 use Rattle.resolve.specs.Resolves.{Value, refused, Writes, of_utf8, checked_file, after, asked}
 use Rattle.resolve.specs.OneLiteral.{is_span, value_of}
 
 -- ---- a file
 
 module _ (file : List ℕ) where
-  pub file-long : most_bytes < length file → checked.Refused (nowhere TooLong) ≡ checked_file file
+  pub file-long : most_bytes < length file → Err (nowhere TooLong) ≡ checked_file file
   unfolding checked_file
-  file-long h = ap (λ (x : Bool). cond x (of_utf8 (validity_of file)) (checked.Refused (nowhere TooLong))) (sym (lt-leb (length file) most_bytes h))
+  file-long h = ap (λ (x : Bool). cond x (of_utf8 (validity_of file)) (Err (nowhere TooLong))) (sym (lt-leb (length file) most_bytes h))
 
-  pub file-utf8 : (v : Validity) → length file ≤ most_bytes → v ≡ validity_of file → of_utf8 v ≡ checked_file file
+  pub file-utf8 : (v : Result ⊤ IllFormed) → length file ≤ most_bytes → v ≡ validity_of file → of_utf8 v ≡ checked_file file
   unfolding checked_file
   file-utf8 v h e =
       ap of_utf8 e
-      ∙ ap (λ (x : Bool). cond x (of_utf8 (validity_of file)) (checked.Refused (nowhere TooLong))) (sym (le-leb (length file) most_bytes h))
+      ∙ ap (λ (x : Bool). cond x (of_utf8 (validity_of file)) (Err (nowhere TooLong))) (sym (le-leb (length file) most_bytes h))
 
-  pub file-small : (r : Checked) → r ≡ checked_file file → r ≡ checked.Passed → length file ≤ most_bytes
+  pub file-small : (r : Result ⊤ Fault) → r ≡ checked_file file → r ≡ Ok tt → length file ≤ most_bytes
   unfolding checked_file
   file-small r e k = leb-true (length file) most_bytes (by (leb (length file) most_bytes) (sym e ∙ k))
     where
-      by : (x : Bool) → cond x (of_utf8 (validity_of file)) (checked.Refused (nowhere TooLong)) ≡ checked.Passed → x ≡ true
+      by : (x : Bool) → cond x (of_utf8 (validity_of file)) (Err (nowhere TooLong)) ≡ Ok tt → x ≡ true
       by true k = refl
       by false k = cc
 
@@ -73,11 +71,11 @@ module _ (file : List ℕ) (a e : ℕ) (x : Bool) (l : x ≡ is_span file a e) (
   pub span-good : (a ≤ e) × (e ≤ length file)
   span-good = span-ends file a e (sym l ∙ not-false x n)
 
-  pub span-room : (r : Checked) → r ≡ checked_file file → r ≡ checked.Passed → a + length (take (e - a) (drop a file)) ≤ most_bytes
+  pub span-room : (r : Result ⊤ Fault) → r ≡ checked_file file → r ≡ Ok tt → a + length (take (e - a) (drop a file)) ≤ most_bytes
   span-room r h k = cut-room file a e span-good.0 span-good.1 (file-small file r h k)
 
   -- a literal that is written is that of the span
-  pub span-writes : (verb : Bool) (b t : List ℕ) (u : Answer) (b' t' : List ℕ)
+  pub span-writes : (verb : Bool) (b t : List ℕ) (u : Result Chunks Fault) (b' t' : List ℕ)
       → Writes (value_of (resolve_literal verb (take (e - a) (drop a file)) a)) b t u b' t'
       → Writes (value_of (resolve_literal verb (part file a e) a)) b t u b' t'
   span-writes verb b t u b' t' h =
@@ -85,9 +83,9 @@ module _ (file : List ℕ) (a e : ℕ) (x : Bool) (l : x ≡ is_span file a e) (
 
 -- ---- what a call comes to, whose places or rows are good or not
 
-refused-writes : (value : Value) (f : Fault) (b t : List ℕ) → value ≡ refused f → Writes value b t (answer.Refused f) b t
+refused-writes : (value : Value) (f : Fault) (b t : List ℕ) → value ≡ refused f → Writes value b t (Err f) b t
 refused-writes value f b t e =
-    subst (λ (v : Value). Writes v b t (answer.Refused f) b t) (sym e) (record { answer = refl; rows = refl; text = refl })
+    subst (λ (v : Value). Writes v b t (Err f) b t) (sym e) (record { answer = refl; rows = refl; text = refl })
 
 module _ (file : List ℕ) (good : Bool) (w : ℕ) (value : Value) (b t : List ℕ) where
   abbrev whole : Value
@@ -96,27 +94,27 @@ module _ (file : List ℕ) (good : Bool) (w : ℕ) (value : Value) (b t : List �
   abbrev judged : Bool → Value
   judged x = cond x (cond (leb least_scratch w) value (refused (nowhere NoRoom))) (refused (nowhere BadRows))
 
-  module _ (r : Checked) (h : r ≡ checked_file file) where
-    pub asked-file : (f : Fault) → r ≡ checked.Refused f → Writes whole b t (answer.Refused f) b t
-    asked-file f k = refused-writes whole f b t (ap (λ (x : Checked). after x (judged good)) (sym h ∙ k))
+  module _ (r : Result ⊤ Fault) (h : r ≡ checked_file file) where
+    pub asked-file : (f : Fault) → r ≡ Err f → Writes whole b t (Err f) b t
+    asked-file f k = refused-writes whole f b t (ap (λ (x : Result ⊤ Fault). after x (judged good)) (sym h ∙ k))
 
-    module _ (k : r ≡ checked.Passed) (x : Bool) (l : x ≡ good) where
+    module _ (k : r ≡ Ok tt) (x : Bool) (l : x ≡ good) where
       passed : whole ≡ judged x
-      passed = ap (λ (y : Checked). after y (judged good)) (sym h ∙ k) ∙ ap judged (sym l)
+      passed = ap (λ (y : Result ⊤ Fault). after y (judged good)) (sym h ∙ k) ∙ ap judged (sym l)
 
-      pub asked-bad : not x ≡ true → Writes whole b t (answer.Refused (nowhere BadRows)) b t
+      pub asked-bad : not x ≡ true → Writes whole b t (Err (nowhere BadRows)) b t
       asked-bad n = refused-writes whole (nowhere BadRows) b t (passed ∙ ap judged (not-true x n))
 
       module _ (n : not x ≡ false) where
         right : whole ≡ cond (leb least_scratch w) value (refused (nowhere NoRoom))
         right = passed ∙ ap judged (not-false x n)
 
-        pub asked-scratch : w < least_scratch → Writes whole b t (answer.Refused (nowhere NoRoom)) b t
+        pub asked-scratch : w < least_scratch → Writes whole b t (Err (nowhere NoRoom)) b t
         asked-scratch m =
             refused-writes whole (nowhere NoRoom) b t
             (right ∙ ap (λ (y : Bool). cond y value (refused (nowhere NoRoom))) (lt-leb least_scratch w m))
 
-        pub asked-all : least_scratch ≤ w → (u : Answer) (b' t' : List ℕ) → Writes value b t u b' t' → Writes whole b t u b' t'
+        pub asked-all : least_scratch ≤ w → (u : Result Chunks Fault) (b' t' : List ℕ) → Writes value b t u b' t' → Writes whole b t u b' t'
         asked-all m u b' t' z =
             subst (λ (v : Value). Writes v b t u b' t')
             (sym (right ∙ ap (λ (y : Bool). cond y value (refused (nowhere NoRoom))) (le-leb least_scratch w m))) z

@@ -6,6 +6,8 @@
 --     one-full, one-done                         the ways through `one_chunk`
 --     whole-writes, answer-bounded               `single` of a literal that is one chunk; the bounds of its answer
 -- Assumes nothing.
+use Rattle.resolve.specs.declared.answer.Chunks.{Chunks}
+use Rattle.std.specs.Prelude.{Result, Ok, Err}
 use Prim.Native.Nat.{ℕ, ◌+◌, ◌*◌, ◌/◌, ◌≤◌}
 use native.Mathlib.Omega.{arith}
 use mathlib.Core.Path.{◌≡◌, refl, sym, ap, ap₂, subst, ◌∙◌}
@@ -28,8 +30,6 @@ use Rattle.chunk.specs.Chunk.{Chunk, chunk, flat_chunks}
 use Rattle.chunk.specs.Put.{last_place, Puts}
 use Rattle.turn.specs.Content.{flatten_from, flatten}
 use Rattle.literal.specs.declared.rows.Rows.{Rows}
-use Rattle.literal.specs.declared.parse.Parsed.{Parsed}
-use Rattle.literal.specs.declared.parse.Parsed.TheVariants as parsed
 use Rattle.literal.specs.Literal.{Resolved, chunks, resolve_literal}
 use Rattle.literal.specs.Literal as literal
 use Rattle.literal.specs.Rows.{most_number, InReach, RowsHold, Pushes, rows_from, writes, texts_of, last_kind, last_text, last_start}
@@ -38,8 +38,6 @@ use Rattle.literal.specs.Refusals.{ContentFault, LiteralFault}
 use Rattle.literal.specs.Refusals as fault
 use Rattle.literal.proofs.Flattening.{flattening}
 use Rattle.literal.proofs.Refusals.{refusals}
-use Rattle.resolve.specs.declared.answer.Answer.{Answer}
-use Rattle.resolve.specs.declared.answer.Answer.TheVariants as answer
 use Rattle.resolve.specs.Resolves.{resolved, roomy, fits, told, Writes}
 use Rattle.resolve.specs.Progress.{Narrow, BoundedAnswer}
 use Rattle.resolve.specs.OneLiteral.{value_of}
@@ -55,7 +53,7 @@ nothing-held b = record { numbers = λ _. refl; count = refl; last = refl; from 
 
 -- the first chunks of a value
 first-added : {cs : List Chunk} {k : Rows} {len : ℕ} {o' b' : List ℕ} (b : List ℕ)
-    → SaysParsed (chunks cs) 0 none b (parsed.Chunks k len) o' b' → Added [] cs b k len o' b'
+    → SaysParsed (chunks cs) 0 none b (Ok (k, len)) o' b' → Added [] cs b k len o' b'
 unfolding texts_of
 first-added b h = h [] b refl (nothing-held b)
 
@@ -100,9 +98,9 @@ module _ (cs : List Chunk) (n len : ℕ) (many : n ≡ length cs) (long : len �
   fits-as : (x : Bool) → full b t n len ≡ x → fits cs b t ≡ not x
   fits-as x q = fits-test cs b t n len many long short ∙ ap not q
 
-  full-with : full b t n len ≡ true → Writes (resolved cs 0) b t (answer.Refused (nowhere NoRoom)) b t
+  full-with : full b t n len ≡ true → Writes (resolved cs 0) b t (Err (nowhere NoRoom)) b t
   full-with q = record {
-    answer = ap (λ (x : Bool). cond x (answer.Chunks (length cs) (length (texts_of cs)) 0) (answer.Refused (nowhere NoRoom))) (sym (fits-as true q));
+    answer = ap (λ (x : Bool). cond x (Ok (record { rows = length cs; bytes = length (texts_of cs); names = 0 })) (Err (nowhere NoRoom))) (sym (fits-as true q));
     rows = ap (λ (x : Bool). cond x (flat_chunks (rows_from 0 cs) ++ drop (length cs * 5) b) b) (sym (fits-as true q));
     text = ap (λ (x : Bool). cond x (texts_of cs ++ drop (length (texts_of cs)) t) t) (sym (fits-as true q));
   }
@@ -112,10 +110,10 @@ module _ (cs : List Chunk) (n len : ℕ) (many : n ≡ length cs) (long : len �
     put-rows b' e = e ∙ flattening.rows_written b cs (omega (arith, many, (enough b t n len q).0))
 
     done-with : (w : List ℕ) (p : ℕ) (t' : List ℕ) → w ≡ texts_of cs → Puts t 0 w p t' → (b' : List ℕ)
-        → b' ≡ flat_chunks (rows_from 0 cs) ++ drop (length cs * 5) b → Writes (resolved cs 0) b t (answer.Chunks n len 0) b' t'
+        → b' ≡ flat_chunks (rows_from 0 cs) ++ drop (length cs * 5) b → Writes (resolved cs 0) b t (Ok (record { rows = n; bytes = len; names = 0 })) b' t'
     done-with w p t' e y b' z = record {
-      answer = ap₂ (λ (m n : ℕ). answer.Chunks m n 0) many long
-          ∙ ap (λ (x : Bool). cond x (answer.Chunks (length cs) (length (texts_of cs)) 0) (answer.Refused (nowhere NoRoom))) (sym (fits-as false q));
+      answer = ap₂ (λ (m n : ℕ). Ok (record { rows = m; bytes = n; names = 0 })) many long
+          ∙ ap (λ (x : Bool). cond x (Ok (record { rows = length cs; bytes = length (texts_of cs); names = 0 })) (Err (nowhere NoRoom))) (sym (fits-as false q));
       rows = z ∙ ap (λ (x : Bool). cond x (flat_chunks (rows_from 0 cs) ++ drop (length cs * 5) b) b) (sym (fits-as false q));
       text = put-text ∙ ap (λ (x : Bool). cond x (texts_of cs ++ drop (length (texts_of cs)) t) t) (sym (fits-as false q));
     }
@@ -130,20 +128,20 @@ module _ (cs : List Chunk) (n len : ℕ) (many : n ≡ length cs) (long : len �
 
 -- ---- the ways through `write`
 
-module _ (R : Resolved) (nb : List ℕ) (r : Parsed) (o₁ nb' : List ℕ) (h : SaysParsed R 0 none nb r o₁ nb') (b t : List ℕ) where
-  pub write-refused : (f : Fault) → r ≡ parsed.Refused f → Writes (value_of R) b t (answer.Refused f) b t
-  write-refused f e = by R (subst (λ (x : Parsed). SaysParsed R 0 none nb x o₁ nb') e h)
+module _ (R : Resolved) (nb : List ℕ) (r : Result (Rows × ℕ) Fault) (o₁ nb' : List ℕ) (h : SaysParsed R 0 none nb r o₁ nb') (b t : List ℕ) where
+  pub write-refused : (f : Fault) → r ≡ Err f → Writes (value_of R) b t (Err f) b t
+  write-refused f e = by R (subst (λ (x : Result (Rows × ℕ) Fault). SaysParsed R 0 none nb x o₁ nb') e h)
     where
-      by : (R : Resolved) → SaysParsed R 0 none nb (parsed.Refused f) o₁ nb' → Writes (value_of R) b t (answer.Refused f) b t
+      by : (R : Resolved) → SaysParsed R 0 none nb (Err f) o₁ nb' → Writes (value_of R) b t (Err f) b t
       by (chunks cs) k = absurd k
-      by (literal.refused g) k = record { answer = ap answer.Refused k; rows = refl; text = refl }
+      by (literal.refused g) k = record { answer = ap Err k; rows = refl; text = refl }
 
-  module _ (k : Rows) (len : ℕ) (e : r ≡ parsed.Chunks k len) (g : GrowsParsed none r) where
+  module _ (k : Rows) (len : ℕ) (e : r ≡ Ok (k, len)) (g : GrowsParsed none r) where
     pub write-few : (len ≤ least_scratch) × (k.n ≤ 0 + (most_literal + 1))
     write-few = subst (GrowsParsed none) e g
 
-    counted : SaysParsed R 0 none nb (parsed.Chunks k len) o₁ nb'
-    counted = subst (λ (x : Parsed). SaysParsed R 0 none nb x o₁ nb') e h
+    counted : SaysParsed R 0 none nb (Ok (k, len)) o₁ nb'
+    counted = subst (λ (x : Result (Rows × ℕ) Fault). SaysParsed R 0 none nb x o₁ nb') e h
 
     -- what the counting pass says of the chunks
     module _ (cs : List Chunk) (c : Added [] cs nb k len o₁ nb') where
@@ -159,18 +157,18 @@ module _ (R : Resolved) (nb : List ℕ) (r : Parsed) (o₁ nb' : List ℕ) (h : 
       long : len ≡ length (texts_of flat)
       long = c.bytes ∙ ap length (sym texts)
 
-      full-flat : full b t k.n len ≡ true → Writes (resolved flat 0) b t (answer.Refused (nowhere NoRoom)) b t
+      full-flat : full b t k.n len ≡ true → Writes (resolved flat 0) b t (Err (nowhere NoRoom)) b t
       full-flat = full-with flat k.n len many long write-few.0 b t
 
       reach : InReach flat
       reach = in_reach flat k.n len many long write-few.0 b t
 
       module _ (q : full b t k.n len ≡ false) (room : len ≤ length o₁) where
-        second : (r₂ : Parsed) (o₂ b' : List ℕ) → SaysParsed (chunks cs) 0 none b r₂ o₂ b'
+        second : (r₂ : Result (Rows × ℕ) Fault) (o₂ b' : List ℕ) → SaysParsed (chunks cs) 0 none b r₂ o₂ b'
             → b' ≡ flat_chunks (rows_from 0 flat) ++ drop (length flat * 5) b
-        second (parsed.Chunks k₂ len₂) o₂ b' z =
+        second (Ok (k₂, len₂)) o₂ b' z =
             put-rows flat k.n len many long write-few.0 b t q b' ((first-added b z).rows.numbers reach)
-        second (parsed.Refused f) o₂ b' z = absurd z
+        second (Err f) o₂ b' z = absurd z
 
         -- the rows that the small room holds
         held : k.n * 5 ≤ length nb → take (k.n * 5) nb' ≡ flat_chunks (rows_from 0 flat)
@@ -183,34 +181,34 @@ module _ (R : Resolved) (nb : List ℕ) (r : Parsed) (o₁ nb' : List ℕ) (h : 
         held_rows l b' e = e ∙ ap₂ ◌++◌ (held l) (ap (λ (n : ℕ). drop (n * 5) b) many)
 
         done-flat : (p : ℕ) (t' : List ℕ) → Puts t 0 (part o₁ 0 len) p t' → (b' : List ℕ)
-            → b' ≡ flat_chunks (rows_from 0 flat) ++ drop (length flat * 5) b → Writes (resolved flat 0) b t (answer.Chunks k.n len 0) b' t'
+            → b' ≡ flat_chunks (rows_from 0 flat) ++ drop (length flat * 5) b → Writes (resolved flat 0) b t (Ok (record { rows = k.n; bytes = len; names = 0 })) b' t'
         done-flat p t' =
             done-with flat k.n len many long write-few.0 b t q (part o₁ 0 len) p t'
             (part-take o₁ len room ∙ c.text ∙ sym texts)
 
-    pub write-full : full b t k.n len ≡ true → Writes (value_of R) b t (answer.Refused (nowhere NoRoom)) b t
+    pub write-full : full b t k.n len ≡ true → Writes (value_of R) b t (Err (nowhere NoRoom)) b t
     write-full q = by R counted
       where
-        by : (R : Resolved) → SaysParsed R 0 none nb (parsed.Chunks k len) o₁ nb'
-            → Writes (value_of R) b t (answer.Refused (nowhere NoRoom)) b t
+        by : (R : Resolved) → SaysParsed R 0 none nb (Ok (k, len)) o₁ nb'
+            → Writes (value_of R) b t (Err (nowhere NoRoom)) b t
         by (chunks cs) c = full-flat cs (first-added nb c) q
         by (literal.refused f) c = absurd c
 
     pub write_done : full b t k.n len ≡ false → len ≤ length o₁ → (p : ℕ) (t' : List ℕ) → Puts t 0 (part o₁ 0 len) p t'
-        → (r₂ : Parsed) (o₂ b' : List ℕ) → SaysParsed R 0 none b r₂ o₂ b' → Writes (value_of R) b t (answer.Chunks k.n len 0) b' t'
+        → (r₂ : Result (Rows × ℕ) Fault) (o₂ b' : List ℕ) → SaysParsed R 0 none b r₂ o₂ b' → Writes (value_of R) b t (Ok (record { rows = k.n; bytes = len; names = 0 })) b' t'
     write_done q room p t' y r₂ o₂ b' z = by R counted z
       where
-        by : (R : Resolved) → SaysParsed R 0 none nb (parsed.Chunks k len) o₁ nb' → SaysParsed R 0 none b r₂ o₂ b'
-            → Writes (value_of R) b t (answer.Chunks k.n len 0) b' t'
+        by : (R : Resolved) → SaysParsed R 0 none nb (Ok (k, len)) o₁ nb' → SaysParsed R 0 none b r₂ o₂ b'
+            → Writes (value_of R) b t (Ok (record { rows = k.n; bytes = len; names = 0 })) b' t'
         by (chunks cs) c z = done-flat cs (first-added nb c) q room p t' y b' (second cs (first-added nb c) q room r₂ o₂ b' z)
         by (literal.refused f) c z = absurd c
 
     pub write-held : full b t k.n len ≡ false → len ≤ length o₁ → (p : ℕ) (t' : List ℕ) → Puts t 0 (part o₁ 0 len) p t'
         → k.n * 5 ≤ length nb → (b' : List ℕ) → b' ≡ take (k.n * 5) nb' ++ drop (k.n * 5) b
-        → Writes (value_of R) b t (answer.Chunks k.n len 0) b' t'
+        → Writes (value_of R) b t (Ok (record { rows = k.n; bytes = len; names = 0 })) b' t'
     write-held q room p t' y l b' z = by R counted
       where
-        by : (R : Resolved) → SaysParsed R 0 none nb (parsed.Chunks k len) o₁ nb' → Writes (value_of R) b t (answer.Chunks k.n len 0) b' t'
+        by : (R : Resolved) → SaysParsed R 0 none nb (Ok (k, len)) o₁ nb' → Writes (value_of R) b t (Ok (record { rows = k.n; bytes = len; names = 0 })) b' t'
         by (chunks cs) c = done-flat cs (first-added nb c) q room p t' y b' (held_rows cs (first-added nb c) q room l b' z)
         by (literal.refused f) c = absurd c
 
@@ -231,12 +229,12 @@ module _ (o : List ℕ) (n a e : ℕ) (few : n ≤ least_scratch) (l : n ≤ len
   one-long : n ≡ length (texts_of one)
   one-long = sym (ap length one-text ∙ length-take-le n o l)
 
-  pub one-full : full b t 1 n ≡ true → Writes (resolved one 0) b t (answer.Refused (nowhere NoRoom)) b t
+  pub one-full : full b t 1 n ≡ true → Writes (resolved one 0) b t (Err (nowhere NoRoom)) b t
   one-full = full-with one 1 n refl one-long few b t
 
   pub one-done : full b t 1 n ≡ false → (k₀ : Rows) → ((b : List ℕ) → RowsHold [] b k₀ b) → (k : Rows) (b' : List ℕ)
       → Pushes Normal 0 (0 + n) a e k₀ b k b' → (p : ℕ) (t' : List ℕ) → Puts t 0 (part o 0 n) p t'
-      → Writes (resolved one 0) b t (answer.Chunks 1 n 0) b' t'
+      → Writes (resolved one 0) b t (Ok (record { rows = 1; bytes = n; names = 0 })) b' t'
   unfolding texts_of
   one-done q k₀ h k b' z p t' y =
       done-with one 1 n refl one-long few b t q (part o 0 n) p t' (part-take o n l ∙ sym one-text) y b'
@@ -246,7 +244,7 @@ module _ (o : List ℕ) (n a e : ℕ) (few : n ≤ least_scratch) (l : n ≤ len
 -- ---- `single`
 
 -- a literal that is one chunk
-pub whole-writes : (verb : Bool) (s : List ℕ) (n base : ℕ) (o : List ℕ) → OneChunk verb s n o → (b t : List ℕ) (r : Answer) (b' t' : List ℕ)
+pub whole-writes : (verb : Bool) (s : List ℕ) (n base : ℕ) (o : List ℕ) → OneChunk verb s n o → (b t : List ℕ) (r : Result Chunks Fault) (b' t' : List ℕ)
     → Writes (resolved (chunk Normal (take n o) base (base + length s) ∷ []) 0) b t r b' t'
     → Writes (value_of (resolve_literal verb s base)) b t r b' t'
 unfolding flatten_from
@@ -264,7 +262,7 @@ module _ (verb : Bool) (s : List ℕ) (base : ℕ) (l : base + length s ≤ most
   fault-narrow f (fault.met g h m) = content-narrow g m
 
   fits-bounded : (cs : List Chunk) (x : Bool) → fits cs b t ≡ x
-      → BoundedAnswer (cond x (answer.Chunks (length cs) (length (texts_of cs)) 0) (answer.Refused (nowhere NoRoom)))
+      → BoundedAnswer (cond x (Ok (record { rows = length cs; bytes = length (texts_of cs); names = 0 })) (Err (nowhere NoRoom)))
   fits-bounded cs true e =
       let both = both_true (leb (length (texts_of cs)) most_number) (roomy cs b t) e in
       let room = leb-true (length cs) (length b / 5) (both_true (leb (length cs) (length b / 5)) _ both.1).0 in
@@ -275,5 +273,5 @@ module _ (verb : Bool) (s : List ℕ) (base : ℕ) (l : base + length s ≤ most
   told-bounded (chunks cs) e = fits-bounded (flatten cs) (fits (flatten cs) b t) refl
   told-bounded (literal.refused f) e = fault-narrow f (refusals.literal verb s base f e)
 
-  pub answer-bounded : {r : Answer} (b' t' : List ℕ) → Writes (value_of (resolve_literal verb s base)) b t r b' t' → BoundedAnswer r
+  pub answer-bounded : {r : Result Chunks Fault} (b' t' : List ℕ) → Writes (value_of (resolve_literal verb s base)) b t r b' t' → BoundedAnswer r
   answer-bounded b' t' h = subst BoundedAnswer (sym h.answer) (told-bounded (resolve_literal verb s base) refl)

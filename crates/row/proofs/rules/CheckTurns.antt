@@ -5,6 +5,8 @@
 --     named_value, named_other  after a field's or definition's name: a value row stands there, or something else
 --     bad-rows, bad-count       rows that break the rules are refused, and numbers that are no whole number of rows
 -- Assumes nothing.
+use Rattle.std.specs.Prelude.{Option, Some, None, Ok, Err}
+use Rattle.row.specs.declared.fault.Reason.TheVariants.{BadRows}
 use Prim.Native.Nat.{ℕ, ◌+◌, ◌%◌, ◌≤◌}
 use native.Mathlib.Omega.{arith}
 use mathlib.Core.Path.{◌≡◌, refl, sym, ap, ◌∙◌}
@@ -15,9 +17,6 @@ use lib.Dec.{eqb, leb}
 use borrow.Author.Tests.{leb-true, leb-false, eqb-true, ne_eqb}
 use Rattle.row.specs.declared.check.State.{State}
 use Rattle.row.specs.declared.check.State.TheVariants as state
-use Rattle.row.specs.declared.check.Found.{Found}
-use Rattle.row.specs.declared.check.Found.TheVariants as found
-use Rattle.row.specs.declared.check.Checked.TheVariants as checked
 use Rattle.row.specs.Row.{Row}
 use Rattle.row.specs.Rules.{Await, part, type, key, value, chunk, chunks, cause, wrong, is_detail, begun, next, run, whole, is_rows}
 use Rattle.row.specs.Numbers.{rows_of, are_rows, check_of, await_of, state_of, whole_of, or_wrong, found_of}
@@ -52,22 +51,22 @@ module _ (f : Bool) (n : ℕ) (p0 : n ≡ 0 → ⊥) (p1 : n ≡ 1 → ⊥) (p4 
 
 -- ---- where a value row must stand
 
-taken-row : (i j : ℕ) (f : Bool) (r : Row) (rs : List Row) → found_of i (r ∷ rs) ≡ found.Value j
+taken-row : (i j : ℕ) (f : Bool) (r : Row) (rs : List Row) → found_of i (r ∷ rs) ≡ Some j
     → (j ≡ i + 4) × (run (value f) (r ∷ rs) ≡ run (chunk f) rs)
 unfolding run next found_of
 taken-row i j f r rs = by (eqb r.kind 5) (eqb r.detail 0) refl refl
   where
-    by : (b c : Bool) → eqb r.kind 5 ≡ b → eqb r.detail 0 ≡ c → cond (b && c) (found.Value (i + 4)) found.Other ≡ found.Value j
+    by : (b c : Bool) → eqb r.kind 5 ≡ b → eqb r.detail 0 ≡ c → cond (b && c) (Some (i + 4)) None ≡ Some j
         → (j ≡ i + 4) × (run (after_row (value f) r.kind r.detail) rs ≡ run (chunk f) rs)
     by true true p q e = (cc, rw (eqb-true r.kind 5 p, eqb-true r.detail 0 q))
     by true false p q e = let z : ◌≡◌ {A = ℕ} 0 1 = cc in absurd (omega arith)
     by false c p q e = let z : ◌≡◌ {A = ℕ} 0 1 = cc in absurd (omega arith)
 
-not_found : (i j : ℕ) → found_of i [] ≡ found.Value j → ⊥
+not_found : (i j : ℕ) → found_of i [] ≡ Some j → ⊥
 unfolding found_of
 not_found i j e = let z : ◌≡◌ {A = ℕ} 0 1 = cc in omega arith
 
-refused-row : (i : ℕ) (f : Bool) (rs : List Row) → found_of i rs ≡ found.Other → whole (run (value f) rs) ≡ false
+refused-row : (i : ℕ) (f : Bool) (rs : List Row) → found_of i rs ≡ None → whole (run (value f) rs) ≡ false
 unfolding run next found_of
 refused-row i f [] e = refl
 refused-row i f (r ∷ rs) e = by (eqb r.kind 5) (eqb r.detail 0) refl refl e
@@ -76,7 +75,7 @@ refused-row i f (r ∷ rs) e = by (eqb r.kind 5) (eqb r.detail 0) refl refl e
     on true = ap whole (run-wrong rs)
     on false = ap whole (run-wrong rs)
 
-    by : (b c : Bool) → eqb r.kind 5 ≡ b → eqb r.detail 0 ≡ c → cond (b && c) (found.Value (i + 4)) found.Other ≡ found.Other
+    by : (b c : Bool) → eqb r.kind 5 ≡ b → eqb r.detail 0 ≡ c → cond (b && c) (Some (i + 4)) None ≡ None
         → whole (run (cond (is_detail r.kind r.detail) (cond (eqb r.kind 5) (chunk f) wrong) wrong) rs) ≡ false
     by true true p q e = let z : ◌≡◌ {A = ℕ} 0 1 = cc in absurd (omega arith)
     by true false p q e = rw (eqb-true r.kind 5 p, q) (ap whole (run-wrong rs))
@@ -101,7 +100,7 @@ module _ (l : List ℕ) (i : ℕ) where
   abbrev Taken : Bool → ℕ → Type 0
   Taken f j = ((j ≡ i + 4) × (i + 4 ≤ length l)) × Left l (chunk f) j
 
-  taken : (f : Bool) (j : ℕ) → found_of i (rows_of (drop i l)) ≡ found.Value j → Left l (value f) i → Taken f j
+  taken : (f : Bool) (j : ℕ) → found_of i (rows_of (drop i l)) ≡ Some j → Left l (value f) i → Taken f j
   taken f j e o = by (leb (i + 4) (length l)) refl
     where
       by : (b : Bool) → leb (i + 4) (length l) ≡ b → Taken f j
@@ -111,30 +110,30 @@ module _ (l : List ℕ) (i : ℕ) where
           ((x.0, h'), rw x.0 (rw (rows_next l i h', x.1) at o))
       by false h = absurd (not_found i j (rw (rows_end l i (leb-false (i + 4) (length l) h)) at e))
 
-  refused : (f : Bool) → found_of i (rows_of (drop i l)) ≡ found.Other → Left l (value f) i → whole (run (part false) (rows_of l)) ≡ false
+  refused : (f : Bool) → found_of i (rows_of (drop i l)) ≡ None → Left l (value f) i → whole (run (part false) (rows_of l)) ≡ false
   refused f e o = o ∙ refused-row i f (rows_of (drop i l)) e
 
   -- after the last row
-  pub ended : (s : State) → length l ≤ i → length l % 4 ≡ 0 → Left l (await_of s) i → cond (whole_of s) checked.Passed checked.BadRows ≡ check_of l
+  pub ended : (s : State) → length l ≤ i → length l % 4 ≡ 0 → Left l (await_of s) i → cond (whole_of s) (Ok tt) (Err BadRows) ≡ check_of l
   unfolding are_rows is_rows run
   ended s h e o = rw (e, o, rows_end l i (omega arith))
 
 -- after a name: a value row, or something else
-module _ (l : List ℕ) (i : ℕ) (s r : State) (f : Bool) (v : Found) (h : i + 4 ≤ length l) (e : StateAfter l i s r) (p : r ≡ state.Value f)
+module _ (l : List ℕ) (i : ℕ) (s r : State) (f : Bool) (v : Option ℕ) (h : i + 4 ≤ length l) (e : StateAfter l i s r) (p : r ≡ state.Value f)
     (q : v ≡ found_of (i + 4) (rows_of (drop (i + 4) l))) (o : Left l (await_of s) i) where
   named : Left l (value f) (i + 4)
   named = rw p at (turn l i s r h e o)
 
-  pub named_value : (j : ℕ) → v ≡ found.Value j → Taken l (i + 4) f j
+  pub named_value : (j : ℕ) → v ≡ Some j → Taken l (i + 4) f j
   named_value j t = taken l (i + 4) f j (sym q ∙ t) named
 
-  pub named_other : v ≡ found.Other → whole (run (part false) (rows_of l)) ≡ false
+  pub named_other : v ≡ None → whole (run (part false) (rows_of l)) ≡ false
   named_other t = refused l (i + 4) f (sym q ∙ t) named
 
-pub bad-rows : (l : List ℕ) → length l % 4 ≡ 0 → whole (run (part false) (rows_of l)) ≡ false → checked.BadRows ≡ check_of l
+pub bad-rows : (l : List ℕ) → length l % 4 ≡ 0 → whole (run (part false) (rows_of l)) ≡ false → Err BadRows ≡ check_of l
 unfolding are_rows is_rows
 bad-rows l e o = rw (e, o)
 
-pub bad-count : (l : List ℕ) → (length l % 4 ≡ 0 → ⊥) → checked.BadRows ≡ check_of l
+pub bad-count : (l : List ℕ) → (length l % 4 ≡ 0 → ⊥) → Err BadRows ≡ check_of l
 unfolding are_rows
 bad-count l h = rw (ne_eqb (length l % 4) 0 h)

@@ -6,21 +6,14 @@
 --     opens-first, pass                  an entry is opened at a first "@"; what is opened behind an opened place is opened from there on
 --     file-back, opens_back              what strict reading reads and opens in the second part of a text, it does in that part alone
 -- Assumes nothing.
-use Prim.Native.Nat.{ℕ, zero, suc, ◌+◌, ◌≤◌, ◌<◌}
-use native.Mathlib.Omega.{arith}
-use mathlib.Core.Path.{◌≡◌, refl, sym, ap, ◌∙◌, subst}
-use mathlib.Core.Bool.{Bool, true, false, cond, ◌&&◌}
-use mathlib.Core.List.{List, [], ◌∷◌, ◌++◌, append-nil}
-use mathlib.Core.Logic.{◌⊎◌, inl, inr}
-use lib.ListN.{length, get_or, drop}
-use lib.Seq.{get_or-append-add, drop-append-add, drop-append_seam}
-use borrow.Author.Tests.{eqb-true}
+use Rattle.std.proofs.Common.{Option, Some, None, ℕ, zero, suc, ◌+◌, ◌≤◌, ◌<◌, arith, ◌≡◌, refl, sym, ap, ◌∙◌, subst, Bool, true, false, cond, ◌&&◌, List, [], ◌∷◌, ◌++◌}
+use Rattle.std.proofs.Common.{append-nil, ◌⊎◌, inl, inr, length, get_or, drop, get_or-append-add, eqb-true}
+use lib.Seq.{drop-append-add, drop-append_seam}
 use Rattle.text.specs.Class.{white_space, is_whitespace}
 use Rattle.text.specs.Scan.{see}
-use Rattle.text.specs.declared.scanner.Seen.{Seen}
-use Rattle.text.specs.declared.scanner.Seen.TheVariants.{End, Char}
 use Rattle.text.proofs.Seeing.{seeing}
 use Rattle.text.proofs.general.Tests.{both_true, true-not-false}
+use Rattle.std.proofs.lemmas.Option.{some_pair_parts}
 use Rattle.text.specs.Seeing.{seen_up}
 use Rattle.row.specs.Row.{Row, moved}
 use Rattle.raw.specs.Reader.{Out, ok, again, bad}
@@ -82,21 +75,21 @@ head-opens (b ∷ r) h = h
 pub head-fresh : (r : List ℕ) → head r ≡ true → Fresh r
 head-fresh r h = rw (head_byte r 256 h).0 refl
 
-head-seen : (r : List ℕ) → head r ≡ true → see r 0 ≡ Char 0x40 1
+head-seen : (r : List ℕ) → head r ≡ true → see r 0 ≡ Some (0x40, 1)
 head-seen r h =
     let y = head_byte r 0 h in
     seeing.see-ascii r 0 y.1 (rw y.0 (omega arith)) ∙ rw y.0 refl
 
-newline-seen : (b : ℕ) (xs : List ℕ) → lined (b ∷ xs) ≡ true → see (b ∷ xs) (length xs) ≡ Char 0x0A (suc (length xs))
+newline-seen : (b : ℕ) (xs : List ℕ) → lined (b ∷ xs) ≡ true → see (b ∷ xs) (length xs) ≡ Some (0x0A, suc (length xs))
 newline-seen b xs h =
     let y = sym (ap (λ (l : List ℕ). get_or l (length xs) 0) (append-nil (b ∷ xs))) ∙ last_byte b xs [] 0 h in
-    seeing.see-ascii (b ∷ xs) (length xs) (omega arith) (rw y (omega arith)) ∙ rw y (ap (Char 0x0A) (omega arith))
+    seeing.see-ascii (b ∷ xs) (length xs) (omega arith) (rw y (omega arith)) ∙ rw y (ap (λ (n' : ℕ). Some (0x0A, n')) (omega arith))
 
-newline-clear : (b : ℕ) (xs : List ℕ) → lined (b ∷ xs) ≡ true → (i c n : ℕ) → see (b ∷ xs) i ≡ Char c n → i < length xs → n ≤ length xs
+newline-clear : (b : ℕ) (xs : List ℕ) → lined (b ∷ xs) ≡ true → (i c n : ℕ) → see (b ∷ xs) i ≡ Some (c, n) → i < length xs → n ≤ length xs
 newline-clear b xs h i c n e l =
     let z = last-split b xs h in
     let f = seeing.see-front z.0 (0x0A ∷ []) i refl (omega (arith, z.2)) in
-    let k : see z.0 i ≡ Char c n = sym f ∙ sym (ap (λ (t : List ℕ). see t i) z.1) ∙ e in
+    let k : see z.0 i ≡ Some (c, n) = sym f ∙ sym (ap (λ (t : List ℕ). see t i) z.1) ∙ e in
     omega (arith, seeing.see-ahead z.0 i c n k, z.2)
 
 pub meet : (b : ℕ) (xs r : List ℕ) → lined (b ∷ xs) ≡ true → head r ≡ true → Meet (b ∷ xs) r (length xs)
@@ -109,7 +102,7 @@ meet b xs r h k =
       begins = head-fresh r k;
       at =
           ap (see ((b ∷ xs) ++ r)) (sym x) ∙ seeing.see-up (b ∷ xs) r 0
-          ∙ ap (seen_up (suc (length xs))) (head-seen r k) ∙ ap (Char 0x40) (omega arith);
+          ∙ ap (seen_up (suc (length xs))) (head-seen r k) ∙ ap (λ (n' : ℕ). Some (0x40, n')) (omega arith);
     }
 
 -- ---- boundaries
@@ -161,18 +154,18 @@ pass {s} {p} {m} {e} (later t o) (later t' o') h =
 shifted-ok : (d q : ℕ) (rs : List Row) (o : Out) → shifted d o ≡ ok q rs
     → (r : ℕ) × (ss : List Row) × (o ≡ ok r ss) × (q ≡ r + d) × (rs ≡ moved d ss)
 shifted-ok d q rs (ok r ss) e = (r, ss, refl, cc, cc)
-shifted-ok d q rs (again r ss a) e = let z : ◌≡◌ {A = ℕ} 0 1 = cc in absurd (omega arith)
-shifted-ok d q rs (bad f) e = let z : ◌≡◌ {A = ℕ} 0 1 = cc in absurd (omega arith)
+shifted-ok d q rs (again r ss a) e = cc
+shifted-ok d q rs (bad f) e = cc
 
 shifted-again : (d q a : ℕ) (rs : List Row) (o : Out) → shifted d o ≡ again q rs a
     → (r : ℕ) × (ss : List Row) × (o ≡ again r ss a) × (q ≡ r + d)
-shifted-again d q a rs (ok r ss) e = let z : ◌≡◌ {A = ℕ} 0 1 = cc in absurd (omega arith)
+shifted-again d q a rs (ok r ss) e = cc
 shifted-again d q a rs (again r ss b) e = let z : b ≡ a = cc in (r, ss, ap (again r ss) z, cc)
-shifted-again d q a rs (bad f) e = let z : ◌≡◌ {A = ℕ} 0 1 = cc in absurd (omega arith)
+shifted-again d q a rs (bad f) e = cc
 
-seen_back : (d c n : ℕ) (x : Seen) → seen_up d x ≡ Char c n → (m : ℕ) × (x ≡ Char c m)
-seen_back d c n End e = let z : ◌≡◌ {A = ℕ} 0 1 = cc in absurd (omega arith)
-seen_back d c n (Char k m) e = let z : k ≡ c = cc in (m, ap (λ (i : ℕ). Char i m) z)
+seen_back : (d c n : ℕ) (x : Option (ℕ × ℕ)) → seen_up d x ≡ Some (c, n) → (m : ℕ) × (x ≡ Some (c, m))
+seen_back d c n None e = cc
+seen_back d c n (Some (k, m)) e = (m, ap (λ (i : ℕ). Some (i, m)) (some_pair_parts k c (m + d) n e).0)
 
 pub file-back : (a s : List ℕ) (p q : ℕ) (rs : List Row) → file (a ++ s) (p + length a) ≡ ok q rs
     → (r : ℕ) × (ss : List Row) × (file s p ≡ ok r ss) × (q ≡ r + length a) × (rs ≡ moved (length a) ss)

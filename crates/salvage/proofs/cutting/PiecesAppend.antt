@@ -5,12 +5,7 @@
 --     pieces-move, pieces-append         the rows of pieces that stand further on in a file, and of pieces behind others
 --     salvage-append                     salvage of two texts put together
 -- Assumes nothing.
-use Prim.Native.Nat.{ℕ, ◌+◌, ◌<◌}
-use native.Mathlib.Omega.{arith}
-use mathlib.Core.Path.{◌≡◌, refl, sym, ap, ◌∙◌}
-use mathlib.Core.Bool.{Bool, true, false, cond, ◌&&◌}
-use mathlib.Core.List.{List, [], ◌∷◌, ◌++◌, append_assoc}
-use lib.ListN.{length, length-append}
+use Rattle.std.proofs.Common.{ℕ, ◌+◌, ◌<◌, arith, ◌≡◌, refl, sym, ap, ◌∙◌, Bool, true, false, cond, ◌&&◌, List, [], ◌∷◌, ◌++◌, append_assoc, length, length-append}
 use Rattle.row.specs.Row.{Row, row_up, moved}
 use Rattle.raw.specs.Read.{strict}
 use Rattle.row.proofs.Laid.{laid}

@@ -2,15 +2,9 @@
 --     begins     a piece behind others begins at a boundary
 --     cuts       at each boundary that is not the first byte a piece begins
 -- Assumes nothing.
-use Prim.Native.Nat.{ℕ, zero, suc, ◌+◌, ◌≤◌, ◌<◌}
-use native.Mathlib.Omega.{arith}
-use mathlib.Core.Path.{◌≡◌, refl, sym, ap, ◌∙◌, subst, subst₂}
-use mathlib.Core.Bool.{Bool, true, false}
-use mathlib.Core.List.{List, [], ◌∷◌, ◌++◌}
-use mathlib.Core.Logic.{inl, inr}
-use lib.ListN.{length, length-append}
-use lib.Dec.{eqb}
-use borrow.Author.Tests.{eqb-true, eqb-false}
+use Rattle.std.proofs.Common.{ℕ, zero, suc, ◌+◌, ◌≤◌, ◌<◌, arith, ◌≡◌, refl, sym, ap, ◌∙◌, subst, subst₂, Bool, true, false, List, [], ◌∷◌, ◌++◌, inl, inr, length}
+use Rattle.std.proofs.Common.{length-append, eqb, eqb-true}
+use borrow.Author.Tests.{eqb-false}
 use Rattle.salvage.specs.Salvage.{Texts, cut}
 use Rattle.salvage.specs.Demand3.{joined, Boundary, first, line}
 use Rattle.salvage.proofs.cutting.PiecesAppend.{cut-append, joined-cut}
@@ -28,7 +22,7 @@ between b xs r w vs (inr m) e = cut-boundary b xs r m.0 m.1
 between b xs r w vs (inl d) e = none (sym (ap cut d) ∙ e)
   where
     none : {X : Type 0} → [] ≡ w ∷ vs → X
-    none e = let z : ◌≡◌ {A = ℕ} 0 1 = cc in absurd (omega arith)
+    none e = cc
 
 some : (ws : Texts) (w : List ℕ) (vs : Texts) → (u : List ℕ) × (us : Texts) × (ws ++ w ∷ vs ≡ u ∷ us)
 some [] w vs = (w, vs, refl)
@@ -38,7 +32,7 @@ pub begins : (n : ℕ) (s : List ℕ) (ws : Texts) (w : List ℕ) (vs : Texts) �
     → 0 < length (joined ws) → Boundary s (length (joined ws))
 unfolding joined cut
 begins n s [] w vs h e l = absurd (omega arith)
-begins n [] (u ∷ ws) w vs h e l = let z : ◌≡◌ {A = ℕ} 0 1 = cc in absurd (omega arith)
+begins n [] (u ∷ ws) w vs h e l = cc
 begins zero (b ∷ s) (u ∷ ws) w vs h e l = absurd (omega arith)
 begins (suc n) (b ∷ s) (u ∷ ws) w vs h e l = by (eqb (length (joined ws)) 0) refl (begins n f.1 ws w vs shorter rest)
   where

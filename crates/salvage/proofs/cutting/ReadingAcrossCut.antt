@@ -5,14 +5,9 @@
 --     through     where the first text is accepted, the whole is read as the first and then the second, and opens an entry at the cut
 --     split       where the whole is accepted and opens an entry at the cut, the first text is accepted, and so is the rest
 -- Assumes nothing.
-use Prim.Native.Nat.{ℕ, zero, suc, ◌+◌, ◌≤◌, ◌<◌}
-use native.Mathlib.Omega.{arith}
-use mathlib.Core.Path.{◌≡◌, refl, sym, ap, ◌∙◌, subst}
-use mathlib.Core.List.{List, [], ◌++◌, append_assoc}
-use lib.ListN.{length, length-append}
+use Rattle.std.proofs.Common.{Some, None, ℕ, zero, suc, ◌+◌, ◌≤◌, ◌<◌, arith, ◌≡◌, refl, sym, ap, ◌∙◌, subst, List, [], ◌++◌, append_assoc, length, length-append}
 use Rattle.text.specs.Class.{white_space, is_whitespace}
 use Rattle.text.specs.Scan.{see, Inside}
-use Rattle.text.specs.declared.scanner.Seen.TheVariants.{End, Char}
 use Rattle.text.proofs.Seeing.{seeing}
 use Rattle.row.specs.declared.fault.Fault.{Fault}
 use Rattle.row.specs.Row.{Row}
@@ -33,10 +28,10 @@ more-more rs ss (again q us a) = ap (λ (l : List Row). again q l a) (sym (appen
 more-more rs ss (bad f) = refl
 
 bad-not-ok : (q : ℕ) (rs : List Row) (f : Fault) {X : Type 0} → bad f ≡ ok q rs → X
-bad-not-ok q rs f e = let z : ◌≡◌ {A = ℕ} 0 1 = cc in absurd (omega arith)
+bad-not-ok q rs f e = cc
 
 again-not-ok : (q : ℕ) (rs : List Row) (p a : ℕ) (ss : List Row) {X : Type 0} → again p ss a ≡ ok q rs → X
-again-not-ok q rs p a ss e = let z : ◌≡◌ {A = ℕ} 0 1 = cc in absurd (omega arith)
+again-not-ok q rs p a ss e = cc
 
 ok_rows : {q r : ℕ} {rs ss : List Row} → ok q rs ≡ ok r ss → rs ≡ ss
 ok_rows e = cc
@@ -65,10 +60,10 @@ opens-from {s} {p} {e} (later {q = q} {a = a} {rs = rs} t o) = omega (arith, ope
 
 pub record Meet (a s : List ℕ) (k : ℕ) : Type 0 where
   pub size : length a ≡ suc k
-  pub newline : see a k ≡ Char 0x0A (suc k)
+  pub newline : see a k ≡ Some (0x0A, suc k)
   pub clear : NoneOver a k
   pub begins : Fresh s
-  pub at : see (a ++ s) (suc k) ≡ Char 0x40 (suc (suc k))
+  pub at : see (a ++ s) (suc k) ≡ Some (0x40, suc (suc k))
 
 module _ (a s : List ℕ) (k : ℕ) (m : Meet a s k) where
   same : (i : ℕ) → i < suc k → see a i ≡ see (a ++ s) i
@@ -78,7 +73,7 @@ module _ (a s : List ℕ) (k : ℕ) (m : Meet a s k) where
   unfolding is_whitespace white_space
   stops = rw m.at refl
 
-  ended : see a (suc k) ≡ End
+  ended : see a (suc k) ≡ None
   ended = seeing.see-end a (suc k) (omega (arith, m.size))
 
   clear-end : NoneOver a (suc k)

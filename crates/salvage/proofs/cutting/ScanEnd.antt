@@ -5,16 +5,9 @@
 --     white-found, white-scanned, white-stays    these laws for white space
 --     ok-place                                   equal answers have equal places
 -- Assumes nothing.
-use Prim.Native.Nat.{ℕ, zero, suc, ◌+◌, ◌≤◌, ◌<◌}
-use native.Mathlib.Omega.{arith}
-use mathlib.Core.Path.{◌≡◌, refl, sym, ap, ◌∙◌, subst}
-use mathlib.Core.Bool.{Bool, true, false}
-use mathlib.Core.List.{List, []}
-use lib.ListN.{length}
+use Rattle.std.proofs.Common.{Option, Some, None, ℕ, zero, suc, ◌+◌, ◌≤◌, ◌<◌, arith, ◌≡◌, refl, sym, ap, ◌∙◌, subst, Bool, true, false, List, [], length}
 use Rattle.text.specs.Class.{is_whitespace}
 use Rattle.text.specs.Scan.{see}
-use Rattle.text.specs.declared.scanner.Seen.{Seen}
-use Rattle.text.specs.declared.scanner.Seen.TheVariants.{End, Char}
 use Rattle.text.proofs.Seeing.{seeing}
 use Rattle.text.proofs.general.Tests.{true-not-false}
 use Rattle.row.specs.Row.{Row}
@@ -23,13 +16,13 @@ use Rattle.raw.specs.Grammar.{white}
 use Rattle.raw.proofs.Steps.{steps}
 
 -- a scan of class t stops here
-abbrev pub Halts : (ℕ → Bool) → Seen → Type 0
-Halts t End = Unit {0}
-Halts t (Char c n) = t c ≡ false
+abbrev pub Halts : (ℕ → Bool) → Option (ℕ × ℕ) → Type 0
+Halts t None = Unit {0}
+Halts t (Some (c, n)) = t c ≡ false
 
 -- no character of the text reaches over the place j
 abbrev pub NoneOver : List ℕ → ℕ → Type 0
-NoneOver s j = (i c n : ℕ) → see s i ≡ Char c n → i < j → n ≤ j
+NoneOver s j = (i c n : ℕ) → see s i ≡ Some (c, n) → i < j → n ≤ j
 
 -- the scan ends at a place that stops it, and before or at every such place that no character reaches over
 pub record Scanned (t : ℕ → Bool) (s : List ℕ) (p q : ℕ) : Type 0 where
@@ -49,15 +42,15 @@ module _ (t : ℕ → Bool) (s : List ℕ) where
   pub scan-stays : (p : ℕ) → Halts t (see s p) → scan {P = Row} t s p ≡ ok p []
   scan-stays p h = scan-turned p ∙ go (see s p) h
     where
-      go : (x : Seen) → Halts t x → after {P = Row} (eaten t x (turn 0 s) (stop s p)) (λ b q. many (scan_turn t) b s q) ≡ ok p []
-      go End h = refl
-      go (Char c m) h = rw h refl
+      go : (x : Option (ℕ × ℕ)) → Halts t x → after {P = Row} (eaten t x (turn 0 s) (stop s p)) (λ b q. many (scan_turn t) b s q) ≡ ok p []
+      go None h = refl
+      go (Some (c, m)) h = rw h refl
 
   stayed : (p : ℕ) → Halts t (see s p) → (q : ℕ) × Scanned t s p q
   stayed p h = (p, record { found = scan-stays p h; from = omega arith; halts = h; least = λ j a l x. a })
 
   -- where the character at p is of the class, the scan goes past it
-  module _ (p c m : ℕ) (d : see s p ≡ Char c m) (k : t c ≡ true) where
+  module _ (p c m : ℕ) (d : see s p ≡ Some (c, m)) (k : t c ≡ true) where
     beyond : (j : ℕ) → p ≤ j → NoneOver s j → Halts t (see s j) → m ≤ j
     beyond j a l h =
         let ne : p ≡ j → ⊥ = λ e. true-not-false _ k (subst (Halts t) (ap (see s) (sym e) ∙ d) h) in
@@ -81,9 +74,9 @@ module _ (t : ℕ → Bool) (s : List ℕ) where
   scan_step : (p : ℕ) → ((m : ℕ) → p < m → m ≤ length s → (q : ℕ) × Scanned t s m q) → (q : ℕ) × Scanned t s p q
   scan_step p ih = go (see s p) refl
     where
-      go : (x : Seen) → see s p ≡ x → (q : ℕ) × Scanned t s p q
-      go End d = stayed p (rw d tt)
-      go (Char c m) d = by (t c) refl
+      go : (x : Option (ℕ × ℕ)) → see s p ≡ x → (q : ℕ) × Scanned t s p q
+      go None d = stayed p (rw d tt)
+      go (Some (c, m)) d = by (t c) refl
         where
           by : (b : Bool) → t c ≡ b → (q : ℕ) × Scanned t s p q
           by false k = stayed p (rw d k)

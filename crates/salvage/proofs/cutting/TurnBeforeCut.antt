@@ -5,19 +5,11 @@
 --     AlikeToNewline                the two texts
 --     white-cut, turn-cut           white space, and a turn, are read the same on both
 -- Assumes nothing.
-use Prim.Native.Nat.{ℕ, suc, ◌+◌, ◌≤◌, ◌<◌, max}
-use native.Mathlib.Omega.{arith}
-use native.Mathlib.Nat.{eq-or-lt_of_le}
-use mathlib.Core.Logic.{◌⊎◌, inl, inr}
-use mathlib.Core.Path.{◌≡◌, refl, sym, ap, ◌∙◌, subst}
-use mathlib.Core.Bool.{Bool, true, false, cond}
-use mathlib.Core.List.{List, []}
-use lib.ListN.{length}
-use lib.Dec.{eqb}
+use Rattle.std.proofs.Common.{Option, Some, None, ℕ, suc, ◌+◌, ◌≤◌, ◌<◌, max, arith, eq-or-lt_of_le, ◌⊎◌, inl, inr, ◌≡◌, refl, sym, ap, ◌∙◌, subst, Bool, true, false, cond}
+use Rattle.std.proofs.Common.{List, [], length, eqb}
 use Rattle.text.specs.Class.{is_whitespace, holds_of}
+use Rattle.std.proofs.lemmas.Option.{some_pair_parts}
 use Rattle.text.specs.Scan.{see, fails}
-use Rattle.text.specs.declared.scanner.Seen.{Seen}
-use Rattle.text.specs.declared.scanner.Seen.TheVariants.{End, Char}
 use Rattle.text.specs.declared.class.Test.TheVariants as test
 use Rattle.text.proofs.general.Tests.{true-not-false}
 use Rattle.row.specs.Row.{Row}
@@ -31,7 +23,7 @@ use Rattle.salvage.proofs.cutting.ScanEnd.{Halts, NoneOver, Scanned, ok-place, s
 -- ---- after the white space
 
 -- an item, by what is seen at its place
-abbrev pub item_by : List ℕ → ℕ → Seen → Out
+abbrev pub item_by : List ℕ → ℕ → Option (ℕ × ℕ) → Out
 item_by s p x =
     eaten (is 0x40) x (λ n. and_then (entry s p) (turn 0 s))
     (eaten (holds_of test.Percent) x (λ n. and_then (comment s p) (turn 0 s))
@@ -48,23 +40,23 @@ pub item-ahead : (s : List ℕ) (p q a : ℕ) (rs : List Row) → Halts is_white
 item-ahead s p q a rs h e = strict-reading.ahead s p q a rs (turn-white s p p (white-stays s p h) ∙ e)
 
 turned-not-ok : (q a r : ℕ) (o : Out) (rs : List Row) {X : Type 0} → and_then o (λ p. again p [] a) ≡ ok q rs → X
-turned-not-ok q a r (ok p ss) rs e = let z : ◌≡◌ {A = ℕ} 0 1 = cc in absurd (omega arith)
-turned-not-ok q a r (again p ss b) rs e = let z : ◌≡◌ {A = ℕ} 0 1 = cc in absurd (omega arith)
-turned-not-ok q a r (bad f) rs e = let z : ◌≡◌ {A = ℕ} 0 1 = cc in absurd (omega arith)
+turned-not-ok q a r (ok p ss) rs e = cc
+turned-not-ok q a r (again p ss b) rs e = cc
+turned-not-ok q a r (bad f) rs e = cc
 
 -- a turn that ends the file stands at the end of the text
-pub item_ok : (s : List ℕ) (p q : ℕ) (rs : List Row) → item s p ≡ ok q rs → (see s p ≡ End) × (rs ≡ [])
+pub item_ok : (s : List ℕ) (p q : ℕ) (rs : List Row) → item s p ≡ ok q rs → (see s p ≡ None) × (rs ≡ [])
 item_ok s p q rs = go (see s p)
   where
-    go : (x : Seen) → item_by s p x ≡ ok q rs → (x ≡ End) × (rs ≡ [])
-    go End e = (refl, cc)
-    go (Char c n) e = by (is 0x40 c) (holds_of test.Percent c) e
+    go : (x : Option (ℕ × ℕ)) → item_by s p x ≡ ok q rs → (x ≡ None) × (rs ≡ [])
+    go None e = (refl, cc)
+    go (Some (c, n)) e = by (is 0x40 c) (holds_of test.Percent c) e
       where
         by : (b d : Bool) → cond b (and_then (entry s p) (turn 0 s)) (cond d (and_then (comment s p) (turn 0 s)) (again n [] 0)) ≡ ok q rs
-            → (Char c n ≡ End) × (rs ≡ [])
+            → (◌≡◌ {A = Option (ℕ × ℕ)} (Some (c, n)) None) × (rs ≡ [])
         by true d e = turned-not-ok q 0 0 (entry s p) rs e
         by false true e = turned-not-ok q 0 0 (comment s p) rs e
-        by false false e = let z : ◌≡◌ {A = ℕ} 0 1 = cc in absurd (omega arith)
+        by false false e = cc
 
 -- ---- on two texts
 
@@ -87,7 +79,7 @@ pub record AlikeToNewline (s t : List ℕ) (k : ℕ) : Type 0 where
   pub second : suc k ≤ length t
   pub halts : Halts is_whitespace (see t (suc k))
   pub clear : NoneOver t (suc k)
-  pub newline : see s k ≡ Char 0x0A (suc k)
+  pub newline : see s k ≡ Some (0x0A, suc k)
   pub before : NoneOver s k
 
 module _ {s t : List ℕ} {k : ℕ} (m : AlikeToNewline s t k) where
@@ -114,19 +106,16 @@ module _ {s t : List ℕ} {k : ℕ} (m : AlikeToNewline s t k) where
               ok-place (sym (b ∙ w) ∙ a)
 
   -- a comment ends before the newline
-  comment-cut : (p q c n : ℕ) → see s p ≡ Char c n → holds_of test.Percent c ≡ true → p < suc k → Stops (comment s p) q → q ≤ k
+  comment-cut : (p q c n : ℕ) → see s p ≡ Some (c, n) → holds_of test.Percent c ≡ true → p < suc k → Stops (comment s p) q → q ≤ k
   unfolding comment holds_of
   comment-cut p q c n d b h x =
       let z = scan-found (fails test.Newline) s n in
       let y : Scanned (fails test.Newline) s n z.0 = z.1 in
       let f : comment s p ≡ ok z.0 [] = rw (d, b) y.found in
       let g : z.0 ≡ q = stops_at (comment s p) z.0 [] f q x in
-      let o : p ≡ k → ⊥ = λ e. true-not-false _ b (ap (λ (c : ℕ). eqb c 0x25) (code c n (sym d ∙ ap (see s) e ∙ m.newline))) in
+      let o : p ≡ k → ⊥ = λ e. true-not-false _ b (ap (λ (c : ℕ). eqb c 0x25) (some_pair_parts c 0x0A n (suc k) (sym d ∙ ap (see s) e ∙ m.newline)).0) in
       let v : z.0 ≤ k = y.least k (m.before p c n d (omega arith)) m.before (rw m.newline refl) in
       omega arith
-    where
-      code : (c n : ℕ) → Char c n ≡ Char 0x0A (suc k) → c ≡ 0x0A
-      code c n e = cc
 
   pub item-cut : (p q : ℕ) → p < suc k → Stops (item s p) q → q ≤ suc k → item t p ≡ item s p
   item-cut p q h x y = rw (← m.same p h) (go (see s p) refl x)
@@ -134,9 +123,9 @@ module _ {s t : List ℕ} {k : ℕ} (m : AlikeToNewline s t k) where
       inside : ShowsSame s t p q
       inside i a b = m.same i (omega arith)
 
-      go : (z : Seen) → see s p ≡ z → Stops (item_by s p z) q → item_by t p z ≡ item_by s p z
-      go End d x = refl
-      go (Char c n) d x = by (is 0x40 c) (holds_of test.Percent c) refl x
+      go : (z : Option (ℕ × ℕ)) → see s p ≡ z → Stops (item_by s p z) q → item_by t p z ≡ item_by s p z
+      go None d x = refl
+      go (Some (c, n)) d x = by (is 0x40 c) (holds_of test.Percent c) refl x
         where
           on : List ℕ → Bool → Bool → Out
           on u b b' = cond b (and_then (entry u p) (turn 0 u)) (cond b' (and_then (comment u p) (turn 0 u)) (again n [] 0))

@@ -2,14 +2,9 @@
 --     octets-both                    where a valid text is cut at the beginning of a piece, both parts are valid
 --     front-append, octets-piece     a text is its front and what follows; a piece of a valid front is valid
 -- Assumes nothing.
-use Prim.Native.Nat.{ℕ, ◌+◌, ◌-◌, ◌≤◌}
-use native.Mathlib.Omega.{arith}
-use mathlib.Core.Path.{◌≡◌, refl, sym, ap, ap₂, ◌∙◌, subst}
-use mathlib.Core.Bool.{true}
-use mathlib.Core.List.{List, ◌++◌}
-use lib.ListN.{length, get_or, take, drop, length-append, take-append-drop, length-drop}
-use lib.Seq.{get_or-append-add, take-append_seam, drop-append_seam, length-take-le, take-append-le, drop-append-le, drop-drop}
-use borrow.Author.Tests.{le-leb}
+use Rattle.std.proofs.Common.{ℕ, ◌+◌, ◌-◌, ◌≤◌, arith, ◌≡◌, refl, sym, ap, ap₂, ◌∙◌, subst, true, List, ◌++◌, length, get_or, take, drop, length-append, take-append-drop}
+use Rattle.std.proofs.Common.{length-drop, get_or-append-add, length-take-le, drop-drop, le-leb}
+use lib.Seq.{take-append_seam, drop-append_seam, take-append-le, drop-append-le}
 use Rattle.text.specs.Utf8.{Octets, is_boundary}
 use Rattle.text.specs.Rfc3629.{Cut}
 use Rattle.text.proofs.Rfc3629.{rfc3629}

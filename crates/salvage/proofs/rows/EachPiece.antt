@@ -3,21 +3,12 @@
 --     each                 what a piece of a file gives, which stands behind some pieces and before others
 --     calls                what salvage gives for two texts, and for both together
 -- Assumes nothing.
-use Prim.Native.Nat.{ℕ, ◌+◌, ◌/◌, ◌≤◌}
-use native.Mathlib.Omega.{arith}
-use mathlib.Core.Path.{◌≡◌, refl, sym, ap, ◌∙◌, subst}
-use mathlib.Core.Logic.{◌↔◌}
-use mathlib.Core.Bool.{Bool, true, false, cond}
-use mathlib.Core.List.{List, ◌∷◌, ◌++◌}
-use lib.ListN.{length, length-append}
-use lib.Dec.{leb}
-use borrow.Author.Tests.{leb-true, le-leb}
+use Rattle.std.proofs.Common.{Result, Ok, Err, ℕ, ◌+◌, ◌/◌, ◌≤◌, arith, ◌≡◌, refl, sym, ap, ◌∙◌, subst, ◌↔◌, Bool, true, false, cond, List, ◌∷◌, ◌++◌, length, length-append}
+use Rattle.std.proofs.Common.{leb, leb-true, le-leb}
 use Rattle.text.proofs.general.Tests.{true-not-false}
 use Rattle.row.specs.declared.fault.Fault.{Fault}
 use Rattle.row.specs.declared.fault.Reason.TheVariants.{TooLong}
 use Rattle.row.specs.Fault.{nowhere}
-use Rattle.raw.specs.declared.answer.Reading.{Reading}
-use Rattle.raw.specs.declared.answer.Reading.TheVariants as reading
 use Rattle.row.specs.Row.{Row, moved}
 use Rattle.raw.specs.Reader.{Out, ok, again, bad}
 use Rattle.row.specs.Limits.{most_bytes}
@@ -78,7 +69,7 @@ module _ (s : List ℕ) (ws : Texts) (w : List ℕ) (vs : Texts) (h : length s �
 
 -- ---- calls
 
-module _ (s b b' : List ℕ) (r : Reading) (h : length s ≤ most_bytes) (c : Salvage s b r b') where
+module _ (s b b' : List ℕ) (r : Result ℕ Fault) (h : length s ≤ most_bytes) (c : Salvage s b r b') where
   call-is : salvaged s ≡ ok (length s) (salvage_of s)
   unfolding salvaged
   call-is = rw (le-leb (length s) most_bytes h) refl
@@ -93,40 +84,40 @@ module _ (s b b' : List ℕ) (r : Reading) (h : length s ≤ most_bytes) (c : Sa
       }
 
   -- where rows are answered, there was room
-  call-room : (n : ℕ) → r ≡ reading.Rows n → (n ≡ length (salvage_of s)) × (length (salvage_of s) ≤ length b / 4)
+  call-room : (n : ℕ) → r ≡ Ok n → (n ≡ length (salvage_of s)) × (length (salvage_of s) ≤ length b / 4)
   call-room n e =
       let t = steps.rows_told (length s) (salvage_of s) b (sym e ∙ c.answer ∙ ap (λ (o : Out). reading_out o (length b)) call-is) in
       (t.0, t.1)
 
-rows-not-refused : {n : ℕ} {f : Fault} → reading.Rows n ≡ reading.Refused f → ⊥
-rows-not-refused e = let z : ◌≡◌ {A = ℕ} 0 1 = cc in absurd (omega arith)
+rows-not-refused : {n : ℕ} {f : Fault} → Ok n ≡ Err f → ⊥
+rows-not-refused e = cc
 
 module _ (s b b' : List ℕ) (n : ℕ) where
   -- a file for which rows are answered is not too long
-  pub call-short : Salvage s b (reading.Rows n) b' → length s ≤ most_bytes
+  pub call-short : Salvage s b (Ok n) b' → length s ≤ most_bytes
   unfolding salvaged
   call-short c = by (leb (length s) most_bytes) refl c.answer
     where
       by : (t : Bool) → leb (length s) most_bytes ≡ t →
-          reading.Rows n ≡ reading_out (cond t (ok (length s) (salvage_of s)) (bad (nowhere TooLong))) (length b) → length s ≤ most_bytes
+          Ok n ≡ reading_out (cond t (ok (length s) (salvage_of s)) (bad (nowhere TooLong))) (length b) → length s ≤ most_bytes
       by true e k = leb-true (length s) most_bytes e
       by false e k = absurd (rows-not-refused k)
 
   -- the rows stand in front of what was lent
-  pub call-answered : length s ≤ most_bytes → Salvage s b (reading.Rows n) b' → Holds (salvage_of s) b (reading.Rows n) b'
-  call-answered h c = call-holds s b b' (reading.Rows n) h c (call-room s b b' (reading.Rows n) h c n refl).1
+  pub call-answered : length s ≤ most_bytes → Salvage s b (Ok n) b' → Holds (salvage_of s) b (Ok n) b'
+  call-answered h c = call-holds s b b' (Ok n) h c (call-room s b b' (Ok n) h c n refl).1
 
-module _ (a s x y b x' y' b' : List ℕ) (m n : ℕ) (r : Reading) (h : lined a ≡ true) (k : fresh s ≡ true) (l : length (a ++ s) ≤ most_bytes) where
-  pub calls : m + n ≤ length b / 4 → Salvage a x (reading.Rows m) x' → Salvage s y (reading.Rows n) y' → Salvage (a ++ s) b r b'
-      → (rs : List Row) × (ss : List Row) × Holds rs x (reading.Rows m) x' × Holds ss y (reading.Rows n) y' × Holds (rs ++ moved (length a) ss) b r b'
+module _ (a s x y b x' y' b' : List ℕ) (m n : ℕ) (r : Result ℕ Fault) (h : lined a ≡ true) (k : fresh s ≡ true) (l : length (a ++ s) ≤ most_bytes) where
+  pub calls : m + n ≤ length b / 4 → Salvage a x (Ok m) x' → Salvage s y (Ok n) y' → Salvage (a ++ s) b r b'
+      → (rs : List Row) × (ss : List Row) × Holds rs x (Ok m) x' × Holds ss y (Ok n) y' × Holds (rs ++ moved (length a) ss) b r b'
   calls f c d e =
       let la : length a ≤ most_bytes = omega (arith, length-append a s) in
       let ls : length s ≤ most_bytes = omega (arith, length-append a s) in
-      let i = call-room a x x' (reading.Rows m) la c m refl in
-      let j = call-room s y y' (reading.Rows n) ls d n refl in
+      let i = call-room a x x' (Ok m) la c m refl in
+      let j = call-room s y y' (Ok n) ls d n refl in
       let p = salvage-append a s h k in
       let z = length-append (salvage_of a) (moved (length a) (salvage_of s)) in
       let u = laid.moved_length (length a) (salvage_of s) in
       let v : length (salvage_of (a ++ s)) ≤ length b / 4 = rw p (omega (arith, i.0, j.0)) in
       let whole = subst (λ (rs : List Row). Holds rs b r b') p (call-holds (a ++ s) b b' r l e v) in
-      (salvage_of a, salvage_of s, call-holds a x x' (reading.Rows m) la c i.1, call-holds s y y' (reading.Rows n) ls d j.1, whole)
+      (salvage_of a, salvage_of s, call-holds a x x' (Ok m) la c i.1, call-holds s y y' (Ok n) ls d j.1, whole)

@@ -1,13 +1,7 @@
 -- The rows of salvage are at most one more than the bytes: `salvage-few`. A damaged piece has two rows, so that only a piece of one byte can
 -- have more rows than bytes. Such a piece, unless it is the last, is a newline, which strict reading accepts.
 -- Assumes nothing.
-use Prim.Native.Nat.{ℕ, suc, ◌+◌, ◌≤◌}
-use native.Mathlib.Omega.{arith}
-use mathlib.Core.Path.{◌≡◌, refl, ap}
-use mathlib.Core.Bool.{Bool, true, false, cond, ◌&&◌}
-use mathlib.Core.List.{List, [], ◌∷◌}
-use lib.ListN.{length, length-append}
-use borrow.Author.Tests.{eqb-true}
+use Rattle.std.proofs.Common.{ℕ, suc, ◌+◌, ◌≤◌, arith, ◌≡◌, refl, ap, Bool, true, false, cond, ◌&&◌, List, [], ◌∷◌, length, length-append, eqb-true}
 use Rattle.text.specs.Walk.{walk_from}
 use Rattle.text.specs.Utf8.{alternatives, begins, width_by, gather, value, octets, look_valid, validity_of}
 use Rattle.text.specs.Class.{white_space, is_whitespace, holds_of}
@@ -51,7 +45,7 @@ newline-line b x h = by (newline b) refl h
   where
     by : (y : Bool) → newline b ≡ y → y && x ≡ true → Line (b ∷ [])
     by true e h = rw (eqb-true b 0x0A e) bare
-    by false e h = let z : ◌≡◌ {A = ℕ} 0 1 = cc in absurd (omega arith)
+    by false e h = cc
 
 cut-lines : (s : List ℕ) → Lines (cut s)
 unfolding cut

@@ -2,13 +2,8 @@
 --     accepts, opened     where no damage shows, strict reading accepts the file with the same rows, and every boundary opens an entry
 --     same_rows           where strict reading accepts the file and every boundary opens an entry, the rows are the same
 -- Assumes nothing.
-use Prim.Native.Nat.{ℕ, zero, suc, ◌+◌, ◌≤◌}
-use native.Mathlib.Omega.{arith}
-use mathlib.Core.Path.{◌≡◌, refl, sym, ap, ap₂, ◌∙◌, subst, subst₂}
-use mathlib.Core.Bool.{true}
-use mathlib.Core.List.{List, [], ◌∷◌, ◌++◌, append-nil}
-use mathlib.Core.Logic.{inl, inr}
-use lib.ListN.{length, length-append}
+use Rattle.std.proofs.Common.{ℕ, zero, suc, ◌+◌, ◌≤◌, arith, ◌≡◌, refl, sym, ap, ap₂, ◌∙◌, subst, subst₂, true, List, [], ◌∷◌, ◌++◌, append-nil, inl, inr, length}
+use Rattle.std.proofs.Common.{length-append}
 use Rattle.text.specs.Walk.{walk_from}
 use Rattle.text.specs.Utf8.{Octets, validity_of}
 use Rattle.text.specs.Scan.{see_from}

@@ -3,14 +3,9 @@
 --     short-found, short_on               `short_length`: a piece begins at the place, or not
 --     found-last, found-head, found-on    `far_end`: no "@" is left; one stands after a newline; one stands elsewhere
 -- Assumes nothing.
-use Prim.Native.Nat.{ℕ, zero, suc, ◌+◌, ◌-◌, ◌≤◌, ◌<◌}
-use native.Mathlib.Omega.{arith}
-use mathlib.Core.Path.{◌≡◌, refl, sym, ap, ◌∙◌, subst}
-use mathlib.Core.Bool.{Bool, true, false, cond, ◌&&◌, and-true, and-false}
-use mathlib.Core.List.{List, [], ◌∷◌}
-use lib.ListN.{length, get_or, drop, drop_of_length-le}
-use lib.Dec.{eqb}
-use borrow.Author.Tests.{eq-eqb, ne_eqb}
+use Rattle.std.proofs.Common.{ℕ, zero, suc, ◌+◌, ◌-◌, ◌≤◌, ◌<◌, arith, ◌≡◌, refl, sym, ap, ◌∙◌, subst, Bool, true, false, cond, ◌&&◌, List, [], ◌∷◌, length, get_or, drop}
+use Rattle.std.proofs.Common.{drop_of_length-le, eqb, eq-eqb, ne_eqb}
+use mathlib.Core.Bool.{and-true, and-false}
 use Rattle.text.specs.Block.{Found}
 use Rattle.text.proofs.general.Tests.{both_true}
 use Rattle.text.proofs.general.Places.{drop-next}

@@ -1,18 +1,14 @@
 -- The loop of `read_pieces`: the rows of the pieces that were read, and then those of the pieces that are left, are the rows of the file.
---     tally-sound, tally-damaged                  what the two tallies say of rows
 --     Going, going_start                          the invariant, and that it holds at the start
---     going-asks, going-sound, going-damaged      what reading the next piece requires; the invariant after a sound piece and a damaged one
---     gone-sound, gone-damaged                    the answer after the last piece
+--     going-asks, going-next                      what reading the next piece requires; the invariant after it
+--     gone                                        the answer after the last piece
 -- Assumes nothing.
-use Prim.Native.Nat.{ℕ, ◌+◌, ◌-◌, ◌*◌, ◌≤◌, min}
-use native.Mathlib.Omega.{arith}
-use mathlib.Core.Path.{◌≡◌, refl, sym, ap, ap₂, ◌∙◌}
-use mathlib.Core.Bool.{Bool, true, false, cond, ◌&&◌, and-true, and-false}
-use mathlib.Core.List.{List, [], ◌∷◌, ◌++◌, append-nil, append_assoc}
-use lib.ListN.{length, take, drop, drop_of_length-le, length-append, length-drop}
-use lib.Seq.{length-take-le, take_all, take-append-le, take-append-add}
-use lib.Dec.{leb}
-use borrow.Author.Tests.{leb-true}
+use Rattle.std.specs.Ordering.{nat_cmp, ord_min}
+use Rattle.std.proofs.lemmas.Grind.{common_steps}
+use Rattle.std.proofs.Common.{ℕ, ◌+◌, ◌-◌, ◌*◌, ◌≤◌, min, arith, ◌≡◌, refl, sym, ap, ap₂, ◌∙◌, Bool, true, ◌&&◌, List, [], ◌∷◌, ◌++◌, append-nil, append_assoc, length, take}
+use Rattle.std.proofs.Common.{drop, drop_of_length-le, length-append, length-drop, length-take-le, take_all, leb, leb-true}
+use mathlib.Core.Bool.{and-true, and_assoc}
+use lib.Seq.{take-append-le, take-append-add}
 use borrow.Rule.Slice.PartMut.{put_mid, same_len_mid}
 use Rattle.text.specs.Utf8.{Octets}
 use Rattle.row.specs.Row.{Row, moved, flat}
@@ -24,9 +20,8 @@ use Rattle.row.proofs.Laid.{laid}
 use Rattle.row.proofs.Ruled.{ruled}
 use Rattle.salvage.specs.Salvage.{cut, told, pieces, salvage_of}
 use Rattle.salvage.specs.Demand3.{fresh}
-use Rattle.salvage.specs.Inner.{PieceEnds, PieceToRead, tally_of, PutsPiece, ValidTo, FillsRows}
+use Rattle.salvage.specs.Inner.{PieceEnds, PieceToRead, PutsPiece, ValidTo, FillsRows}
 use Rattle.salvage.specs.declared.piece.Tally.{Tally}
-use Rattle.salvage.specs.declared.piece.Tally.TheVariants.{Sound, Damaged}
 use Rattle.salvage.proofs.cutting.Utf8OfPieces.{front-append, octets-piece}
 use Rattle.salvage.proofs.cutting.PiecesAppend.{head-append}
 use Rattle.salvage.proofs.cutting.Boundaries.{head-fresh}
@@ -44,23 +39,6 @@ left-start s = refl
 left_end : (s : List ℕ) (p : ℕ) → length s ≤ p → left s p ≡ []
 unfolding pieces cut
 left_end s p h = rw (drop_of_length-le s h) refl
-
--- ---- tallies
-
-module _ (rs : List Row) {t : Tally} (d : t ≡ tally_of rs) {n : ℕ} where
-  pub tally-sound : t ≡ Sound n → (clean rs ≡ true) × (n ≡ length rs)
-  tally-sound e = by (clean rs) refl (sym e ∙ d)
-    where
-      by : (b : Bool) → clean rs ≡ b → Sound n ≡ cond b (Sound (length rs)) (Damaged (length rs)) → (clean rs ≡ true) × (n ≡ length rs)
-      by true k g = (k, cc)
-      by false k g = let z : ◌≡◌ {A = ℕ} 0 1 = cc in absurd (omega arith)
-
-  pub tally-damaged : t ≡ Damaged n → (clean rs ≡ false) × (n ≡ length rs)
-  tally-damaged e = by (clean rs) refl (sym e ∙ d)
-    where
-      by : (b : Bool) → clean rs ≡ b → Damaged n ≡ cond b (Sound (length rs)) (Damaged (length rs)) → (clean rs ≡ false) × (n ≡ length rs)
-      by true k g = let z : ◌≡◌ {A = ℕ} 0 1 = cc in absurd (omega arith)
-      by false k g = (k, cc)
 
 -- ---- the invariant
 
@@ -87,6 +65,10 @@ going_start s b v k =
     }
 
 -- ---- the next piece
+
+-- the `min` of std, as `omega` reads it
+pub ord_min-is : (a b : ℕ) → ord_min nat_cmp a b ≡ min a b
+ord_min-is a b = grind (arith, common_steps)
 
 -- the front of the numbers b, after the part of them from i on was lent and came back as y
 put_front : (b y : List ℕ) (i m : ℕ) → i ≤ length b → m ≤ length y
@@ -164,27 +146,19 @@ module _ (s b₀ b : List ℕ) (v p e n : ℕ) (sound : Bool) (c : Going s b₀ 
         ∙ ap (λ (l : List ℕ). take (n * 4) b ++ l) (sym (laid.flat_append (moved p rs) (left s e)) ∙ ap flat (sym left-piece))
         ∙ c.rows l
 
-    next : {m : ℕ} → m ≡ length rs → (a : Bool) → a && clean (left s e) ≡ clean (salvage_of s) → Going s b₀ (put_mid i (length b - i) b y) v e (n + m) a
-    next {m} d a q =
+    pub going-next : Going s b₀ (put_mid i (length b - i) b y) v e (n + r.rows) (sound && r.sound)
+    going-next =
+        let d : r.rows ≡ length rs = ap (λ (t : Tally). t.rows) z.tally in
+        let q : r.sound ≡ clean rs = ap (λ (t : Tally). t.sound) z.tally in
         record {
           place = x.to;
           most = omega (arith, c.most, z.most, w-length);
           same = same_len_mid i (length b - i) b y g ∙ c.same;
           valid = λ l. (piece-valid k l).1;
           count = omega (arith, left-count);
-          kept = q;
+          kept = rw q (and_assoc sound (clean rs) (clean (left s e)) ∙ sym (ap (λ (a : Bool). sound && a) left-clean) ∙ c.kept);
           rows = λ l. ap (λ (o : ℕ). take ((n + o) * 4) (put_mid i (length b - i) b y) ++ flat (left s e)) d ∙ next-rows l;
         }
-
-    pub going-sound : {m : ℕ} → r ≡ Sound m → Going s b₀ (put_mid i (length b - i) b y) v e (n + m) sound
-    going-sound d =
-        let t = tally-sound rs z.tally d in
-        next t.1 sound (sym (ap (λ (a : Bool). sound && a) (left-clean ∙ rw t.0 refl)) ∙ c.kept)
-
-    pub going-damaged : {m : ℕ} → r ≡ Damaged m → Going s b₀ (put_mid i (length b - i) b y) v e (n + m) false
-    going-damaged d =
-        let t = tally-damaged rs z.tally d in
-        next t.1 false (sym (and-false sound) ∙ ap (λ (a : Bool). sound && a) (sym (left-clean ∙ rw t.0 refl)) ∙ c.kept)
 
 -- ---- after the last piece
 
@@ -204,8 +178,5 @@ module _ (s b₀ b : List ℕ) (v p n : ℕ) (sound : Bool) (c : Going s b₀ b 
       ∙ sym (ap (λ (rs : List Row). take (n * 4) b ++ flat rs) (left_end s p h))
       ∙ c.rows l
 
-  pub gone-sound : sound ≡ true → FillsRows s b₀ (Sound n) b
-  gone-sound e = record { tally = rw (sym gone-clean ∙ e, gone-count) refl; rows = gone-rows }
-
-  pub gone-damaged : sound ≡ false → FillsRows s b₀ (Damaged n) b
-  gone-damaged e = record { tally = rw (sym gone-clean ∙ e, gone-count) refl; rows = gone-rows }
+  pub gone : FillsRows s b₀ (record { rows = n; sound = sound }) b
+  gone = record { tally = rw (gone-clean, gone-count); rows = gone-rows }

@@ -5,35 +5,26 @@
 --     ill-strict, off-strict                  where it is refused: because it is not UTF-8, or by the grammar
 --     off-damage, piece-damaged, piece-unwritten     its damage, written or not
 -- Assumes nothing.
-use Prim.Native.Nat.{ℕ, ◌+◌, ◌*◌, ◌/◌, ◌≤◌, ◌<◌}
-use native.Mathlib.Omega.{arith}
-use mathlib.Core.Path.{◌≡◌, refl, sym, ap, ◌∙◌, subst}
-use mathlib.Core.Bool.{Bool, true}
-use mathlib.Core.List.{List}
-use lib.ListN.{length, take, drop}
-use lib.Seq.{take_at}
+use Rattle.text.specs.declared.utf8.IllFormed.{IllFormed}
+use Rattle.std.proofs.Common.{Ok, Err, ℕ, ◌+◌, ◌*◌, ◌/◌, ◌≤◌, ◌<◌, arith, ◌≡◌, refl, sym, ap, ◌∙◌, Bool, true, false, List, length, take, drop, take_at}
 use Rattle.text.specs.Utf8.{Octets, validity_of}
-use Rattle.text.specs.declared.utf8.Validity.{Validity}
-use Rattle.text.specs.declared.utf8.Validity.TheVariants as validity
 use Rattle.text.proofs.Rfc3629.{rfc3629}
 use Rattle.row.specs.declared.form.Kind.TheVariants as kind
 use Rattle.row.specs.declared.fault.Fault.{Fault}
 use Rattle.row.specs.declared.fault.Reason.TheVariants.{NotUtf8}
 use Rattle.row.specs.Fault.{number_of, fault_at}
-use Rattle.raw.specs.declared.answer.Answer.{Answer}
-use Rattle.raw.specs.declared.answer.Answer.TheVariants as answer
 use Rattle.row.specs.Row.{Row, row_with, row, moved, flat, put_row, overlay}
 use Rattle.raw.specs.Reader.{Out, ok, again, bad}
 use Rattle.raw.specs.Grammar.{file}
 use Rattle.raw.specs.Read.{culprit, underlined, strict}
 use Rattle.row.specs.Rules.{clean}
 use Rattle.raw.specs.Says.{answer_of, RowsLaid, Says, Within}
+use Rattle.text.proofs.general.Answers.{ok_pair_parts}
 use Rattle.raw.proofs.Strict.{strict-reading}
 use Rattle.raw.proofs.Steps.{steps}
 use Rattle.row.proofs.Laid.{laid}
 use Rattle.salvage.specs.Salvage.{damaged}
 use Rattle.salvage.specs.Inner.{PutsPiece, PieceToRead, DamageToWrite}
-use Rattle.salvage.specs.declared.piece.Tally.TheVariants.{Sound, Damaged}
 
 -- ---- `write_damage`
 
@@ -60,44 +51,40 @@ module _ (w : List ℕ) {base : ℕ} {valid : Bool} (k : PieceToRead w base vali
   pub valid-known : valid ≡ true → Octets w
   valid-known e = k.known e
 
-  module _ {v : Validity} (d : v ≡ validity_of w) where
-    pub valid-checked : v ≡ validity.Valid → Octets w
-    valid-checked e = (rfc3629.accepts w).0 (sym d ∙ e)
+  pub valid-checked : Ok tt ≡ validity_of w → Octets w
+  valid-checked e = (rfc3629.accepts w).0 (sym e)
 
-    pub ill-strict : {i : ℕ} {g : Fault} → v ≡ validity.IllFormed i → g ≡ fault_at NotUtf8 i → strict w ≡ bad g
-    ill-strict {i} e h = steps.strict-ill w (omega (arith, k.file)) i (sym d ∙ e) ∙ ap bad (sym h)
+  pub ill-strict : {e : IllFormed} → Err e ≡ validity_of w → strict w ≡ bad (fault_at NotUtf8 e.at)
+  ill-strict {e} h = steps.strict-ill w (omega (arith, k.file)) e.at (sym h)
 
   -- what the grammar answered, of a piece that is UTF-8
-  module _ (o : Octets w) {r : Answer} {b' : List ℕ} (p : Says base (file w 0) 0 b r b') where
+  module _ (o : Octets w) where
     read_is : strict w ≡ underlined w (file w 0)
     read_is = steps.strict-is w (omega (arith, k.file)) o
 
-    pub piece-sound : {q n : ℕ} → r ≡ answer.Next q n → Within (length w) 0 0 0 r → PutsPiece w base b (Sound n) b'
-    piece-sound {q} {n} e l = by (file w 0) refl (sym e ∙ p.told) p.rows
+    pub piece-sound : {q n : ℕ} {b' : List ℕ} → Says base (file w 0) 0 b (Ok (q, n)) b' → Within (length w) 0 0 0 (Ok (q, n)) →
+        PutsPiece w base b (record { rows = n; sound = true }) b'
+    piece-sound {q} {n} {b'} p most = by (file w 0) refl p.told p.rows
       where
-        most : Within (length w) 0 0 0 (answer.Next q n)
-        most = subst (Within (length w) 0 0 0) e l
-
-        by : (o : Out) → file w 0 ≡ o → answer.Next q n ≡ answer_of o 0 → RowsLaid base o 0 b b' → PutsPiece w base b (Sound n) b'
+        by : (o : Out) → file w 0 ≡ o → Ok (q, n) ≡ answer_of o 0 → RowsLaid base o 0 b b' → PutsPiece w base b (record { rows = n; sound = true }) b'
         by (ok i rs) f y z =
             let x = read_is ∙ ap (underlined w) f in
             let c = (strict-reading.accepts w i rs x).undamaged in
-            let m : n ≡ 0 + length rs = cc in
-            let u : n ≡ length rs = omega arith in
+            let u : n ≡ length rs = omega (arith, ok_pair_parts q i n (0 + length rs) y) in
             record {
               tally = rw (x, c, u) refl;
               most = rw x (omega (arith, most));
               rows = rw x (overlay-front base rs b z);
             }
         by (again i rs a) f y z = absurd (strict-reading.decides w i a rs (read_is ∙ ap (underlined w) f))
-        by (bad g) f y z = let t : ◌≡◌ {A = ℕ} 0 1 = cc in absurd (omega arith)
+        by (bad g) f y z = cc
 
-    pub off-strict : {f g : Fault} → r ≡ answer.Refused f → g ≡ culprit w f → strict w ≡ bad g
-    off-strict {f} e h = read_is ∙ ap (underlined w) (by (file w 0) (sym e ∙ p.told)) ∙ ap bad (sym h)
+    pub off-strict : {f : Fault} {b' : List ℕ} → Says base (file w 0) 0 b (Err f) b' → strict w ≡ bad (culprit w f)
+    off-strict {f} p = read_is ∙ ap (underlined w) (by (file w 0) p.told)
       where
-        by : (o : Out) → answer.Refused f ≡ answer_of o 0 → o ≡ bad f
-        by (ok i rs) y = let z : ◌≡◌ {A = ℕ} 0 1 = cc in absurd (omega arith)
-        by (again i rs a) y = let z : ◌≡◌ {A = ℕ} 0 1 = cc in absurd (omega arith)
+        by : (o : Out) → Err f ≡ answer_of o 0 → o ≡ bad f
+        by (ok i rs) y = cc
+        by (again i rs a) y = cc
         by (bad g) y = cc
 
   module _ {f : Fault} (x : strict w ≡ bad f) where
@@ -108,7 +95,7 @@ module _ (w : List ℕ) {base : ℕ} {valid : Bool} (k : PieceToRead w base vali
 
     -- the damage and its cause were written, or there is no room for them
     pub piece-damaged : (b₁ : List ℕ) {b' : List ℕ} → length b₁ ≡ length b → b' ≡ overlay b₁ 0 (moved base (damaged w f))
-        → PutsPiece w base b (Damaged 2) b'
+        → PutsPiece w base b (record { rows = 2; sound = false }) b'
     unfolding clean
     piece-damaged b₁ h p =
         record {
@@ -117,7 +104,7 @@ module _ (w : List ℕ) {base : ℕ} {valid : Bool} (k : PieceToRead w base vali
           rows = rw x (λ l. overlay-front base (damaged w f) b₁ p (omega (arith, l)));
         }
 
-    pub piece-unwritten : {b' : List ℕ} → length b < 8 → PutsPiece w base b (Damaged 2) b'
+    pub piece-unwritten : {b' : List ℕ} → length b < 8 → PutsPiece w base b (record { rows = 2; sound = false }) b'
     unfolding clean
     piece-unwritten h =
         record {

@@ -2,12 +2,7 @@
 --     irreflexive        no key comes before itself
 --     transitive         what comes before a key comes before all that come behind it
 -- Assumes nothing.
-use Prim.Native.Nat.{ℕ, ◌<◌}
-use native.Mathlib.Omega.{arith}
-use mathlib.Core.Path.{◌≡◌, refl}
-use mathlib.Core.Bool.{Bool, true, false, ◌&&◌, ◌||◌}
-use lib.Dec.{ltb, eqb}
-use borrow.Author.Tests.{ltb-true, eqb-true, lt-ltb, le-ltb, eq-eqb}
+use Rattle.std.proofs.Common.{ℕ, ◌<◌, ◌≡◌, refl, Bool, true, false, ◌&&◌, ◌||◌, ltb, eqb, arith, ltb-true, eqb-true, lt-ltb, le-ltb, eq-eqb}
 use Rattle.search.specs.Halving.{before}
 
 -- the key a, b comes before the key c, d

@@ -1,14 +1,8 @@
 -- Search by halving, without the bound on turns: what `place` goes by.
 --     on-behind, on-front     one turn, where the place in the middle is low, and where it is not
 --     over                    where no place is left
---     row_inside              a row's number and the numbers of its key are inside the numbers that are searched
 -- Assumes nothing.
-use Prim.Native.Nat.{ℕ, zero, suc, ◌+◌, ◌*◌, ◌-◌, ◌/◌, ◌≤◌, ◌<◌}
-use native.Mathlib.Omega.{arith}
-use native.Mathlib.Nat.{suc-mul, mul-le-mul_right, div-le_self, div-mul-le_self}
-use mathlib.Core.Path.{◌≡◌, refl, sym, ap, ◌∙◌}
-use mathlib.Core.Bool.{Bool, true, false, cond}
-use borrow.Author.Tests.{lt-ltb, le-ltb}
+use Rattle.std.proofs.Common.{ℕ, zero, suc, ◌+◌, ◌-◌, ◌≤◌, ◌<◌, ◌≡◌, refl, sym, ap, ◌∙◌, Bool, true, false, cond, arith, lt-ltb, le-ltb}
 use Rattle.search.specs.Halving.{middle, halving, between}
 
 -- as many turns as places are enough: more give the same
@@ -40,8 +34,3 @@ module _ (low : ℕ → Bool) (lo hi : ℕ) where
   pub over : hi ≤ lo → between low lo hi ≡ lo
   unfolding between halving
   over h = enough (hi - lo) 0 low lo hi (omega arith) (omega arith)
-
--- row k of n numbers, w to a row
-pub row_inside : (n w k : ℕ) → 2 ≤ w → k < n / w → (k < n) × (k * w + 1 < n)
-row_inside n w k p h =
-    (omega (arith, div-le_self n w), omega (arith, suc-mul k w, mul-le-mul_right {m = suc k} {n = n / w} w h, div-mul-le_self n w))

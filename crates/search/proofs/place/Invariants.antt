@@ -1,7 +1,5 @@
 -- The invariants of `search::place`.
-use mathlib.Core.Path.{◌≡◌}
-use Prim.Native.Nat.{◌/◌, ◌-◌, ◌≤◌}
-use lib.ListN.{length}
+use Rattle.std.proofs.Common.{◌≡◌, ◌/◌, ◌-◌, ◌≤◌, length}
 use Rattle.search.specs.Halving.{is_low, between, place_of}
 use Rattle.search.proofs.place.Given as goal
 

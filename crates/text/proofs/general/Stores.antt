@@ -3,15 +3,15 @@
 --     sets-none       storing an empty part changes nothing
 --     sets_more       the octet behind a part, stored behind it, makes it a part with one octet more
 --     sets-done       a part that is stored to its end
---     held_more       a list that holds the beginning of a text holds one octet more of it when that is stored
+--     stored          a part that `copy_from_slice` stores
 -- Assumes nothing.
 use Prim.Native.Nat.{ℕ, suc, ◌+◌, ◌-◌, ◌≤◌, ◌<◌}
 use native.Mathlib.Omega.{arith}
 use mathlib.Core.Path.{◌≡◌, refl, sym, ap, ap₂, ◌∙◌}
-use mathlib.Core.List.{List, [], ◌∷◌}
-use lib.ListN.{length, get_or, set}
-use lib.Seq.{sets, set-set, set_comm, get_or-set_same, get_or-set_other}
-use borrow.Author.Count.{below_more}
+use mathlib.Core.List.{List, [], ◌∷◌, ◌++◌, append_assoc}
+use borrow.Rule.Slice.PartMut.{put_mid}
+use lib.ListN.{length, get_or, set, take, drop, length-take, length-drop}
+use lib.Seq.{sets, sets-eq, drop-drop, set-set, set_comm}
 use Rattle.text.specs.Scan.{part}
 use Rattle.text.proofs.general.Lists.{sets-append}
 use Rattle.text.proofs.general.Parts.{part_none, part-more, part_join, length_part}
@@ -81,9 +81,13 @@ module _ (s o : List ℕ) (f p : ℕ) where
   pub sets-done : {i n : ℕ} {o₁ : List ℕ} → o₁ ≡ sets o p (part s f (f + i)) → i ≡ n → o₁ ≡ sets o p (part s f (f + n))
   sets-done q e = q ∙ ap (λ (k : ℕ). sets o p (part s f (f + k))) e
 
--- a list b that holds the text from f on in its first k places holds one octet more of it
-pub held_more : (s b : List ℕ) (f k : ℕ) → k < length b → ((j : ℕ) → j < k → get_or b j 0 ≡ get_or s (f + j) 0) →
-    (j : ℕ) → j < k + 1 → get_or (set b k (get_or s (f + k) 0)) j 0 ≡ get_or s (f + j) 0
-held_more s b f k h held =
-    below_more (λ j. get_or (set b k (get_or s (f + k) 0)) j 0 ≡ get_or s (f + j) 0) k
-    (λ j l. get_or-set_other b k j (get_or s (f + k) 0) 0 (λ e. omega arith) ∙ held j l) (get_or-set_same b k (get_or s (f + k) 0) 0 h)
+-- a part that is stored by `copy_from_slice`
+pub stored : (s o y : List ℕ) (f p n : ℕ) → f + n ≤ length s → p + n ≤ length o → y ≡ take (f + n - f) (drop f s) →
+    put_mid p (p + n - p) o y ≡ sets o p (part s f (f + n))
+stored s o y f p n h l e =
+    let size : length y ≡ n = omega (arith, ap length e ∙ length-take (f + n - f) (drop f s), length-drop f s) in
+    let behind : p + (p + n - p) ≡ p + length y = omega arith in
+    ap (λ (k : List ℕ). take p o ++ (y ++ k)) (drop-drop (p + n - p) p o ∙ ap (λ (k : ℕ). drop k o) behind)
+    ∙ sym (append_assoc (take p o) y (drop (p + length y) o))
+    ∙ sym (sets-eq y o p (omega arith))
+    ∙ ap (sets o p) (e ∙ ap (λ (k : ℕ). take k (drop f s)) (omega arith))

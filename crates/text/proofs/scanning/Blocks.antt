@@ -1,28 +1,23 @@
 -- Stretches of text without a byte of a set, runs of plain text, and the first place of a byte: the laws for src/block.rt.
 --     distance_none                       a byte at a distance from each interval of a set is not in the set
 --     Before, before_more                 the loops of `part` and `plain_part`: a fact about the places before one
---     clear_none, clear-meet, clear-join, clear-block, clear-as   stretches: the empty one, two that overlap or meet, one with a block
---                                         behind it, of an equal set
+--     clear_none, clear-meet, clear-join, clear-block   stretches: the empty one, two that overlap or meet, one with a block behind it
 --     ClearAt, part-done                  the end of the loop of `part`
---     Away, away-more, away-done          the loop of `is_clear`
---     Least, least_more, least-done, none-ascii    the loop of `is_ascii`, and that a byte which is not of `others` is ASCII
+--     Away, away_more, away-done          the fold of `is_clear`
+--     Least, least_more, least-done, none-ascii    the fold of `is_ascii`, and that a byte which is not of `others` is ASCII
 --     PlainAt, apart-plain                a byte at a distance from the ends of plain text is plain
 --     plain-none, plain-meet, plain-join, plain-block   runs of plain text, as stretches above
 --     plain_done                          the end of the loop of `plain_part`
---     Lacking, lacking, lacking-more, found_at     the loop of `find`
+--     found-behind                        the end of `find`
 --     found-once                          a byte has only one first place
 --     line                                the place of the first newline is where a line's characters end
 -- Assumes nothing.
-use Prim.Native.Nat.{ℕ, ◌+◌, ◌-◌, ◌≤◌, ◌<◌, min, max}
-use native.Mathlib.Omega.{arith}
-use mathlib.Core.Path.{◌≡◌, refl, sym, ap, ap₂, ◌∙◌, subst}
-use mathlib.Core.Bool.{Bool, true, false, not, and-false}
-use mathlib.Core.List.{List}
-use lib.ListN.{length, get_or}
-use lib.Bits.{bit_or, bit_xor}
-use lib.Dec.{eqb, ltb, leb}
-use borrow.Author.Count.{below_more}
-use borrow.Author.Tests.{eq-eqb, ne_eqb, eqb-true, eqb-false, ltb-true, ltb-false, lt-ltb, le-leb, lt-leb}
+use Rattle.std.proofs.Common.{ℕ, zero, suc, ◌+◌, ◌-◌, ◌≤◌, ◌<◌, min, max, arith, ◌≡◌, refl, sym, ap, ap₂, ◌∙◌, subst, Bool, true, false, not, List, [], ◌∷◌, ◌++◌}
+use Rattle.std.proofs.Common.{length, get_or, take, drop, length-take, length-drop, bit_or, bit_xor, eqb, ltb, leb, eq-eqb, ne_eqb, eqb-true, ltb-true}
+use Rattle.std.proofs.Common.{ltb-false, lt-ltb, le-leb}
+use mathlib.Core.Bool.{and-false}
+use Rattle.std.proofs.lemmas.List.{get_or-take, get_or-drop}
+use borrow.Author.Tests.{eqb-false, lt-leb}
 use Rattle.text.specs.declared.block.Interval.{Interval}
 use Rattle.text.specs.declared.block.Set.{Set}
 use Rattle.text.specs.Class.{holds_of}
@@ -35,20 +30,20 @@ use Rattle.text.specs.Block.{inside, in_set, apart, others, only, Clear, Found, 
 -- ---- the distance from a set
 
 apart_none : (x : Interval) (b : ℕ) {k : ℕ} → k ≡ apart x b → 0 < k → inside x b ≡ false
-apart_none x b {k} q h = go (ltb b x.first) refl
+apart_none x b {k} q h = go (ltb b x.0) refl
   where
-    go : (t : Bool) → ltb b x.first ≡ t → inside x b ≡ false
-    go true e = rw (lt-leb x.first b (ltb-true _ _ e))
-    go false e = rw (lt-leb b x.last (omega (arith, ltb-false b x.first e))) (and-false (leb x.first b))
+    go : (t : Bool) → ltb b x.0 ≡ t → inside x b ≡ false
+    go true e = rw (lt-leb x.0 b (ltb-true _ _ e))
+    go false e = rw (lt-leb b x.1 (omega (arith, ltb-false b x.0 e))) (and-false (leb x.0 b))
 
-least-three : (a b c : ℕ) → 0 < min a (min b c) → (0 < a) × (0 < b) × (0 < c)
+least-three : (a b c : ℕ) → 0 < min (min c b) a → (0 < a) × (0 < b) × (0 < c)
 least-three a b c h = (omega arith, omega arith, omega arith)
 
-pub distance_none : (x : Set) (b : ℕ) {p q r m n : ℕ} → p ≡ apart x.one b → q ≡ apart x.two b → r ≡ apart x.three b → m ≡ min q r →
-    n ≡ min p m → 0 < n → in_set x b ≡ false
+pub distance_none : (x : Set) (b : ℕ) {p q r m n : ℕ} → p ≡ apart x.one b → q ≡ apart x.two b → r ≡ apart x.three b → m ≡ min r q →
+    n ≡ min m p → 0 < n → in_set x b ≡ false
 unfolding in_set
 distance_none x b {p} {q} {r} e f g d c h =
-    let l = least-three p q r (subst (λ (k : ℕ). 0 < k) (c ∙ ap (min p) d) h) in
+    let l = least-three p q r (subst (λ (k : ℕ). 0 < k) (c ∙ ap (λ (k : ℕ). min k p) d) h) in
     rw (apart_none x.one b e l.0, apart_none x.two b f l.1, apart_none x.three b g l.2)
 
 -- ---- a fact about each place of a stretch
@@ -65,7 +60,7 @@ joined P {j = j} g a b k h l = go (ltb k j) refl
 abbrev pub Before : (ℕ → Type 0) → ℕ → ℕ → ℕ → Type 0
 Before P i k m = (j : ℕ) → j < k → j < m → P (i + j)
 
-pub before_more : (P : ℕ → Type 0) (i k m p : ℕ) {r : ℕ} → r ≡ min m p → Before P i k m → (k < p → P (i + k)) → Before P i (k + 1) r
+pub before_more : (P : ℕ → Type 0) (i k m p : ℕ) {r : ℕ} → r ≡ min p m → Before P i k m → (k < p → P (i + k)) → Before P i (k + 1) r
 before_more P i k m p e h one j l n = go (eqb j k) refl
   where
     go : (t : Bool) → eqb j k ≡ t → P (i + j)
@@ -99,41 +94,56 @@ clear-join a b = clear-meet a b a.from (omega arith)
 pub clear-block : {x : Set} {s : List ℕ} {i j k n : ℕ} → Clear x s i j → Clear x s j (j + k) → k ≡ n → Clear x s i (j + n)
 clear-block {x} {s} {i} {j} a b e = clear-join a (subst (λ (m : ℕ). Clear x s j (j + m)) e b)
 
--- what is clear of a set is clear of an equal set
-pub clear-as : {x y : Set} {s : List ℕ} {i r : ℕ} → x ≡ y → Clear x s i r → Clear y s i r
-clear-as {s = s} {i = i} {r = r} e a = subst (λ (z : Set). Clear z s i r) e a
-
 pub part-done : (x : Set) (s : List ℕ) (i m : ℕ) {k : ℕ} → m ≤ k → i + k ≤ length s → Before (ClearAt x s) i k m → Clear x s i (i + m)
 part-done x s i m l h b = record { from = omega arith; to = omega arith; clear = before-all (ClearAt x s) i m l b }
 
--- ---- the loop of `is_clear`: if the least distance m is not 0, none of the first k bytes is in the set
+-- ---- the bytes of a slice
 
-abbrev pub Away : Set → List ℕ → ℕ → ℕ → ℕ → Type 0
-Away x s i k m = 0 < m → (j : ℕ) → j < k → ClearAt x s (i + j)
+-- what holds of each byte of a list, and of one more, holds of each byte of the list with that one behind it
+pushed : (P : ℕ → Type 0) (ys : List ℕ) (b : ℕ) → ((j : ℕ) → j < length ys → P (get_or ys j 0)) → P b → (j : ℕ) → j < length (ys ++ (b ∷ [])) →
+    P (get_or (ys ++ (b ∷ [])) j 0)
+pushed P [] b h p zero l = p
+pushed P [] b h p (suc j) l = absurd (omega arith)
+pushed P (y ∷ ys) b h p zero l = h 0 (omega arith)
+pushed P (y ∷ ys) b h p (suc j) l = pushed P ys b (λ k q. h (suc k) (omega arith)) p j (omega arith)
 
-pub away-more : (x : Set) (s : List ℕ) (i k m d : ℕ) {r : ℕ} → r ≡ min m d → Away x s i k m → get_or s (i + k) 0 < 256 →
-    (0 < d → in_set x (get_or s (i + k) 0) ≡ false) → Away x s i (k + 1) r
-away-more x s i k m d e h b one z =
-    below_more (λ j. ClearAt x s (i + j)) k (h (omega arith)) (b, one (omega arith))
+at_slice : (s ys : List ℕ) (i n j : ℕ) → ys ≡ take (i + n - i) (drop i s) → j < n → get_or ys j 0 ≡ get_or s (i + j) 0
+at_slice s ys i n j e l =
+    ap (λ (k : List ℕ). get_or k j 0) e ∙ get_or-take (i + n - i) (drop i s) j 0 (omega arith) ∙ get_or-drop i s j 0
 
-pub away-done : (x : Set) (s : List ℕ) (i k m : ℕ) → i + k ≤ length s → Away x s i k m → 0 < m → Clear x s i (i + k)
-away-done x s i k m l h z = part-done x s i k (omega arith) l (λ j p q. h z j p)
+slice-size : (s ys : List ℕ) (i n j : ℕ) → ys ≡ take (i + n - i) (drop i s) → i + n ≤ length s → j < n → j < length ys
+slice-size s ys i n j e l h = omega (arith, ap length e ∙ length-take (i + n - i) (drop i s), length-drop i s)
 
--- ---- the loop of `is_ascii`: none of the first k bytes of the block is above m
+-- ---- the fold of `is_clear`: if the least distance m is not 0, none of the bytes is in the set
 
-abbrev pub Least : List ℕ → ℕ → ℕ → ℕ → Type 0
-Least s i k m = (j : ℕ) → j < k → get_or s (i + j) 0 ≤ m
+abbrev pub Away : Set → List ℕ → ℕ → Type 0
+Away x ys m = 0 < m → (j : ℕ) → j < length ys → in_set x (get_or ys j 0) ≡ false
 
-pub least_more : (s : List ℕ) (i k m : ℕ) {r : ℕ} → r ≡ max m (get_or s (i + k) 0) → Least s i k m → Least s i (k + 1) r
-least_more s i k m {r} e h = below_more (λ j. get_or s (i + j) 0 ≤ r) k (λ j l. let q = h j l in omega arith) (omega arith)
+pub away_more : (x : Set) (ys : List ℕ) (m b : ℕ) {r : ℕ} → (0 < r → 0 < m) → (0 < r → in_set x b ≡ false) → Away x ys m → Away x (ys ++ (b ∷ [])) r
+away_more x ys m b some one h z = pushed (λ k. in_set x k ≡ false) ys b (h (some z)) (one z)
+
+pub away-done : (x : Set) (s ys : List ℕ) (i n m : ℕ) → ys ≡ take (i + n - i) (drop i s) → i + n ≤ length s → ((k : ℕ) → get_or s k 0 < 256) → Away x ys m →
+    0 < m → Clear x s i (i + n)
+away-done x s ys i n m e l b h z =
+    part-done x s i n (omega arith) l (λ j p q. (b (i + j), subst (λ (k : ℕ). in_set x k ≡ false) (at_slice s ys i n j e p) (h z j (slice-size s ys i n j e l p))))
+
+-- ---- the fold of `is_ascii`: none of the bytes is above m
+
+abbrev pub Least : List ℕ → ℕ → Type 0
+Least ys m = (j : ℕ) → j < length ys → get_or ys j 0 ≤ m
+
+pub least_more : (ys : List ℕ) (m b : ℕ) {r : ℕ} → m ≤ r → b ≤ r → Least ys m → Least (ys ++ (b ∷ [])) r
+least_more ys m b {r} e f h = pushed (λ k. k ≤ r) ys b (λ j l. let q = h j l in omega arith) f
 
 ascii-none : (b : ℕ) → b < 0x80 → in_set others b ≡ false
 unfolding in_set
 ascii-none b h = rw (lt-leb 0x80 b h)
 
-pub least-done : (s : List ℕ) (i k m : ℕ) → Least s i k m → m < 0x80 → i + k ≤ length s → Clear others s i (i + k)
-least-done s i k m h l r =
-    part-done others s i k (omega arith) r (λ j p q. let a = h j p in (omega arith, ascii-none (get_or s (i + j) 0) (omega arith)))
+pub least-done : (s ys : List ℕ) (i n m : ℕ) → ys ≡ take (i + n - i) (drop i s) → i + n ≤ length s → Least ys m → m < 0x80 → Clear others s i (i + n)
+least-done s ys i n m e l h z =
+    part-done others s i n (omega arith) l
+    (λ j p q. let a : get_or s (i + j) 0 ≤ m = subst (λ (k : ℕ). k ≤ m) (at_slice s ys i n j e p) (h j (slice-size s ys i n j e l p)) in
+    (omega arith, ascii-none (get_or s (i + j) 0) (omega arith)))
 
 -- a byte that is not of `others` is ASCII
 pub none-ascii : (b : ℕ) → b < 256 → in_set others b ≡ false → b < 0x80
@@ -152,38 +162,24 @@ PlainAt s k = (is_simple (get_or s k 0) ≡ true) × (get_or s (k - 1) 0 ≡ 0x2
 blanks : (a b : ℕ) → 0 < bit_or (bit_xor a 0x20) (bit_xor b 0x20) → a ≡ 0x20 → b ≡ 0x20 → ⊥
 blanks a b h e f = let z : bit_or (bit_xor a 0x20) (bit_xor b 0x20) ≡ 0 = ap₂ (λ (m n : ℕ). bit_or (bit_xor m 0x20) (bit_xor n 0x20)) e f in omega arith
 
-above : (n b : ℕ) → 0 < b - n → n < b
-above n b h = omega arith
-
-least-two : {m a b : ℕ} → m ≡ min a b → 0 < m → (0 < a) × (0 < b)
-least-two e h = (omega arith, omega arith)
-
 differs : (b x : ℕ) → bit_xor x x ≡ 0 → 0 < bit_xor b x → eqb b x ≡ false
 differs b x z h = ne_eqb b x (λ e. let y : bit_xor b x ≡ 0 = ap (λ (n : ℕ). bit_xor n x) e ∙ z in omega arith)
 
-pub apart-plain : (a b : ℕ) {m n p q u v w : ℕ} → m ≡ min (b - 0x1F) (0x7F - b) → n ≡ min (bit_xor b 0x24) (bit_xor b 0x2D) →
-    p ≡ min (bit_xor b 0x5C) (bit_or (bit_xor a 0x20) (bit_xor b 0x20)) → q ≡ min (bit_xor b 0x7B) (bit_xor b 0x7D) → u ≡ min m n → v ≡ min p q →
-    w ≡ min u v → 0 < w → (is_simple b ≡ true) × (a ≡ 0x20 → b ≡ 0x20 → ⊥)
+pub apart-plain : (a b : ℕ) → 0x1F < b → b < 0x7F → 0 < bit_xor b 0x24 → 0 < bit_xor b 0x2D → 0 < bit_xor b 0x5C →
+    0 < bit_or (bit_xor a 0x20) (bit_xor b 0x20) → 0 < bit_xor b 0x7B → 0 < bit_xor b 0x7D → (is_simple b ≡ true) × (a ≡ 0x20 → b ≡ 0x20 → ⊥)
 unfolding is_simple
-apart-plain a b e f g d j k l h =
-    let x = least-two l h in
-    let y = least-two j x.0 in
-    let z = least-two k x.1 in
-    let inner = least-two e y.0 in
-    let two = least-two f y.1 in
-    let three = least-two g z.0 in
-    let four = least-two d z.1 in (
-      rw (
-        lt-ltb 0x1F b (above 0x1F b inner.0),
-        lt-ltb b 0x7F (above b 0x7F inner.1),
-        differs b 0x24 refl two.0,
-        differs b 0x2D refl two.1,
-        differs b 0x5C refl three.0,
-        differs b 0x7B refl four.0,
-        differs b 0x7D refl four.1,
-      ),
-      blanks a b three.1,
-    )
+apart-plain a b h l d m e n f g = (
+  rw (
+    lt-ltb 0x1F b h,
+    lt-ltb b 0x7F l,
+    differs b 0x24 refl d,
+    differs b 0x2D refl m,
+    differs b 0x5C refl e,
+    differs b 0x7B refl f,
+    differs b 0x7D refl g,
+  ),
+  blanks a b n,
+)
 
 pub plain-none : {s : List ℕ} {i : ℕ} → PlainRun s i i
 plain-none = record { from = omega arith; to = omega arith; simple = λ k h l. absurd (omega arith); single = λ k h l. absurd (omega arith) }
@@ -211,30 +207,33 @@ plain_done s i m l h b = record {
   single = λ n p q. (before-all (PlainAt s) i m l b n p q).1;
 }
 
--- ---- the loop of `find`: the first place of a byte
-
-pub record Lacking (x : ℕ) (s : List ℕ) (i j : ℕ) : Type 0 where
-  pub from : i ≤ j
-  pub to : j ≤ max i (length s)
-  pub before : (k : ℕ) → i ≤ k → k < j → get_or s k 0 ≡ x → ⊥
+-- ---- the end of `find`: the first place of a byte
 
 only-it : (x : ℕ) → in_set (only x) x ≡ true
 unfolding in_set
 only-it x = rw (le-leb x x (omega arith))
 
-pub lacking : {x : ℕ} {s : List ℕ} {i j : ℕ} → Clear (only x) s i j → Lacking x s i j
-lacking {x} a = record { from = a.from; to = a.to; before = λ k h l. told-apart (in_set (only x)) x (only-it x) (a.clear k h l).1 }
-
-pub lacking-more : {x : ℕ} {s : List ℕ} {i j : ℕ} → Lacking x s i j → j < length s → (get_or s j 0 ≡ x → ⊥) → Lacking x s i (j + 1)
-lacking-more {x} {s} {i} {j} a h z =
-    record { from = omega (arith, a.from); to = omega arith; before = λ k p q. go k p q (eqb k j) refl }
+-- a stretch without the byte x, and k places of the rest behind it that do not have it either
+pub found-behind : (x : ℕ) (s : List ℕ) (i j k : ℕ) {r : ℕ} → Clear (only x) s i j → r ≡ j + k → r ≤ max i (length s) →
+    ((m : ℕ) → m < k → get_or (take (length s - j) (drop j s)) m 0 ≡ x → ⊥) → (r < length s → get_or (take (length s - j) (drop j s)) k 0 ≡ x) →
+    Found x s i r
+found-behind x s i j k {r} a e l none one = record {
+  from = omega (arith, a.from);
+  to = l;
+  before = joined (λ m. get_or s m 0 ≡ x → ⊥) at-most (λ m h q. told-apart (in_set (only x)) x (only-it x) (a.clear m h q).1) later;
+  at = λ h. ap (λ (n : ℕ). get_or s n 0) e ∙ sym (in-rest k (omega arith)) ∙ one h;
+}
   where
-    go : (k : ℕ) → i ≤ k → k < j + 1 → (t : Bool) → eqb k j ≡ t → get_or s k 0 ≡ x → ⊥
-    go k p q true e f = z (subst (λ (n : ℕ). get_or s n 0 ≡ x) (eqb-true k j e) f)
-    go k p q false e f = a.before k p (omega (arith, eqb-false k j e)) f
+    at-most : j ≤ j
+    at-most = omega arith
 
-pub found_at : {x : ℕ} {s : List ℕ} {i j : ℕ} → Lacking x s i j → (j < length s → get_or s j 0 ≡ x) → Found x s i j
-found_at a h = record { from = a.from; to = a.to; before = a.before; at = h }
+    in-rest : (m : ℕ) → j + m < length s → get_or (take (length s - j) (drop j s)) m 0 ≡ get_or s (j + m) 0
+    in-rest m h = get_or-take (length s - j) (drop j s) m 0 (omega arith) ∙ get_or-drop j s m 0
+
+    later : (m : ℕ) → j ≤ m → m < r → get_or s m 0 ≡ x → ⊥
+    later m h q f =
+        let back : j + (m - j) ≡ m = omega arith in
+        none (m - j) (omega arith) (in-rest (m - j) (omega (arith, a.from)) ∙ ap (λ (n : ℕ). get_or s n 0) back ∙ f)
 
 no-later : {x : ℕ} {s : List ℕ} {i r q : ℕ} → Found x s i r → Found x s i q → r < q → ⊥
 no-later {x} {s} {i} {r} {q} a b h = b.before r a.from h (a.at (omega (arith, a.from, b.to)))

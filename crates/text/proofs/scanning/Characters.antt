@@ -5,6 +5,7 @@
 --     white-on                white space goes on behind a character of it
 --     skip-inside, skip_at    a scan stops inside the text, or at its end; where it stops inside, the test fails
 -- Assumes nothing.
+use Rattle.std.specs.Prelude.{Option, Some, None}
 use Prim.Native.Nat.{ℕ, zero, suc, ◌+◌, ◌≤◌, ◌<◌}
 use native.Mathlib.Omega.{arith}
 use mathlib.Core.Path.{◌≡◌, refl, sym, ap, subst, ◌∙◌}
@@ -15,22 +16,20 @@ use lib.Dec.{ltb}
 use borrow.Author.Tests.{ltb-true, ltb-false}
 use Rattle.text.specs.Class.{is_whitespace}
 use Rattle.text.specs.Scan.{see, next_of, skip, code, rest}
-use Rattle.text.specs.declared.scanner.Seen.{Seen}
-use Rattle.text.specs.declared.scanner.Seen.TheVariants.{End, Char}
 use Rattle.text.proofs.general.Places.{drop-next}
 use Rattle.text.proofs.scanning.Seen.{see-at, see-ascii}
 use Rattle.text.proofs.scanning.LongerText.{see-ahead}
 use Rattle.text.proofs.scanning.Skip.{code-wide, skip-on, skip_stop, skip-ahead}
 
-abbrev place_of : Seen → ℕ
-place_of End = 0
-place_of (Char c n) = n
+abbrev place_of : Option (ℕ × ℕ) → ℕ
+place_of None = 0
+place_of (Some (c, n)) = n
 
-abbrev code_in : Seen → ℕ
-code_in End = 0
-code_in (Char c n) = c
+abbrev code_in : Option (ℕ × ℕ) → ℕ
+code_in None = 0
+code_in (Some (c, n)) = c
 
-pub char-parts : (s : List ℕ) (p c n : ℕ) → see s p ≡ Char c n → (p < length s) × (c ≡ code (drop p s)) × (n ≡ p + 1 + rest (drop p s))
+pub char-parts : (s : List ℕ) (p c n : ℕ) → see s p ≡ Some (c, n) → (p < length s) × (c ≡ code (drop p s)) × (n ≡ p + 1 + rest (drop p s))
 char-parts s p c n e =
     let h = see-ahead s p c n e in
     let l : p < length s = omega (arith, h.0, h.1) in
@@ -40,14 +39,14 @@ char-parts s p c n e =
 pub next-inside : (s : List ℕ) (p : ℕ) → p ≤ length s → (p ≤ next_of p (see s p)) × (next_of p (see s p) ≤ length s)
 next-inside s p h = by (see s p) refl
   where
-    by : (v : Seen) → see s p ≡ v → (p ≤ next_of p v) × (next_of p v ≤ length s)
-    by End e = (omega arith, h)
-    by (Char c n) e = let a = see-ahead s p c n e in (omega (arith, a.0), a.1)
+    by : (v : Option (ℕ × ℕ)) → see s p ≡ v → (p ≤ next_of p v) × (next_of p v ≤ length s)
+    by None e = (omega arith, h)
+    by (Some (c, n)) e = let a = see-ahead s p c n e in (omega (arith, a.0), a.1)
 
-pub at_byte : (s : List ℕ) (p b : ℕ) → p < length s → get_or s p 0 ≡ b → b < 0x80 → see s p ≡ Char b (p + 1)
-at_byte s p b l e h = see-ascii s p l (omega (arith, e, h)) ∙ ap (λ (x : ℕ). Char x (p + 1)) e
+pub at_byte : (s : List ℕ) (p b : ℕ) → p < length s → get_or s p 0 ≡ b → b < 0x80 → see s p ≡ Some (b, p + 1)
+at_byte s p b l e h = see-ascii s p l (omega (arith, e, h)) ∙ ap (λ (x : ℕ). Some (x, p + 1)) e
 
-pub byte_of : (s : List ℕ) (p c n : ℕ) → see s p ≡ Char c n → c < 0x80 → get_or s p 0 ≡ c
+pub byte_of : (s : List ℕ) (p c n : ℕ) → see s p ≡ Some (c, n) → c < 0x80 → get_or s p 0 ≡ c
 byte_of s p c n e h = let k = char-parts s p c n e in by k (ltb (get_or s p 0) 0x80) refl
   where
     by : (p < length s) × (c ≡ code (drop p s)) × (n ≡ p + 1 + rest (drop p s)) → (w : Bool) → ltb (get_or s p 0) 0x80 ≡ w → get_or s p 0 ≡ c
@@ -56,7 +55,7 @@ byte_of s p c n e h = let k = char-parts s p c n e in by k (ltb (get_or s p 0) 0
         let wide = code-wide (get_or s p 0) (drop (p + 1) s) (ltb-false _ _ q) in
         absurd (omega (arith, h, k.1, wide, ap code (drop-next s p k.0)))
 
-pub white-on : (s : List ℕ) (p c n : ℕ) → see s p ≡ Char c n → is_whitespace c ≡ true → skip is_whitespace s p ≡ skip is_whitespace s n
+pub white-on : (s : List ℕ) (p c n : ℕ) → see s p ≡ Some (c, n) → is_whitespace c ≡ true → skip is_whitespace s p ≡ skip is_whitespace s n
 white-on s p c n e w =
     let h = char-parts s p c n e in
     skip-on is_whitespace s p h.0 (ap is_whitespace (sym h.1) ∙ w) ∙ ap (skip is_whitespace s) (sym h.2)

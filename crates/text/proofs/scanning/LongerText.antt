@@ -3,6 +3,7 @@
 --     see-up                  behind another text the scanner sees the same, at places moved by that text's length
 --     see-front               where another text follows that does not begin with a tail, the scanner sees the same
 -- Assumes nothing.
+use Rattle.std.specs.Prelude.{Some}
 use Prim.Native.Nat.{ℕ, zero, suc, ◌+◌, ◌≤◌, ◌<◌}
 use mathlib.Core.Path.{◌≡◌, refl, sym, ap, ◌∙◌, subst}
 use mathlib.Core.Bool.{Bool, true, false}
@@ -17,13 +18,12 @@ use Rattle.text.specs.Range.{within}
 use Rattle.text.specs.Utf8.{tail, is_char, width}
 use Rattle.text.specs.Scan.{code, rest, see_from, see, Inside}
 use Rattle.text.specs.Seeing.{seen_up}
-use Rattle.text.specs.declared.scanner.Seen.TheVariants.{Char}
 use Rattle.text.proofs.sequences.Alternatives.{width-char, char-width}
 use Rattle.text.proofs.sequences.Lengths.{char-further, width-inside}
 use Rattle.text.proofs.scanning.Seen.{see-at, see-inside}
 
 -- a character ends after its place, and inside the text
-pub see-ahead : (s : List ℕ) (p c n : ℕ) → see s p ≡ Char c n → (p < n) × (n ≤ length s)
+pub see-ahead : (s : List ℕ) (p c n : ℕ) → see s p ≡ Some (c, n) → (p < n) × (n ≤ length s)
 see-ahead s p c n e = subst (Inside s p) e (see-inside s p)
 
 -- ---- behind another text
@@ -31,7 +31,7 @@ see-ahead s p c n e = subst (Inside s p) e (see-inside s p)
 from_up : (u : List ℕ) (p d : ℕ) → see_from u (p + d) ≡ seen_up d (see_from u p)
 unfolding see_from
 from_up [] p d = refl
-from_up (b ∷ u) p d = ap (Char (code (b ∷ u))) (omega arith)
+from_up (b ∷ u) p d = ap (λ (n' : ℕ). Some ((code (b ∷ u)), n')) (omega arith)
 
 pub see-up : (a s : List ℕ) (p : ℕ) → see (a ++ s) (p + length a) ≡ seen_up (length a) (see s p)
 see-up a s p =

@@ -9,6 +9,8 @@
 --     passed-more, run_on, ran_on, ran-stop   runs of ASCII in `eat_run`
 --     passed, ran, bit-on, .. single-off      what the functions return: the place where the scan stops, and that it lies ahead
 -- Assumes nothing.
+use Rattle.std.proofs.lemmas.Option.{some_pair_parts}
+use Rattle.std.specs.Prelude.{Option, Some, None}
 use mathlib.Core.Path.{◌≡◌, refl, sym, ap, ◌∙◌, subst}
 use mathlib.Core.Bool.{Bool, true, false, cond, beq}
 use mathlib.Core.List.{List, [], ◌∷◌}
@@ -28,8 +30,6 @@ use Rattle.text.specs.Scan.{code, rest, see, past_one, single, look_past, skip, 
 use Rattle.text.specs.Inner.{has_bit, AsciiOf, wants, AsciiRun}
 use Rattle.text.specs.declared.class.Masks.{Masks}
 use Rattle.text.specs.declared.class.Test.{Test}
-use Rattle.text.specs.declared.scanner.Seen.{Seen}
-use Rattle.text.specs.declared.scanner.Seen.TheVariants.{End, Char}
 use Rattle.text.proofs.sequences.Walk.{walk_end, walk-answer, walk-pass, walk-keeps, from-pass}
 use Rattle.text.proofs.sequences.Alternatives.{width-char}
 use Rattle.text.proofs.sequences.Lengths.{char-further, width-inside, width-tail}
@@ -81,10 +81,10 @@ module _ (p : ℕ → Bool) (s : List ℕ) where
     -- a turn, by the byte that the code looked at
     module _ (a : get_or s i 0 < 0x80) {w : Bool} (q : w ≡ p (get_or s i 0)) where
       code-byte : code (drop i s) ≡ get_or s i 0
-      code-byte = let e = sym (see-at s i h) ∙ see-ascii s i h a in cc
+      code-byte = (some_pair_parts _ _ _ _ (sym (see-at s i h) ∙ see-ascii s i h a)).0
 
       rest-byte : i + 1 + rest (drop i s) ≡ i + 1
-      rest-byte = let e = sym (see-at s i h) ∙ see-ascii s i h a in cc
+      rest-byte = (some_pair_parts _ _ _ _ (sym (see-at s i h) ∙ see-ascii s i h a)).1
 
       pub byte-on : w ≡ true → skip p s i ≡ skip p s (i + 1)
       byte-on t = skip-on (ap p code-byte ∙ sym q ∙ t) ∙ ap (skip p s) rest-byte
@@ -272,9 +272,9 @@ module _ (t : Test) (w : Bool) (m : Masks) (masks : AsciiOf t m) (s : List ℕ) 
 
 -- ---- what the functions return: the place where the scan stops, and that it lies ahead
 
-past-ahead : (p : ℕ → Bool) (s : List ℕ) (i : ℕ) (x : Seen) → Inside s i x → Ahead s i (past_one p i x)
-past-ahead p s i End h = record { from = omega arith; to = omega arith }
-past-ahead p s i (Char c n) h = go (p c)
+past-ahead : (p : ℕ → Bool) (s : List ℕ) (i : ℕ) (x : Option (ℕ × ℕ)) → Inside s i x → Ahead s i (past_one p i x)
+past-ahead p s i None h = record { from = omega arith; to = omega arith }
+past-ahead p s i (Some (c, n)) h = go (p c)
   where
     go : (t : Bool) → Ahead s i (cond t n i)
     go true = record { from = omega arith; to = omega arith }

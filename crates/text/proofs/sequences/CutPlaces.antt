@@ -6,6 +6,8 @@
 --     first, between              a text begins at a boundary, and is UTF-8 between two of them
 --     sees, skips                 from a boundary, the scanner reads a character as `decode_at` does, and goes to a boundary
 -- Assumes nothing.
+use Rattle.std.proofs.lemmas.Option.{some_pair_parts}
+use Rattle.std.specs.Prelude.{Some}
 use Prim.Native.Nat.{ℕ, zero, suc, ◌+◌, ◌-◌, ◌≤◌, ◌<◌, min}
 use mathlib.Core.Path.{◌≡◌, refl, sym, ap, subst, ◌∙◌}
 use mathlib.Core.Logic.{◌↔◌}
@@ -22,7 +24,6 @@ use Rattle.text.specs.Utf8.{tail, is_char, Octets, none, next, value, octets, is
 use Rattle.text.specs.Scan.{code, rest, see_from, see, look_past, skip, part}
 use Rattle.text.specs.Rfc3629.{Cut}
 use Rattle.text.specs.declared.utf8.Decoded.TheVariants as decoded
-use Rattle.text.specs.declared.scanner.Seen.TheVariants.{Char}
 use Rattle.text.proofs.sequences.Walk.{from-answer}
 use Rattle.text.proofs.sequences.Alternatives.{char-width}
 use Rattle.text.proofs.general.Tests.{both_true}
@@ -40,10 +41,10 @@ pub rest-char : (w t : List ℕ) → is_char w ≡ true → rest (w ++ t) ≡ le
 unfolding rest
 rest-char w t e = rw (char-width w t e)
 
-pub see-char : (w t : List ℕ) (i : ℕ) → is_char w ≡ true → see_from (w ++ t) i ≡ Char (value w) (i + length w)
+pub see-char : (w t : List ℕ) (i : ℕ) → is_char w ≡ true → see_from (w ++ t) i ≡ Some (value w, i + length w)
 unfolding see_from
 see-char [] t i e = absurd (omega (arith, (char-some [] e).0))
-see-char (b ∷ w) t i e = rw (code-char (b ∷ w) t e, rest-char (b ∷ w) t e) (ap (Char (value (b ∷ w))) (omega arith))
+see-char (b ∷ w) t i e = rw (code-char (b ∷ w) t e, rest-char (b ∷ w) t e) (ap (λ (n' : ℕ). Some ((value (b ∷ w)), n')) (omega arith))
 
 pub decode-char : (w t : List ℕ) (i : ℕ) → is_char w ≡ true → decode_from (w ++ t) i ≡ decoded.Char (value w) (i + length w)
 unfolding decode_from
@@ -133,17 +134,15 @@ cut-char s i w t c q e o =
     let h = c.inside in
     (d, record { inside = omega arith; before = rw (take-add i (length w) s, f) (octets-append c.before (octets-char w e)); after = rw (sym d) o })
 
-sees-from : {u : List ℕ} (s : List ℕ) (i c n : ℕ) → Octets u → u ≡ drop i s → Cut s i → see_from u i ≡ Char c n →
+sees-from : {u : List ℕ} (s : List ℕ) (i c n : ℕ) → Octets u → u ≡ drop i s → Cut s i → see_from u i ≡ Some (c, n) →
     (decode_from u i ≡ decoded.Char c n) × (is_boundary s n ≡ true)
 unfolding see_from
 sees-from s i c n none q k e = let z : ◌≡◌ {A = ℕ} 0 1 = cc in absurd (omega arith)
 sees-from s i c n (next w {s = t} x o) q k e =
-    let v = see-char w t i x in
-    let a : value w ≡ c = cc in
-    let b : i + length w ≡ n = cc in
-    (decode-char w t i x ∙ rw (a, b), rw b at (cut-boundary s (i + length w) (cut-char s i w t k q x o).1))
+    let p = some_pair_parts _ _ _ _ (sym (see-char w t i x) ∙ e) in
+    (decode-char w t i x ∙ rw (p.0, p.1), rw p.1 at (cut-boundary s (i + length w) (cut-char s i w t k q x o).1))
 
-pub sees : (s : List ℕ) (i c n : ℕ) → Octets s → is_boundary s i ≡ true → see s i ≡ Char c n →
+pub sees : (s : List ℕ) (i c n : ℕ) → Octets s → is_boundary s i ≡ true → see s i ≡ Some (c, n) →
     (decode_at s i ≡ decoded.Char c n) × (is_boundary s n ≡ true)
 sees s i c n o b e = let k = boundary-cut s i o b in sees-from s i c n k.after refl k e
 

@@ -6,6 +6,8 @@
 --     walk-char               a walk that passes a sequence goes on behind it
 --     accepts, refuses        `validity_of` accepts what is UTF-8, and of other texts tells the end of the longest beginning that is
 -- Assumes nothing.
+use Rattle.std.specs.Prelude.{Result, Ok, Err, ⊤}
+use Rattle.text.specs.declared.utf8.IllFormed.{IllFormed}
 use Prim.Native.Nat.{ℕ, suc, ◌+◌, ◌-◌, ◌≤◌, ◌<◌}
 use mathlib.Core.Path.{◌≡◌, refl, sym, ap, subst, ◌∙◌}
 use mathlib.Core.Logic.{◌↔◌}
@@ -19,8 +21,6 @@ use borrow.Author.Tests.{leb-true, leb-false, eqb-true, eqb-false, ne_eqb}
 use Rattle.text.specs.Walk.{Look, answer, pass, walk_from}
 use Rattle.text.specs.Utf8.{is_char, Octets, none, next, width, look_valid, validity_of}
 use Rattle.text.specs.Rfc3629.{Longest}
-use Rattle.text.specs.declared.utf8.Validity.{Validity}
-use Rattle.text.specs.declared.utf8.Validity.TheVariants as validity
 use Rattle.text.proofs.sequences.Walk.{from-passed, walk-keeps}
 use Rattle.text.proofs.sequences.Alternatives.{width-char, char-width}
 use Rattle.text.proofs.sequences.Lengths.{char-some}
@@ -58,30 +58,30 @@ valid-char : (i : ℕ) (w t : List ℕ) → is_char w ≡ true → look_valid i 
 unfolding look_valid
 valid-char i w t c = let h = (char-some w c).0 in rw (char-width w t c, ne_eqb (length w) 0 (λ z. omega arith))
 
-valid-octets : {u : List ℕ} (e : ℕ → Validity) (i : ℕ) → Octets u → walk_from look_valid e i 0 u ≡ e (i + length u)
+valid-octets : {u : List ℕ} (e : ℕ → Result ⊤ IllFormed) (i : ℕ) → Octets u → walk_from look_valid e i 0 u ≡ e (i + length u)
 unfolding walk_from
 valid-octets e i none = ap e (omega arith)
 valid-octets e i (next w {s} c o) =
     walk-char look_valid e i w s c (valid-char i w s c) ∙ valid-octets e (i + length w) o ∙ ap e (omega (arith, length-append w s))
 
-octets-valid : (s : List ℕ) → Octets s → validity_of s ≡ validity.Valid
+octets-valid : (s : List ℕ) → Octets s → validity_of s ≡ Ok tt
 unfolding validity_of
-octets-valid s o = valid-octets (λ n. validity.Valid) 0 o
+octets-valid s o = valid-octets (λ n. (Ok tt)) 0 o
 
 valid-pass : (i k : ℕ) (u : List ℕ) → look_valid i u ≡ pass k → width u ≡ suc k
 unfolding look_valid
 valid-pass i k u q = go (eqb (width u) 0) refl q
   where
-    go : (x : Bool) → eqb (width u) 0 ≡ x → cond x (answer (validity.IllFormed i)) (pass (width u - 1)) ≡ pass k → width u ≡ suc k
+    go : (x : Bool) → eqb (width u) 0 ≡ x → cond {A = Look (Result ⊤ IllFormed)} x (answer (Err (record { at = i }))) (pass (width u - 1)) ≡ pass k → width u ≡ suc k
     go true e q = let z : ◌≡◌ {A = ℕ} 0 1 = cc in absurd (omega arith)
     go false e q = let n : width u - 1 ≡ k = cc in omega (arith, eqb-false (width u) 0 e)
 
-valid-answer : (i : ℕ) (u : List ℕ) (r : Validity) → look_valid i u ≡ answer r → (width u ≡ 0) × (validity.IllFormed i ≡ r)
+valid-answer : (i : ℕ) (u : List ℕ) (r : Result ⊤ IllFormed) → look_valid i u ≡ answer r → (width u ≡ 0) × (◌≡◌ {A = Result ⊤ IllFormed} (Err (record { at = i })) r)
 unfolding look_valid
 valid-answer i u r q = go (eqb (width u) 0) refl q
   where
-    go : (x : Bool) → eqb (width u) 0 ≡ x → cond x (answer (validity.IllFormed i)) (pass (width u - 1)) ≡ answer r →
-        (width u ≡ 0) × (validity.IllFormed i ≡ r)
+    go : (x : Bool) → eqb (width u) 0 ≡ x → cond {A = Look (Result ⊤ IllFormed)} x (answer (Err (record { at = i }))) (pass (width u - 1)) ≡ answer r →
+        (width u ≡ 0) × (◌≡◌ {A = Result ⊤ IllFormed} (Err (record { at = i })) r)
     go true e q = (eqb-true _ _ e, cc)
     go false e q = let z : ◌≡◌ {A = ℕ} 0 1 = cc in absurd (omega arith)
 
@@ -91,9 +91,9 @@ record Reached (s : List ℕ) (i : ℕ) (u : List ℕ) : Type 0 where
   pub before : Octets (take i s)
   pub left : u ≡ drop i s
 
-abbrev ValidityMeans : List ℕ → Validity → Type 0
-ValidityMeans s validity.Valid = Octets s
-ValidityMeans s (validity.IllFormed n) = Reached s n (drop n s) × (width (drop n s) ≡ 0)
+abbrev ValidityMeans : List ℕ → Result ⊤ IllFormed → Type 0
+ValidityMeans s (Ok tt) = Octets s
+ValidityMeans s (Err n) = Reached s n.at (drop n.at s) × (width (drop n.at s) ≡ 0)
 
 left-length : (s : List ℕ) (i : ℕ) (u : List ℕ) → Reached s i u → length u ≡ length s - i
 left-length s i u r = ap length r.left ∙ length-drop i s
@@ -105,7 +105,7 @@ reached-pass s i k u r e =
     let w : Octets (take (suc k) u) = octets-char (take (suc k) u) (rw e at c.0) in
     (omega arith, record { inside = omega arith; before = rw (take-add, ← r.left) (octets-append r.before w); left = ap (drop (suc k)) r.left ∙ drop-drop (suc k) i s })
 
-reached-stop : (s : List ℕ) (i : ℕ) (u : List ℕ) (x : Validity) → Reached s i u → look_valid i u ≡ answer x → ValidityMeans s x
+reached-stop : (s : List ℕ) (i : ℕ) (u : List ℕ) (x : Result ⊤ IllFormed) → Reached s i u → look_valid i u ≡ answer x → ValidityMeans s x
 reached-stop s i u x r q =
     let a = valid-answer i u x q in
     subst (ValidityMeans s) a.1 (record { inside = r.inside; before = r.before; left = refl }, ap width (sym r.left) ∙ a.0)
@@ -116,14 +116,14 @@ reached-end s i r = let n = left-length s i [] r in rw (take_all i s (omega arit
 outcome : (s : List ℕ) → ValidityMeans s (validity_of s)
 unfolding validity_of
 outcome s =
-    walk-keeps look_valid (λ n. validity.Valid) (Reached s) (ValidityMeans s) (λ i k u l r q. reached-pass s i k u r (valid-pass i k u q)) (reached-stop s) (reached-end s) s 0
+    walk-keeps look_valid (λ n. (Ok tt)) (Reached s) (ValidityMeans s) (λ i k u l r q. reached-pass s i k u r (valid-pass i k u q)) (reached-stop s) (reached-end s) s 0
     (record { inside = omega arith; before = none; left = refl })
 
-outcome-of : (s : List ℕ) (x : Validity) → validity_of s ≡ x → ValidityMeans s x
+outcome-of : (s : List ℕ) (x : Result ⊤ IllFormed) → validity_of s ≡ x → ValidityMeans s x
 outcome-of s x e = subst (ValidityMeans s) e (outcome s)
 
-pub accepts : (s : List ℕ) → (validity_of s ≡ validity.Valid) ↔ Octets s
-accepts s = (outcome-of s validity.Valid, octets-valid s)
+pub accepts : (s : List ℕ) → (validity_of s ≡ Ok tt) ↔ Octets s
+accepts s = (outcome-of s (Ok tt), octets-valid s)
 
 -- ---- the longest beginning that is UTF-8
 
@@ -150,19 +150,19 @@ octets-most s n o e m h q = go (leb m n) refl
     go true p = leb-true m n p
     go false p = absurd (omega (arith, octets-longer s n m o q (leb-false m n p) h))
 
-whole-valid : (s : List ℕ) (n : ℕ) → Octets (take n s) → length s ≤ n → validity_of s ≡ validity.Valid
+whole-valid : (s : List ℕ) (n : ℕ) → Octets (take n s) → length s ≤ n → validity_of s ≡ (Ok tt)
 whole-valid s n o h = octets-valid s (rw (take_all n s h) at o)
 
-ill-inside : (s : List ℕ) (n : ℕ) → Octets (take n s) → validity_of s ≡ validity.IllFormed n → n < length s
+ill-inside : (s : List ℕ) (n : ℕ) → Octets (take n s) → validity_of s ≡ Err (record { at = n }) → n < length s
 ill-inside s n o e = go (leb (length s) n) refl
   where
     go : (x : Bool) → leb (length s) n ≡ x → n < length s
     go true p = let v = whole-valid s n o (leb-true _ _ p) in let z : ◌≡◌ {A = ℕ} 0 1 = cc in absurd (omega arith)
     go false p = leb-false _ _ p
 
-ill-longest : (s : List ℕ) (n : ℕ) → validity_of s ≡ validity.IllFormed n → Longest s n
+ill-longest : (s : List ℕ) (n : ℕ) → validity_of s ≡ Err (record { at = n }) → Longest s n
 ill-longest s n e =
-    let r = outcome-of s (validity.IllFormed n) e in
+    let r = outcome-of s (Err (record { at = n })) e in
     let o = r.0.before in record { inside = ill-inside s n o e; valid = o; most = octets-most s n o r.1 }
 
 longest-same : (s : List ℕ) (n m : ℕ) → Longest s n → Longest s m → n ≡ m
@@ -172,12 +172,12 @@ longest-same s n m p q =
 longest-part : (s : List ℕ) (n : ℕ) → Longest s n → Octets s → ⊥
 longest-part s n l o = omega (arith, l.most (length s) (omega arith) (rw (take_all (length s) s (omega arith)) o))
 
-longest-ill : (s : List ℕ) (n : ℕ) → Longest s n → validity_of s ≡ validity.IllFormed n
+longest-ill : (s : List ℕ) (n : ℕ) → Longest s n → validity_of s ≡ Err (record { at = n })
 longest-ill s n l = go (validity_of s) refl
   where
-    go : (x : Validity) → validity_of s ≡ x → x ≡ validity.IllFormed n
-    go validity.Valid e = absurd (longest-part s n l (outcome-of s validity.Valid e))
-    go (validity.IllFormed m) e = ap validity.IllFormed (longest-same s m n (ill-longest s m e) l)
+    go : (x : Result ⊤ IllFormed) → validity_of s ≡ x → x ≡ Err (record { at = n })
+    go (Ok tt) e = absurd (longest-part s n l (outcome-of s (Ok tt) e))
+    go (Err m) e = ap {B = Result ⊤ IllFormed} (λ (k : ℕ). Err (record { at = k })) (longest-same s m.at n (ill-longest s m.at e) l)
 
-pub refuses : (s : List ℕ) (n : ℕ) → (validity_of s ≡ validity.IllFormed n) ↔ Longest s n
+pub refuses : (s : List ℕ) (n : ℕ) → (validity_of s ≡ Err (record { at = n })) ↔ Longest s n
 refuses s n = (ill-longest s n, longest-ill s n)

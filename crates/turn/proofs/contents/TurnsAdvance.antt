@@ -3,18 +3,10 @@
 --     content-advances       every turn goes on, and not past the end
 --     turns-on               content is its first turn and then content
 -- Assumes nothing.
-use Prim.Native.Nat.{ℕ, zero, suc, ◌+◌, ◌≤◌, ◌<◌, max}
-use native.Mathlib.Omega.{arith}
-use mathlib.Core.Path.{◌≡◌, refl}
-use mathlib.Core.Bool.{Bool, true, false, cond, not, ◌&&◌}
-use mathlib.Core.List.{List, [], ◌∷◌}
-use lib.ListN.{length, take}
-use lib.Dec.{eqb, ltb}
-use borrow.Author.Tests.{ltb-true}
+use Rattle.std.proofs.Common.{ℕ, zero, suc, ◌+◌, ◌≤◌, ◌<◌, max, arith, ◌≡◌, refl, Bool, true, false, cond, not, ◌&&◌, List, [], ◌∷◌, length, take, eqb, ltb, ltb-true}
+use Rattle.std.specs.Prelude.{Option, Some, None}
 use Rattle.text.specs.Class.{is_whitespace, is_id_continue}
 use Rattle.text.specs.Scan.{see, next_of, skip, fails, part}
-use Rattle.text.specs.declared.scanner.Seen.{Seen}
-use Rattle.text.specs.declared.scanner.Seen.TheVariants.{End, Char}
 use Rattle.text.specs.declared.class.Test.TheVariants as test
 use Rattle.text.proofs.Seeing.{seeing}
 use Rattle.row.specs.declared.fault.Reason.TheVariants.{UnexpectedEof}
@@ -48,10 +40,10 @@ module _ (s : List ℕ) (p : ℕ) (h : p ≤ length s) where
   unfolding end_turn
   end-turn zero = by (see s j) refl
     where
-      by : (v : Seen) → see s j ≡ v → EndsTurn (length s) p (more [] (eaten (is 0x7D) v (λ n. ok j [])
+      by : (v : Option (ℕ × ℕ)) → see s j ≡ v → EndsTurn (length s) p (more [] (eaten (is 0x7D) v (λ n. ok j [])
           (eaten (is 0x7B) v (λ n. again n [] 1) (bad (fault_at UnexpectedEof j)))))
-      by End e = tt
-      by (Char c n) e = let a = seeing.see-ahead s j c n e in two (eqb c 0x7D) (eqb c 0x7B) (omega (arith, j-from)) (omega (arith, a.0, a.1))
+      by None e = tt
+      by (Some (c, n)) e = let a = seeing.see-ahead s j c n e in two (eqb c 0x7D) (eqb c 0x7B) (omega (arith, j-from)) (omega (arith, a.0, a.1))
           (omega (arith, a.0, j-from)) a.1
         where
           two : (x y : Bool) → p ≤ j → j < length s → p < n → n ≤ length s → EndsTurn (length s) p
@@ -61,10 +53,10 @@ module _ (s : List ℕ) (p : ℕ) (h : p ≤ length s) where
           two false false a b k l = tt
   end-turn (suc d) = by (see s j) refl
     where
-      by : (v : Seen) → see s j ≡ v → EndsTurn (length s) p (more [] (eaten (is 0x7D) v (λ n. again n [] d)
+      by : (v : Option (ℕ × ℕ)) → see s j ≡ v → EndsTurn (length s) p (more [] (eaten (is 0x7D) v (λ n. again n [] d)
           (eaten (is 0x7B) v (λ n. again n [] (suc (suc d))) (bad (fault_at UnexpectedEof j)))))
-      by End e = tt
-      by (Char c n) e = let a = seeing.see-ahead s j c n e in two (eqb c 0x7D) (eqb c 0x7B) (omega (arith, a.0, j-from)) a.1
+      by None e = tt
+      by (Some (c, n)) e = let a = seeing.see-ahead s j c n e in two (eqb c 0x7D) (eqb c 0x7B) (omega (arith, a.0, j-from)) a.1
         where
           two : (x y : Bool) → p < n → n ≤ length s → EndsTurn (length s) p (more []
               (cond x (again n [] d) (cond y (again n [] (suc (suc d))) (bad (fault_at UnexpectedEof j)))))
@@ -129,9 +121,9 @@ braced-fine argument name s q b h k = by (argument_end s b) (end-inside s b k)
 pub opens-inside : (s : List ℕ) (w : ℕ) → opens_at (see s w) ≡ true → w + 1 ≤ length s
 opens-inside s w = by (see s w) refl
   where
-    by : (v : Seen) → see s w ≡ v → opens_at v ≡ true → w + 1 ≤ length s
-    by End e h = let z : ◌≡◌ {A = ℕ} 0 1 = cc in absurd (omega (arith, z))
-    by (Char c n) e h = let a = seeing.see-ahead s w c n e in omega (arith, a.0, a.1)
+    by : (v : Option (ℕ × ℕ)) → see s w ≡ v → opens_at v ≡ true → w + 1 ≤ length s
+    by None e h = let z : ◌≡◌ {A = ℕ} 0 1 = cc in absurd (omega (arith, z))
+    by (Some (c, n)) e h = let a = seeing.see-ahead s w c n e in omega (arith, a.0, a.1)
 
 module _ (argument : Reader) (c n : ℕ) (s : List ℕ) (q : ℕ) (h : q ≤ n) (k : n ≤ length s) where
   name-inside : (x : Bool) → (n ≤ cond x n (skip is_id_continue s n)) × (cond x n (skip is_id_continue s n) ≤ length s)
@@ -172,13 +164,13 @@ backslash-fine : (argument : Reader) (verb : Bool) (s : List ℕ) (q : ℕ) → 
 unfolding backslash
 backslash-fine argument verb s q h = by verb (see s q) refl
   where
-    by : (verb : Bool) (v : Seen) → see s q ≡ v → Fine s q (backslash_at argument verb s q v)
-    by true End e = fine-ok s q q (omega arith) h
-    by false End e = tt
-    by true (Char c n) e =
+    by : (verb : Bool) (v : Option (ℕ × ℕ)) → see s q ≡ v → Fine s q (backslash_at argument verb s q v)
+    by true None e = fine-ok s q q (omega arith) h
+    by false None e = tt
+    by true (Some (c, n)) e =
         let a = seeing.see-ahead s q c n e in
         fine-cond s q (is_escape true c) _ _ (fine-ok s q n (omega (arith, a.0)) a.1) (fine-ok s q q (omega arith) h)
-    by false (Char c n) e =
+    by false (Some (c, n)) e =
         let a = seeing.see-ahead s q c n e in
         fine-cond s q (is_escape false c) _ _ (fine-ok s q n (omega (arith, a.0)) a.1)
         (fine-cond s q (begins c) _ _ (command-fine argument c n s q (omega (arith, a.0)) a.1) (fine-ok s q q (omega arith) h))
@@ -193,13 +185,13 @@ turn-advances s p q d (bad g) h k f = tt
 
 -- by what is seen at p
 eaten-advances : (t : ℕ → Bool) (s : List ℕ) (p : ℕ) (f : ℕ → OutOf Part) (o : OutOf Part)
-    → ((c n : ℕ) → see s p ≡ Char c n → p < n → n ≤ length s → t c ≡ true → Advances 1 0 p (length s) (f n)) → Advances 1 0 p (length s) o
+    → ((c n : ℕ) → see s p ≡ Some (c, n) → p < n → n ≤ length s → t c ≡ true → Advances 1 0 p (length s) (f n)) → Advances 1 0 p (length s) o
     → Advances 1 0 p (length s) (eaten t (see s p) f o)
 eaten-advances t s p f o h k = by (see s p) refl
   where
-    by : (v : Seen) → see s p ≡ v → Advances 1 0 p (length s) (eaten t v f o)
-    by End e = k
-    by (Char c n) e = let a = seeing.see-ahead s p c n e in two (t c) (h c n e a.0 a.1)
+    by : (v : Option (ℕ × ℕ)) → see s p ≡ v → Advances 1 0 p (length s) (eaten t v f o)
+    by None e = k
+    by (Some (c, n)) e = let a = seeing.see-ahead s p c n e in two (t c) (h c n e a.0 a.1)
       where
         two : (b : Bool) → (b ≡ true → Advances 1 0 p (length s) (f n)) → Advances 1 0 p (length s) (cond b (f n) o)
         two true g = g refl
@@ -220,28 +212,28 @@ maths-advances d s p h = by (skip (fails test.Dollar) s (p + 1)) (seeing.skip-in
         two true m = let k = m refl in (omega (arith, l.0), omega (arith, k))
         two false m = tt
 
-hyphens-advances : (d : ℕ) (s : List ℕ) (p c n : ℕ) → see s p ≡ Char c n → eqb c 0x2D ≡ true → Advances 1 0 p (length s) (and_then (hyphens s p) (turn d s))
+hyphens-advances : (d : ℕ) (s : List ℕ) (p c n : ℕ) → see s p ≡ Some (c, n) → eqb c 0x2D ≡ true → Advances 1 0 p (length s) (and_then (hyphens s p) (turn d s))
 unfolding hyphens
 hyphens-advances d s p c n e t =
     let a = seeing.see-ahead s p c n e in
     rw (e, t) (by (see s n) refl a.0 a.1)
   where
-    three : (v : Seen) (m : ℕ) → see s m ≡ v → p < m → m ≤ length s
+    three : (v : Option (ℕ × ℕ)) (m : ℕ) → see s m ≡ v → p < m → m ≤ length s
         → Advances 1 0 p (length s) (and_then (eaten (is 0x2D) v (λ r. ok r (put (0xE2 ∷ 0x80 ∷ 0x94 ∷ []) ∷ []))
         (ok m (put (0xE2 ∷ 0x80 ∷ 0x93 ∷ []) ∷ []))) (turn d s))
-    three End m e h k = (omega (arith, h), omega (arith, k))
-    three (Char c r) m e h k = let a = seeing.see-ahead s m c r e in two (eqb c 0x2D)
+    three None m e h k = (omega (arith, h), omega (arith, k))
+    three (Some (c, r)) m e h k = let a = seeing.see-ahead s m c r e in two (eqb c 0x2D)
       where
         two : (b : Bool) → Advances 1 0 p (length s) (and_then (cond b (ok r (put (0xE2 ∷ 0x80 ∷ 0x94 ∷ []) ∷ []))
             (ok m (put (0xE2 ∷ 0x80 ∷ 0x93 ∷ []) ∷ []))) (turn d s))
         two true = let a = seeing.see-ahead s m c r e in (omega (arith, h, a.0), omega (arith, a.1))
         two false = (omega (arith, h), omega (arith, k))
 
-    by : (v : Seen) → see s n ≡ v → p < n → n ≤ length s
+    by : (v : Option (ℕ × ℕ)) → see s n ≡ v → p < n → n ≤ length s
         → Advances 1 0 p (length s) (and_then (eaten (is 0x2D) v (λ m. eaten (is 0x2D) (see s m) (λ r. ok r (put (0xE2 ∷ 0x80 ∷ 0x94 ∷ []) ∷ []))
         (ok m (put (0xE2 ∷ 0x80 ∷ 0x93 ∷ []) ∷ []))) (ok n (put (0x2D ∷ []) ∷ []))) (turn d s))
-    by End f h k = (omega (arith, h), omega (arith, k))
-    by (Char c₁ m) f h k = let a = seeing.see-ahead s n c₁ m f in two (eqb c₁ 0x2D) (three (see s m) m refl (omega (arith, h, a.0)) a.1)
+    by None f h k = (omega (arith, h), omega (arith, k))
+    by (Some (c₁, m)) f h k = let a = seeing.see-ahead s n c₁ m f in two (eqb c₁ 0x2D) (three (see s m) m refl (omega (arith, h, a.0)) a.1)
       where
         two : (b : Bool) → Advances 1 0 p (length s) (and_then (eaten (is 0x2D) (see s m) (λ r. ok r (put (0xE2 ∷ 0x80 ∷ 0x94 ∷ []) ∷ []))
             (ok m (put (0xE2 ∷ 0x80 ∷ 0x93 ∷ []) ∷ []))) (turn d s))
@@ -269,11 +261,11 @@ content-advances argument verb d s p =
     closes zero h = tt
     closes (suc d) h = (omega arith, omega (arith, h))
 
-    blank : (c n : ℕ) → see s p ≡ Char c n → p < n → n ≤ length s → is_whitespace c ≡ true
+    blank : (c n : ℕ) → see s p ≡ Some (c, n) → p < n → n ≤ length s → is_whitespace c ≡ true
         → Advances 1 0 p (length s) (again (skip is_whitespace s p) (put (0x20 ∷ []) ∷ []) d)
     blank c n e h k t = let a = seeing.skip-inside is_whitespace s n k in let b = seeing.white-on s p c n e t in (omega (arith, h, a.0, b), omega (arith, a.1, b))
 
-    one : (c n : ℕ) → see s p ≡ Char c n → p < n → n ≤ length s → Advances 1 0 p (length s) (and_then (copy s p) (turn d s))
+    one : (c n : ℕ) → see s p ≡ Some (c, n) → p < n → n ≤ length s → Advances 1 0 p (length s) (and_then (copy s p) (turn d s))
     one c n e h k = rw e (omega (arith, h), omega (arith, k))
 
 -- ---- content is its first turn and then content

@@ -4,17 +4,10 @@
 --     turn-blank, turn-copy                   white space, and characters that stand for themselves
 --     slash-.., back-.., took-..              behind a backslash
 -- Assumes nothing.
-use Prim.Native.Nat.{ℕ, suc, ◌+◌, ◌≤◌, ◌<◌}
-use native.Mathlib.Omega.{arith}
-use mathlib.Core.Path.{◌≡◌, refl, sym, ap, ◌∙◌}
-use mathlib.Core.Bool.{Bool, true, false, cond, not, ◌&&◌}
-use mathlib.Core.List.{List, [], ◌∷◌}
-use lib.ListN.{length, take, get_or}
-use lib.Dec.{eqb}
-use borrow.Author.Tests.{ne_eqb}
+use Rattle.std.proofs.Common.{ℕ, suc, ◌+◌, ◌≤◌, ◌<◌, arith, ◌≡◌, refl, sym, ap, ◌∙◌, Bool, true, false, cond, not, ◌&&◌, List, [], ◌∷◌, length, take, get_or, eqb, ne_eqb}
+use Rattle.std.specs.Prelude.{Some}
 use Rattle.text.specs.Class.{is_whitespace, white_space}
 use Rattle.text.specs.Scan.{see, next_of, skip, part}
-use Rattle.text.specs.declared.scanner.Seen.TheVariants.{Char}
 use Rattle.text.proofs.Seeing.{seeing}
 use Rattle.row.specs.declared.fault.Fault.{Fault}
 use Rattle.row.specs.declared.fault.Reason.TheVariants.{UnexpectedEof}
@@ -38,7 +31,7 @@ by_char argument verb d s p c n =
     (cond (is_whitespace c) (again (skip is_whitespace s p) (put (0x20 ∷ []) ∷ []) d)
     (again n (put (part s p n) ∷ []) d))))))
 
-turn-char : (argument : Reader) (verb : Bool) (d : ℕ) (s : List ℕ) (p c n : ℕ) → see s p ≡ Char c n
+turn-char : (argument : Reader) (verb : Bool) (d : ℕ) (s : List ℕ) (p c n : ℕ) → see s p ≡ Some (c, n)
     → content_turn argument verb d s p ≡ by_char argument verb d s p c n
 unfolding content_turn
 turn-char argument verb d s p c n e = rw e refl
@@ -87,7 +80,7 @@ white-other : (c x : ℕ) → is_whitespace x ≡ false → is_whitespace c ≡ 
 white-other c x h w = ne_eqb c x (λ e. let z : ◌≡◌ {A = ℕ} 0 1 = ap (λ (b : Bool). cond b 0 1) (sym w ∙ ap is_whitespace e ∙ h) in absurd
     (omega (arith, z)))
 
-pub turn-blank : (argument : Reader) (verb : Bool) (d : ℕ) (s : List ℕ) (p c n : ℕ) → see s p ≡ Char c n → is_whitespace c ≡ true
+pub turn-blank : (argument : Reader) (verb : Bool) (d : ℕ) (s : List ℕ) (p c n : ℕ) → see s p ≡ Some (c, n) → is_whitespace c ≡ true
     → content_turn argument verb d s p ≡ again (skip is_whitespace s p) (put (0x20 ∷ []) ∷ []) d
 unfolding is_whitespace white_space
 turn-blank argument verb d s p c n e w =
@@ -104,7 +97,7 @@ pub record Itself (verb : Bool) (c : ℕ) : Type 0 where
   pub hyphen : (eqb c 0x2D && not verb) ≡ false
   pub white : is_whitespace c ≡ false
 
-pub turn-copy : (argument : Reader) (verb : Bool) (d : ℕ) (s : List ℕ) (p c n : ℕ) → see s p ≡ Char c n → Itself verb c
+pub turn-copy : (argument : Reader) (verb : Bool) (d : ℕ) (s : List ℕ) (p c n : ℕ) → see s p ≡ Some (c, n) → Itself verb c
     → content_turn argument verb d s p ≡ again n (put (part s p n) ∷ []) d
 turn-copy argument verb d s p c n e k =
     turn-char argument verb d s p c n e ∙ rw (k.slash, k.dollar, k.opening, k.closing, k.hyphen, k.white) refl
@@ -120,7 +113,7 @@ module _ (argument : Reader) (d : ℕ) (s : List ℕ) (p : ℕ) (l : p < length 
   unfolding backslash
   slash-end h = turn-slash argument false d s p l b ∙ rw (seeing.see-end s (p + 1) h) refl
 
-  module _ (c n : ℕ) (e : see s (p + 1) ≡ Char c n) where
+  module _ (c n : ℕ) (e : see s (p + 1) ≡ Some (c, n)) where
     pub slash-escape : (verb : Bool) → is_escape verb c ≡ true → content_turn argument verb d s p ≡ again n (put (part s (p + 1) n) ∷ []) d
     unfolding backslash
     slash-escape true h = turn-slash argument true d s p l b ∙ rw (e, h) refl

@@ -11,24 +11,17 @@
 --     no-sign-there, sign-inside, ordinary              a sign stands inside the text; a byte that is none is ordinary
 --     not-ends, ends-not, grows_some                    where text ends; where it has not, the next turn goes on
 -- Assumes nothing.
-use Prim.Native.Nat.{ℕ, zero, suc, ◌+◌, ◌*◌, ◌≤◌, ◌<◌, max}
-use native.Mathlib.Omega.{arith}
-use mathlib.Core.Path.{◌≡◌, refl, sym, ap, ap₂, subst, ◌∙◌}
-use mathlib.Core.Bool.{Bool, true, false, cond, not, ◌&&◌, ◌||◌}
-use mathlib.Core.List.{List, [], ◌∷◌}
-use lib.ListN.{length, get_or}
-use lib.Dec.{eqb, ltb}
-use borrow.Author.Tests.{eqb-true, eqb-false, eq-eqb, ne_eqb, ltb-true, ltb-false, not-true}
+use Rattle.std.proofs.Common.{ℕ, zero, suc, ◌+◌, ◌*◌, ◌≤◌, ◌<◌, max, arith, ◌≡◌, refl, sym, ap, ap₂, subst, ◌∙◌, Bool}
+use Rattle.std.proofs.Common.{true, false, cond, not, ◌&&◌, ◌||◌, List, [], ◌∷◌, length, get_or, eqb, ltb, eqb-true, eq-eqb, ne_eqb, ltb-true, ltb-false}
+use Rattle.std.specs.Prelude.{Option, Some, None, Result, Ok, Err}
+use Rattle.turn.specs.declared.turn.Text.{Text}
+use borrow.Author.Tests.{eqb-false, not-true}
 use Rattle.text.specs.Class.{is_whitespace, is_control}
 use Rattle.text.specs.Scan.{see, next_of, skip, part, Inside}
-use Rattle.text.specs.declared.scanner.Seen.{Seen}
-use Rattle.text.specs.declared.scanner.Seen.TheVariants.{End, Char}
 use Rattle.text.proofs.Seeing.{seeing}
 use Rattle.row.specs.declared.fault.Fault.{Fault}
 use Rattle.row.specs.declared.fault.Reason.TheVariants.{UnexpectedEof}
 use Rattle.row.specs.Fault.{fault_at}
-use Rattle.raw.specs.declared.answer.Step.{Step}
-use Rattle.raw.specs.declared.answer.Step.TheVariants as step
 use Rattle.raw.specs.Reader.{OutOf, ok, again, bad}
 use Rattle.text.proofs.general.Tests.{both_true, both_false}
 use Rattle.command.specs.declared.meaning.Meaning.{Meaning}
@@ -37,7 +30,6 @@ use Rattle.command.specs.Commands.{meaning_of}
 use Rattle.command.specs.Execute.{absent, given, leading, executed, execute_command}
 use Rattle.command.proofs.stacks.LaysLaws.{lays-as, lays-over, both-second, both_below}
 use Rattle.turn.specs.Content.{Part, Reader, is_escape, begins, name_end, takes_one, opens_at, argument_end}
-use Rattle.turn.specs.declared.turn.Text.{Text}
 use Rattle.turn.specs.declared.turn.Text.TheVariants as text
 use Rattle.turn.specs.Turns.{turns, opened, is_sign, ends_text, SaysText, Grows, Behind, Took, end_of, EndInside, Ordinary}
 use Rattle.turn.specs.Turns.{ArgumentEnds}
@@ -70,23 +62,23 @@ pub one_grows : (p end w to n f e l : ℕ) → p + 2 ≤ end → end ≤ w → w
     → l + f + (p + 1) ≤ max (max (e + 1 + f + (p + 1)) (n + 3 + end + f)) (n + e + 2 + (p + 1)) → l + 2 * p ≤ n + 2 * to
 one_grows p end w to n f e l a b c h i k = omega arith
 
-pub ends_by : (len p : ℕ) (r : Step) (a : ℕ) → r ≡ step.At a → EndInside len p r → (p ≤ a) × (a < len)
+pub ends_by : (len p : ℕ) (r : Result ℕ Fault) (a : ℕ) → r ≡ Ok a → EndInside len p r → (p ≤ a) × (a < len)
 ends_by len p r a e h = rw e at h
 
 -- ---- `command`
 
-abbrev place_of : Step → ℕ
-place_of (step.At e) = suc e
-place_of (step.Refused f) = 0
+abbrev place_of : Result ℕ Fault → ℕ
+place_of (Ok e) = suc e
+place_of (Err f) = 0
 
-abbrev fault_of : Fault → Step → Fault
-fault_of g (step.At e) = g
-fault_of g (step.Refused f) = f
+abbrev fault_of : Fault → Result ℕ Fault → Fault
+fault_of g (Ok e) = g
+fault_of g (Err f) = f
 
 module _ (s : List ℕ) (p c m n : ℕ) (o : List ℕ) (h : Behind s p c m) (k : begins c ≡ true) (f w : ℕ) (i : f ≡ name_end c m s)
     (j : w ≡ skip is_whitespace s f)
     (t : Bool) (x : t ≡ takes_one c m f w s) where
-  pub command-one : t ≡ true → (r : Text) (o' : List ℕ) → Took s p f (given (part s w (next_of w (see s w)))) (next_of w (see s w)) n o r o'
+  pub command-one : t ≡ true → (r : Result Text Fault) (o' : List ℕ) → Took s p f (given (part s w (next_of w (see s w)))) (next_of w (see s w)) n o r o'
       → SaysText false s p n o r o'
   command-one e r o' y =
       says-put false s p n o r o' (next_of w (see s w)) y.len y.told
@@ -94,7 +86,7 @@ module _ (s : List ℕ) (p c m n : ℕ) (o : List ℕ) (h : Behind s p c m) (k :
       (λ argument d. took_one argument d s p h.inside h.backslash c m h.seen h.command k f w i j (sym x ∙ e)) y.lays)
 
   module _ (e : t ≡ false) (b : Bool) (z : b ≡ opens_at (see s w)) where
-    pub command-bare : (eqb f w && b) ≡ false → (r : Text) (o' : List ℕ) → Took s p f absent w n o r o' → SaysText false s p n o r o'
+    pub command-bare : (eqb f w && b) ≡ false → (r : Result Text Fault) (o' : List ℕ) → Took s p f absent w n o r o' → SaysText false s p n o r o'
     command-bare q r o' y =
         says-put false s p n o r o' w y.len y.told
         (wrote_one false s p n o w y.len o' _
@@ -111,14 +103,14 @@ module _ (s : List ℕ) (p c m n : ℕ) (o : List ℕ) (h : Behind s p c m) (k :
       pub brace-next : f ≡ w
       brace-next = eqb-true f w (both_true (eqb f w) (opens_at (see s w)) is_open).0
 
-      pub command-argument : (g : Meaning) (r : Step) (a : ℕ) → g ≡ meaning_of (part s (p + 1) f) → r ≡ end_of (argument_end s (w + 1)) → r ≡ step.At a
-          → SaysText false s p n o (text.Argument g f (w + 1) a) o
+      pub command-argument : (g : Meaning) (r : Result ℕ Fault) (a : ℕ) → g ≡ meaning_of (part s (p + 1) f) → r ≡ end_of (argument_end s (w + 1)) → r ≡ Ok a
+          → SaysText false s p n o (Ok (text.Argument g f (w + 1) a)) o
       command-argument g r a u v y = (by (argument_end s (w + 1)) refl (sym v ∙ y) (end-inside s (w + 1) brace-inside), u, refl)
         where
           less : (x y : ℕ) → suc x ≡ suc y → x ≡ y
           less x y e = omega (arith, e)
 
-          by : (O : OutOf Part) → argument_end s (w + 1) ≡ O → end_of O ≡ step.At a → ArgumentEnds (length s) (w + 1) O → (argument : Reader) (d : ℕ)
+          by : (O : OutOf Part) → argument_end s (w + 1) ≡ O → end_of O ≡ Ok a → ArgumentEnds (length s) (w + 1) O → (argument : Reader) (d : ℕ)
               → turns argument false d s p ≡ opened argument false d s p f (w + 1) a
           by (ok e₁ xs) q₁ r₁ in₁ argument d =
               took-argument argument d s p h.inside h.backslash c m h.seen h.command k f w i j (sym x ∙ e) is_open a xs
@@ -126,11 +118,11 @@ module _ (s : List ℕ) (p c m n : ℕ) (o : List ℕ) (h : Behind s p c m) (k :
           by (again e₁ xs b₁) q₁ r₁ in₁ argument d = absurd in₁
           by (bad f₁) q₁ r₁ in₁ argument d = absurd (omega (arith, ap place_of r₁))
 
-      pub command-endless : (r : Step) (g : Fault) → r ≡ end_of (argument_end s (w + 1)) → r ≡ step.Refused g
-          → SaysText false s p n o (text.Refused g) o
+      pub command-endless : (r : Result ℕ Fault) (g : Fault) → r ≡ end_of (argument_end s (w + 1)) → r ≡ Err g
+          → SaysText false s p n o (Err g) o
       command-endless r g v y argument d = by (argument_end s (w + 1)) refl (sym v ∙ y)
         where
-          by : (O : OutOf Part) → argument_end s (w + 1) ≡ O → end_of O ≡ step.Refused g → turns argument false d s p ≡ bad g
+          by : (O : OutOf Part) → argument_end s (w + 1) ≡ O → end_of O ≡ Err g → turns argument false d s p ≡ bad g
           by (ok e₁ xs) q₁ r₁ = absurd (omega (arith, ap place_of r₁))
           by (again e₁ xs b₁) q₁ r₁ = absurd (omega (arith, ap place_of r₁))
           by (bad f₁) q₁ r₁ =
@@ -140,33 +132,33 @@ module _ (s : List ℕ) (p c m n : ℕ) (o : List ℕ) (h : Behind s p c m) (k :
 
 -- ---- `backslash`
 
-module _ (verb : Bool) (s : List ℕ) (p n : ℕ) (o : List ℕ) (l : p < length s) (b : get_or s p 0 ≡ 0x5C) {r : Seen} (h : r ≡ see s (p + 1)) where
-  past : r ≡ End → length s ≤ p + 1
-  past e = subst (λ (v : Seen). Inside s (p + 1) v) (sym h ∙ e) (seeing.see-inside s (p + 1))
+module _ (verb : Bool) (s : List ℕ) (p n : ℕ) (o : List ℕ) (l : p < length s) (b : get_or s p 0 ≡ 0x5C) {r : Option (ℕ × ℕ)} (h : r ≡ see s (p + 1)) where
+  past : r ≡ None → length s ≤ p + 1
+  past e = subst (λ (v : Option (ℕ × ℕ)). Inside s (p + 1) v) (sym h ∙ e) (seeing.see-inside s (p + 1))
 
-  pub ends-verb : r ≡ End → verb ≡ true → (k : ℕ) (o' : List ℕ) → Lays n (0x5C ∷ []) o k o' → SaysText verb s p n o (text.Put (p + 1) k) o'
+  pub ends-verb : r ≡ None → verb ≡ true → (k : ℕ) (o' : List ℕ) → Lays n (0x5C ∷ []) o k o' → SaysText verb s p n o (Ok (text.Put (p + 1) k)) o'
   ends-verb e v k o' y =
-      says-as true verb s p n o (text.Put (p + 1) k) o' (sym v)
+      says-as true verb s p n o (Ok (text.Put (p + 1) k)) o' (sym v)
       (wrote_one true s p n o (p + 1) k o' (0x5C ∷ []) (λ argument d. slash-end-verb argument d s p l b (past e)) y)
 
-  pub ends-refused : r ≡ End → verb ≡ false → SaysText verb s p n o (text.Refused (fault_at UnexpectedEof (p + 1))) o
+  pub ends-refused : r ≡ None → verb ≡ false → SaysText verb s p n o (Err (fault_at UnexpectedEof (p + 1))) o
   ends-refused e v =
-      says-as false verb s p n o (text.Refused (fault_at UnexpectedEof (p + 1))) o (sym v)
+      says-as false verb s p n o (Err (fault_at UnexpectedEof (p + 1))) o (sym v)
       (λ argument d. stopped argument false d s p _ (slash-end argument d s p l b (past e)))
 
-  module _ {c m : ℕ} (e : r ≡ Char c m) {t : Bool} (x : t ≡ is_escape verb c) where
-    seen : see s (p + 1) ≡ Char c m
+  module _ {c m : ℕ} (e : r ≡ Some (c, m)) {t : Bool} (x : t ≡ is_escape verb c) where
+    seen : see s (p + 1) ≡ Some (c, m)
     seen = sym h ∙ e
 
     pub char-next : (p + 1 < m) × (m ≤ length s)
     char-next = seeing.see-ahead s (p + 1) c m seen
 
-    pub escapes : t ≡ true → (k : ℕ) (o' : List ℕ) → Lays n (part s (p + 1) m) o k o' → SaysText verb s p n o (text.Put m k) o'
+    pub escapes : t ≡ true → (k : ℕ) (o' : List ℕ) → Lays n (part s (p + 1) m) o k o' → SaysText verb s p n o (Ok (text.Put m k)) o'
     escapes g k o' y = wrote_one verb s p n o m k o' (part s (p + 1) m) (λ argument d. slash-escape argument d s p l b c m seen verb (sym x ∙ g)) y
 
-    pub stands : t ≡ false → verb ≡ true → (k : ℕ) (o' : List ℕ) → Lays n (0x5C ∷ []) o k o' → SaysText verb s p n o (text.Put (p + 1) k) o'
+    pub stands : t ≡ false → verb ≡ true → (k : ℕ) (o' : List ℕ) → Lays n (0x5C ∷ []) o k o' → SaysText verb s p n o (Ok (text.Put (p + 1) k)) o'
     stands g v k o' y =
-        says-as true verb s p n o (text.Put (p + 1) k) o' (sym v)
+        says-as true verb s p n o (Ok (text.Put (p + 1) k)) o' (sym v)
         (wrote_one true s p n o (p + 1) k o' (0x5C ∷ []) (λ argument d. slash-verb argument d s p l b c m seen
         (ap (λ (w : Bool). is_escape w c) (sym v) ∙ sym x ∙ g)) y)
 

@@ -3,16 +3,7 @@
 --     words-none                no words
 --     words-all, words-but      a simple byte and a run behind it, which does not end with a blank; or but for the blank at its end
 -- Assumes nothing.
-use Prim.Native.Nat.{ℕ, ◌+◌, ◌-◌, ◌≤◌, ◌<◌}
-use native.Mathlib.Omega.{arith}
-use native.Mathlib.Nat.{eq-or-lt_of_le}
-use mathlib.Core.Path.{◌≡◌, refl, sym, ap, subst, ◌∙◌}
-use mathlib.Core.Bool.{true, false, ◌&&◌}
-use mathlib.Core.Logic.{⊎_elim}
-use mathlib.Core.List.{List}
-use lib.ListN.{length, get_or}
-use lib.Dec.{eqb}
-use borrow.Author.Tests.{eq-eqb}
+use Rattle.std.proofs.Common.{ℕ, ◌+◌, ◌-◌, ◌≤◌, ◌<◌, arith, eq-or-lt_of_le, ◌≡◌, refl, sym, ap, subst, ◌∙◌, true, false, ◌&&◌, ⊎_elim, List, length, get_or, eqb, eq-eqb}
 use Rattle.text.specs.Block.{is_simple, PlainRun}
 use Rattle.text.proofs.general.Tests.{true-not-false}
 use Rattle.turn.specs.Turns.{WordRun}

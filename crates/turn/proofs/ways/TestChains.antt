@@ -1,11 +1,7 @@
 -- Chains of tests, as the code joins them and as the definitions do.
 -- Assumes nothing.
-use Prim.Native.Nat.{ℕ, ◌<◌}
-use native.Mathlib.Omega.{arith}
-use mathlib.Core.Path.{◌≡◌, refl}
-use mathlib.Core.Bool.{Bool, true, false, not, ◌&&◌, ◌||◌}
-use lib.Dec.{leb, ltb}
-use borrow.Author.Tests.{ltb-true, lt-leb}
+use Rattle.std.proofs.Common.{ℕ, ◌<◌, arith, ◌≡◌, refl, Bool, true, false, not, ◌&&◌, ◌||◌, leb, ltb, ltb-true}
+use borrow.Author.Tests.{lt-leb}
 use Rattle.text.specs.Class.{is_whitespace, white_space}
 use Rattle.text.specs.Range.{◌–◌, within}
 use Rattle.text.proofs.general.Tests.{both_true}

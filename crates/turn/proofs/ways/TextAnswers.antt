@@ -6,16 +6,10 @@
 --     back-blank, grows-blank        `back_blank`: a backslash before white space
 --     back-control, grows-control    `back_control`: a backslash before a control character
 -- Assumes nothing.
-use Prim.Native.Nat.{ℕ, ◌+◌, ◌*◌, ◌≤◌, ◌<◌}
-use native.Mathlib.Omega.{arith}
-use mathlib.Core.Path.{◌≡◌, sym, subst, ◌∙◌}
-use mathlib.Core.Bool.{Bool, true, false}
-use mathlib.Core.List.{List, [], ◌∷◌}
-use lib.ListN.{length, get_or}
+use Rattle.std.proofs.Common.{ℕ, ◌+◌, ◌*◌, ◌≤◌, ◌<◌, arith, ◌≡◌, sym, subst, ◌∙◌, Bool, true, false, List, [], ◌∷◌, length, get_or}
+use Rattle.std.specs.Prelude.{Option, Some, None, Ok}
 use Rattle.text.specs.Class.{is_whitespace, is_control}
 use Rattle.text.specs.Scan.{see, skip, part, Ahead}
-use Rattle.text.specs.declared.scanner.Seen.{Seen}
-use Rattle.text.specs.declared.scanner.Seen.TheVariants.{End, Char}
 use Rattle.text.specs.Scan.{Inside}
 use Rattle.text.proofs.Seeing.{seeing}
 use Rattle.command.specs.Stack.{Lays}
@@ -26,7 +20,7 @@ use Rattle.turn.proofs.ways.TextTurns.{Turns, wrote_one, wrote-two}
 use Rattle.turn.proofs.ways.TextWays.{itself-of, copy-turn, blank_turn, control-turn, back-turn, white-begins, control-begins}
 
 -- the place after white space, of which there is some
-past-white : (s : List ℕ) (p c n q : ℕ) → see s p ≡ Char c n → is_whitespace c ≡ true → q ≡ skip is_whitespace s p → Ahead s p q
+past-white : (s : List ℕ) (p c n q : ℕ) → see s p ≡ Some (c, n) → is_whitespace c ≡ true → q ≡ skip is_whitespace s p → Ahead s p q
     → (p < q) × (q ≤ length s) × (n ≤ q)
 past-white s p c n q e w h a =
     let x = seeing.see-ahead s p c n e in
@@ -39,22 +33,22 @@ past-white s p c n q e w h a =
 
 -- ---- `other`
 
-pub not_end : (s : List ℕ) (p : ℕ) {r : Seen} → r ≡ see s p → r ≡ End → p < length s → ⊥
+pub not_end : (s : List ℕ) (p : ℕ) {r : Option (ℕ × ℕ)} → r ≡ see s p → r ≡ None → p < length s → ⊥
 not_end s p h e l = omega (arith, past (sym h ∙ e), l)
   where
-    past : see s p ≡ End → length s ≤ p
-    past q = subst (λ (v : Seen). Inside s p v) q (seeing.see-inside s p)
+    past : see s p ≡ None → length s ≤ p
+    past q = subst (λ (v : Option (ℕ × ℕ)). Inside s p v) q (seeing.see-inside s p)
 
 module _ (verb : Bool) (s : List ℕ) (p n : ℕ) (o : List ℕ) (room : n + 2 * length s ≤ length o + 2 * p) where
-  module _ {r : Seen} {c m : ℕ} (h : r ≡ see s p) (e : r ≡ Char c m) where
-    seen : see s p ≡ Char c m
+  module _ {r : Option (ℕ × ℕ)} {c m : ℕ} (h : r ≡ see s p) (e : r ≡ Some (c, m)) where
+    seen : see s p ≡ Some (c, m)
     seen = sym h ∙ e
 
     pub char-in : (p < m) × (m ≤ length s)
     char-in = seeing.see-ahead s p c m seen
 
     pub other-white : {w : Bool} (q l : ℕ) (o' : List ℕ) → w ≡ is_whitespace c → w ≡ true → q ≡ skip is_whitespace s p → Lays n (0x20 ∷ []) o l o'
-        → SaysText verb s p n o (text.Put q l) o'
+        → SaysText verb s p n o (Ok (text.Put q l)) o'
     other-white q l o' f g i y =
         wrote_one verb s p n o q l o' (0x20 ∷ []) (subst (Turns verb s p (0x20 ∷ [])) (sym i) (blank_turn verb s p c m seen (sym f ∙ g))) y
 
@@ -65,7 +59,7 @@ module _ (verb : Bool) (s : List ℕ) (p n : ℕ) (o : List ℕ) (room : n + 2 *
         record { at = omega (arith, x.0); inside = x.1; text = omega (arith, x.0, y) }
 
     pub other-char : {w : Bool} (l : ℕ) (o' : List ℕ) → Ordinary verb (get_or s p 0) → (get_or s p 0 ≡ 0x5C → ⊥) → (get_or s p 0 ≡ 0x2D → verb ≡ true)
-        → w ≡ is_whitespace c → w ≡ false → Lays n (part s p m) o l o' → SaysText verb s p n o (text.Put m l) o'
+        → w ≡ is_whitespace c → w ≡ false → Lays n (part s p m) o l o' → SaysText verb s p n o (Ok (text.Put m l)) o'
     other-char l o' a b d f g y = wrote_one verb s p n o m l o' (part s p m) (copy-turn verb s p c m seen
         (itself-of verb s p c m seen a b d (sym f ∙ g))) y
 
@@ -77,7 +71,7 @@ module _ (verb : Bool) (s : List ℕ) (p n : ℕ) (o : List ℕ) (room : n + 2 *
 module _ (s : List ℕ) (p c m n : ℕ) (o : List ℕ) (h : Behind s p c m) where
   pub back-blank : (q l k : ℕ) (o₁ o₂ : List ℕ) → is_whitespace c ≡ true → q ≡ skip is_whitespace s (p + 1) → Lays n (part s p m) o k o₁
       → Lays k (0x20 ∷ []) o₁ l o₂
-      → SaysText false s p n o (text.Put q l) o₂
+      → SaysText false s p n o (Ok (text.Put q l)) o₂
   back-blank q l k o₁ o₂ w i x y =
       wrote-two false s p n o q l o₂ (part s p m) (p + 1) (0x20 ∷ []) (back-turn s p c m h (white-begins c w))
       (subst (Turns false s (p + 1) (0x20 ∷ [])) (sym i) (blank_turn false s (p + 1) c m h.seen w))
@@ -91,7 +85,7 @@ module _ (s : List ℕ) (p c m n : ℕ) (o : List ℕ) (h : Behind s p c m) wher
 
   pub back-control : (l k : ℕ) (o₁ o₂ : List ℕ) → is_whitespace c ≡ false → is_control c ≡ true → Lays n (part s p m) o k o₁
       → Lays k (part s (p + 1) m) o₁ l o₂
-      → SaysText false s p n o (text.Put m l) o₂
+      → SaysText false s p n o (Ok (text.Put m l)) o₂
   back-control l k o₁ o₂ w i x y =
       wrote-two false s p n o m l o₂ (part s p m) (p + 1) (part s (p + 1) m) (back-turn s p c m h (control-begins c i))
       (control-turn s (p + 1) c m h.seen i w)

@@ -4,18 +4,16 @@
 --     runs-.., wrote-.., grows-on                  many turns, one behind the other
 --     says-.., grows-..                            what a function's answer says, and its bounds
 -- Assumes nothing.
-use Prim.Native.Nat.{ℕ, zero, suc, ◌+◌, ◌-◌, ◌≤◌, ◌<◌, max}
-use native.Mathlib.Omega.{arith}
-use mathlib.Core.Path.{◌≡◌, refl, sym, ap, subst, ◌∙◌}
-use mathlib.Core.Bool.{Bool, true, false, cond, not, ◌&&◌, ◌||◌}
-use mathlib.Core.List.{List, [], ◌∷◌, ◌++◌, map, append_assoc, append-nil, map-append}
-use lib.ListN.{length, take, drop, get_or}
-use lib.Dec.{T, eqb, ltb}
-use borrow.Author.Tests.{ltb-true, not-true, eqb-true, eqb-false, ne_eqb}
+use Rattle.std.proofs.Common.{ℕ, zero, suc, ◌+◌, ◌-◌, ◌≤◌, ◌<◌, max, arith, ◌≡◌, refl, sym, ap, subst, ◌∙◌, Bool, true, false, cond}
+use Rattle.std.proofs.Common.{not, ◌&&◌, ◌||◌, List, [], ◌∷◌, ◌++◌, map, append_assoc, append-nil, length, take, drop, get_or, T, eqb, ltb, ltb-true, eqb-true, ne_eqb}
+use Rattle.std.specs.Prelude.{Some, Result, Ok}
+use Rattle.row.specs.declared.fault.Fault.{Fault}
+use Rattle.turn.specs.declared.turn.Text.{Text}
+use mathlib.Core.List.{map-append}
+use borrow.Author.Tests.{not-true, eqb-false}
 use Rattle.text.specs.Block.{is_simple}
 use Rattle.text.specs.Class.{is_whitespace, white_space}
 use Rattle.text.specs.Scan.{see, skip, part, code, rest}
-use Rattle.text.specs.declared.scanner.Seen.TheVariants.{Char}
 use Rattle.text.proofs.general.Below.{each}
 use Rattle.raw.specs.Reader.{OutOf, ok, again, bad, more}
 use Rattle.text.proofs.Seeing.{seeing}
@@ -24,7 +22,6 @@ use Rattle.text.proofs.general.Parts.{part_none, part-head, part_join}
 use Rattle.text.proofs.general.Places.{drop-next}
 use Rattle.command.specs.Stack.{Lays}
 use Rattle.command.proofs.stacks.LaysLaws.{lays-as, lays-on}
-use Rattle.turn.specs.declared.turn.Text.{Text}
 use Rattle.turn.specs.declared.turn.Text.TheVariants as text
 use Rattle.turn.specs.Content.{Part, put, Reader, content_turn}
 use Rattle.turn.specs.Turns.{turns, concat, Copies, CopiesOne, CopiesAll, WordRun, Wrote, SaysText, GrowsText, Grows}
@@ -117,7 +114,7 @@ plain-copies s p l h n argument verb d =
     let b = get_or s p 0 in
     turn-copy argument verb d s p b (p + 1) (seeing.at_byte s p b l refl (omega (arith, simple-ascii b h))) (plain-itself verb b h n)
 
-pub wide-copies : (s : List ℕ) (p c n : ℕ) → 0x80 ≤ get_or s p 0 → see s p ≡ Char c n → is_whitespace c ≡ false → Copies s p n
+pub wide-copies : (s : List ℕ) (p c n : ℕ) → 0x80 ≤ get_or s p 0 → see s p ≡ Some (c, n) → is_whitespace c ≡ false → Copies s p n
 wide-copies s p c n h e w argument verb d = turn-copy argument verb d s p c n e (wide-itself verb c wide w)
   where
     k : (p < length s) × (c ≡ code (drop p s)) × (n ≡ p + 1 + rest (drop p s))
@@ -159,7 +156,7 @@ steps-none s p l = record { from = omega arith; to = omega (arith, l); copies = 
 pub steps-blank : (s : List ℕ) (p q : ℕ) → p < length s → get_or s p 0 ≡ 0x20 → q ≡ skip is_whitespace s p → q ≡ p + 1 → CopiesOne s p q
 steps-blank s p q l b h e = record { from = omega (arith, e); to = omega (arith, e, l); copies = λ k. blank-copies s p q l b h e }
 
-pub steps-wide : (s : List ℕ) (p c n : ℕ) → 0x80 ≤ get_or s p 0 → see s p ≡ Char c n → is_whitespace c ≡ false → CopiesOne s p n
+pub steps-wide : (s : List ℕ) (p c n : ℕ) → 0x80 ≤ get_or s p 0 → see s p ≡ Some (c, n) → is_whitespace c ≡ false → CopiesOne s p n
 steps-wide s p c n h e w =
     let a = seeing.see-ahead s p c n e in
     record { from = omega (arith, a.0); to = a.1; copies = λ k. wide-copies s p c n h e w }
@@ -273,24 +270,28 @@ grows-on len v w p n q k r l x y = record {
 
 -- ---- by what a function answers
 
-pub says-put : (verb : Bool) (s : List ℕ) (p n : ℕ) (o : List ℕ) (r : Text) (o' : List ℕ) (q l : ℕ) → r ≡ text.Put q l → Wrote verb s p n o q l o'
+pub says-put : (verb : Bool) (s : List ℕ) (p n : ℕ) (o : List ℕ) (r : Result Text Fault) (o' : List ℕ) (q l : ℕ) → r ≡ Ok (text.Put q l) → Wrote verb s p n o q l o'
     → SaysText verb s p n o r o'
 says-put verb s p n o r o' q l e h = rw e h
 
-pub grows-put : (len p n : ℕ) (r : Text) (q l : ℕ) → r ≡ text.Put q l → Grows len 1 p n q l → GrowsText len p n r
+pub grows-put : (len p n : ℕ) (r : Result Text Fault) (q l : ℕ) → r ≡ Ok (text.Put q l) → Grows len 1 p n q l → GrowsText len p n r
 grows-put len p n r q l e h = rw e h
 
-pub put-says : (verb : Bool) (s : List ℕ) (p n : ℕ) (o : List ℕ) {r : Text} (o' : List ℕ) {q l : ℕ} → r ≡ text.Put q l → SaysText verb s p n o r o'
+-- text that was handed on by `?` and then taken apart
+pub put-so : {r : Result Text Fault} {t : Text} {q l : ℕ} → r ≡ Ok t → t ≡ text.Put q l → r ≡ Ok (text.Put q l)
+put-so e h = cc
+
+pub put-says : (verb : Bool) (s : List ℕ) (p n : ℕ) (o : List ℕ) {r : Result Text Fault} (o' : List ℕ) {q l : ℕ} → r ≡ Ok (text.Put q l) → SaysText verb s p n o r o'
     → Wrote verb s p n o q l o'
 put-says verb s p n o o' e h = rw e at h
 
-pub put-grows : (len p n : ℕ) {r : Text} {q l : ℕ} → r ≡ text.Put q l → GrowsText len p n r → Grows len 1 p n q l
+pub put-grows : (len p n : ℕ) {r : Result Text Fault} {q l : ℕ} → r ≡ Ok (text.Put q l) → GrowsText len p n r → Grows len 1 p n q l
 put-grows len p n e h = rw e at h
 
 pub wrote_as : (verb verb' : Bool) (s : List ℕ) (p n : ℕ) (o : List ℕ) (q l : ℕ) (o' : List ℕ) → verb ≡ verb' → Wrote verb s p n o q l o'
     → Wrote verb' s p n o q l o'
 wrote_as verb verb' s p n o q l o' e h = subst (λ (v : Bool). Wrote v s p n o q l o') e h
 
-pub says-as : (verb verb' : Bool) (s : List ℕ) (p n : ℕ) (o : List ℕ) (r : Text) (o' : List ℕ) → verb ≡ verb' → SaysText verb s p n o r o'
+pub says-as : (verb verb' : Bool) (s : List ℕ) (p n : ℕ) (o : List ℕ) (r : Result Text Fault) (o' : List ℕ) → verb ≡ verb' → SaysText verb s p n o r o'
     → SaysText verb' s p n o r o'
 says-as verb verb' s p n o r o' e h = rw e at h

@@ -4,25 +4,16 @@
 --     back-turn, blank_turn, control-turn        a backslash before white space or a control character, and then that character
 --     end-off, end-open, end-close, end-found    `argument_end`
 -- Assumes nothing.
-use Prim.Native.Nat.{ℕ, zero, suc, ◌+◌, ◌-◌, ◌≤◌, ◌<◌}
-use native.Mathlib.Omega.{arith}
-use native.Mathlib.Numerals.{sub-one}
-use mathlib.Core.Path.{◌≡◌, refl, sym, ap, ◌∙◌}
-use mathlib.Core.Bool.{Bool, true, false, cond, not, ◌&&◌}
-use mathlib.Core.List.{List, [], ◌∷◌}
-use lib.ListN.{length, drop, get_or}
-use lib.Dec.{eqb, leb}
-use borrow.Author.Tests.{eqb-true, ne_eqb, leb-true, leb-false}
+use Rattle.std.proofs.Common.{ℕ, zero, suc, ◌+◌, ◌-◌, ◌≤◌, ◌<◌, arith, sub-one, ◌≡◌, refl, sym, ap, ◌∙◌, Bool, true}
+use Rattle.std.proofs.Common.{false, cond, not, ◌&&◌, List, [], ◌∷◌, length, drop, get_or, eqb, leb, eqb-true, ne_eqb, leb-true, leb-false}
+use Rattle.std.specs.Prelude.{Option, Some, None, Result, Ok, Err}
+use Rattle.row.specs.declared.fault.Fault.{Fault}
 use Rattle.text.specs.Class.{is_whitespace, is_control, control, holds_of}
 use Rattle.text.specs.Scan.{see, skip, fails, part, past_one, single, code, rest}
-use Rattle.text.specs.declared.scanner.Seen.{Seen}
-use Rattle.text.specs.declared.scanner.Seen.TheVariants.{End, Char}
 use Rattle.text.specs.declared.class.Test.TheVariants as test
 use Rattle.text.proofs.Seeing.{seeing}
 use Rattle.row.specs.declared.fault.Reason.TheVariants.{UnexpectedEof}
 use Rattle.row.specs.Fault.{fault_at}
-use Rattle.raw.specs.declared.answer.Step.{Step}
-use Rattle.raw.specs.declared.answer.Step.TheVariants as step
 use Rattle.raw.specs.Reader.{OutOf, ok, again, bad, more, and_then, after, turn, eaten, many}
 use Rattle.raw.specs.Grammar.{is}
 use Rattle.raw.proofs.readers.Kept.{Advances}
@@ -44,10 +35,10 @@ abbrev em_dash : List ℕ
 em_dash = 0xE2 ∷ 0x80 ∷ 0x94 ∷ []
 
 module _ (s : List ℕ) (p : ℕ) (l : p < length s) (b : get_or s p 0 ≡ 0x2D) where
-  abbrev third : ℕ → Seen → OutOf Part
+  abbrev third : ℕ → Option (ℕ × ℕ) → OutOf Part
   third m v = eaten (is 0x2D) v (λ r. ok r (put em_dash ∷ [])) (ok m (put en_dash ∷ []))
 
-  abbrev second : Seen → OutOf Part
+  abbrev second : Option (ℕ × ℕ) → OutOf Part
   second v = eaten (is 0x2D) v (λ m. third m (see s m)) (ok (p + 1) (put (0x2D ∷ []) ∷ []))
 
   first : hyphens s p ≡ second (see s (p + 1))
@@ -61,9 +52,9 @@ module _ (s : List ℕ) (p : ℕ) (l : p < length s) (b : get_or s p 0 ≡ 0x2D)
     pub hyphen-one : two ≡ p + 1 → Turns false s p (0x2D ∷ []) (p + 1)
     hyphen-one e = turn-puts (p + 1) (0x2D ∷ []) (by (see s (p + 1)) refl (sym h ∙ e))
       where
-        by : (v : Seen) → see s (p + 1) ≡ v → past_one (single 0x2D) (p + 1) v ≡ p + 1 → second v ≡ ok (p + 1) (put (0x2D ∷ []) ∷ [])
-        by End q k = refl
-        by (Char c n) q k = let a = seeing.see-ahead s (p + 1) c n q in pick (eqb c 0x2D) a.0 k
+        by : (v : Option (ℕ × ℕ)) → see s (p + 1) ≡ v → past_one (single 0x2D) (p + 1) v ≡ p + 1 → second v ≡ ok (p + 1) (put (0x2D ∷ []) ∷ [])
+        by None q k = refl
+        by (Some (c, n)) q k = let a = seeing.see-ahead s (p + 1) c n q in pick (eqb c 0x2D) a.0 k
           where
             pick : (x : Bool) → p + 1 < n → cond x n (p + 1) ≡ p + 1 → cond x (third n (see s n)) (ok (p + 1) (put (0x2D ∷ []) ∷ [])) ≡ ok (p + 1)
                 (put (0x2D ∷ []) ∷ [])
@@ -74,9 +65,9 @@ module _ (s : List ℕ) (p : ℕ) (l : p < length s) (b : get_or s p 0 ≡ 0x2D)
       on : second (see s (p + 1)) ≡ third two (see s two)
       on = by (see s (p + 1)) refl h
         where
-          by : (v : Seen) → see s (p + 1) ≡ v → two ≡ past_one (single 0x2D) (p + 1) v → second v ≡ third two (see s two)
-          by End q k = absurd (e k)
-          by (Char c n) q k = pick (eqb c 0x2D) k
+          by : (v : Option (ℕ × ℕ)) → see s (p + 1) ≡ v → two ≡ past_one (single 0x2D) (p + 1) v → second v ≡ third two (see s two)
+          by None q k = absurd (e k)
+          by (Some (c, n)) q k = pick (eqb c 0x2D) k
             where
               pick : (x : Bool) → two ≡ cond x n (p + 1) → cond x (third n (see s n)) (ok (p + 1) (put (0x2D ∷ []) ∷ [])) ≡ third two (see s two)
               pick true k = ap (λ (m : ℕ). third m (see s m)) (sym k)
@@ -86,9 +77,9 @@ module _ (s : List ℕ) (p : ℕ) (l : p < length s) (b : get_or s p 0 ≡ 0x2D)
         pub hyphen-two : three ≡ two → Turns false s p en_dash two
         hyphen-two f = turn-puts two en_dash (on ∙ by (see s two) refl (sym k ∙ f))
           where
-            by : (v : Seen) → see s two ≡ v → past_one (single 0x2D) two v ≡ two → third two v ≡ ok two (put en_dash ∷ [])
-            by End q k = refl
-            by (Char c n) q k = let a = seeing.see-ahead s two c n q in pick (eqb c 0x2D) a.0 k
+            by : (v : Option (ℕ × ℕ)) → see s two ≡ v → past_one (single 0x2D) two v ≡ two → third two v ≡ ok two (put en_dash ∷ [])
+            by None q k = refl
+            by (Some (c, n)) q k = let a = seeing.see-ahead s two c n q in pick (eqb c 0x2D) a.0 k
               where
                 pick : (x : Bool) → two < n → cond x n two ≡ two → cond x (ok n (put em_dash ∷ [])) (ok two (put en_dash ∷ [])) ≡ ok two
                     (put en_dash ∷ [])
@@ -98,9 +89,9 @@ module _ (s : List ℕ) (p : ℕ) (l : p < length s) (b : get_or s p 0 ≡ 0x2D)
         pub hyphen-three : (three ≡ two → ⊥) → Turns false s p em_dash three
         hyphen-three f = turn-puts three em_dash (on ∙ by (see s two) refl k)
           where
-            by : (v : Seen) → see s two ≡ v → three ≡ past_one (single 0x2D) two v → third two v ≡ ok three (put em_dash ∷ [])
-            by End q k = absurd (f k)
-            by (Char c n) q k = pick (eqb c 0x2D) k
+            by : (v : Option (ℕ × ℕ)) → see s two ≡ v → three ≡ past_one (single 0x2D) two v → third two v ≡ ok three (put em_dash ∷ [])
+            by None q k = absurd (f k)
+            by (Some (c, n)) q k = pick (eqb c 0x2D) k
               where
                 pick : (x : Bool) → three ≡ cond x n two → cond x (ok n (put em_dash ∷ [])) (ok two (put en_dash ∷ [])) ≡ ok three (put em_dash ∷ [])
                 pick true k = ap (λ (m : ℕ). ok m (put em_dash ∷ [])) (sym k)
@@ -108,17 +99,17 @@ module _ (s : List ℕ) (p : ℕ) (l : p < length s) (b : get_or s p 0 ≡ 0x2D)
 
 -- ---- `other`
 
-apart : (s : List ℕ) (p c n x : ℕ) → see s p ≡ Char c n → x < 0x80 → (get_or s p 0 ≡ x → ⊥) → eqb c x ≡ false
+apart : (s : List ℕ) (p c n x : ℕ) → see s p ≡ Some (c, n) → x < 0x80 → (get_or s p 0 ≡ x → ⊥) → eqb c x ≡ false
 apart s p c n x e h k = ne_eqb c x (λ q. k (seeing.byte_of s p c n e (omega (arith, h, q)) ∙ q))
 
-apart-verb : (s : List ℕ) (p c n x : ℕ) (verb : Bool) → see s p ≡ Char c n → x < 0x80 → (get_or s p 0 ≡ x → verb ≡ true) → (eqb c x && not verb) ≡ false
+apart-verb : (s : List ℕ) (p c n x : ℕ) (verb : Bool) → see s p ≡ Some (c, n) → x < 0x80 → (get_or s p 0 ≡ x → verb ≡ true) → (eqb c x && not verb) ≡ false
 apart-verb s p c n x verb e h k = by (eqb c x) refl
   where
     by : (w : Bool) → eqb c x ≡ w → (w && not verb) ≡ false
     by true q = let z = eqb-true c x q in rw (k (seeing.byte_of s p c n e (omega (arith, h, z)) ∙ z)) refl
     by false q = refl
 
-pub itself-of : (verb : Bool) (s : List ℕ) (p c n : ℕ) → see s p ≡ Char c n → Ordinary verb (get_or s p 0) → (get_or s p 0 ≡ 0x5C → ⊥)
+pub itself-of : (verb : Bool) (s : List ℕ) (p c n : ℕ) → see s p ≡ Some (c, n) → Ordinary verb (get_or s p 0) → (get_or s p 0 ≡ 0x5C → ⊥)
     → (get_or s p 0 ≡ 0x2D → verb ≡ true)
     → is_whitespace c ≡ false → Itself verb c
 itself-of verb s p c n e h k m w = record {
@@ -151,14 +142,14 @@ control-begins c h = by (is_whitespace c)
     by true = refl
     by false = rw h refl
 
-pub blank_turn : (verb : Bool) (s : List ℕ) (p c n : ℕ) → see s p ≡ Char c n → is_whitespace c ≡ true
+pub blank_turn : (verb : Bool) (s : List ℕ) (p c n : ℕ) → see s p ≡ Some (c, n) → is_whitespace c ≡ true
     → Turns verb s p (0x20 ∷ []) (skip is_whitespace s p)
 blank_turn verb s p c n e w argument d = turn-blank argument verb d s p c n e w
 
 control-apart : (c x : ℕ) → is_control x ≡ false → is_control c ≡ true → eqb c x ≡ false
 control-apart c x h w = ne_eqb c x (λ e. true-not-false (is_control c) w (ap is_control e ∙ h))
 
-pub control-turn : (s : List ℕ) (p c n : ℕ) → see s p ≡ Char c n → is_control c ≡ true → is_whitespace c ≡ false → Turns false s p (part s p n) n
+pub control-turn : (s : List ℕ) (p c n : ℕ) → see s p ≡ Some (c, n) → is_control c ≡ true → is_whitespace c ≡ false → Turns false s p (part s p n) n
 unfolding is_control control
 control-turn s p c n e h w argument d = turn-copy argument false d s p c n e (record {
   slash = control-apart c 0x5C refl h;
@@ -169,7 +160,7 @@ control-turn s p c n e h w argument d = turn-copy argument false d s p c n e (re
   white = w;
 })
 
-pub copy-turn : (verb : Bool) (s : List ℕ) (p c n : ℕ) → see s p ≡ Char c n → Itself verb c → Turns verb s p (part s p n) n
+pub copy-turn : (verb : Bool) (s : List ℕ) (p c n : ℕ) → see s p ≡ Some (c, n) → Itself verb c → Turns verb s p (part s p n) n
 copy-turn verb s p c n e k argument d = turn-copy argument verb d s p c n e k
 
 -- ---- `argument_end`
@@ -196,13 +187,13 @@ end_more xs (bad f) = refl
 
 -- the search from i on, with d braces open inside the argument, where the next brace stands at j
 module _ (d : ℕ) (s : List ℕ) (i j : ℕ) (h : j ≡ skip (fails test.Brace) s i) where
-  abbrev left : ℕ → ℕ → Step
+  abbrev left : ℕ → ℕ → Result ℕ Fault
   left d i = end_of (many end_turn d s i)
 
   by_turn : (o : OutOf Part) → end_turn d s i ≡ o → left d i ≡ end_of (after o (λ b q. many end_turn b s q))
   by_turn o e = ap end_of (end-un d s i ∙ ap (λ (o : OutOf Part). after o (λ b q. many end_turn b s q)) e)
 
-  pub end-off : length s ≤ j → step.Refused (fault_at UnexpectedEof j) ≡ left d i
+  pub end-off : length s ≤ j → Err (fault_at UnexpectedEof j) ≡ left d i
   unfolding end_turn
   end-off l = sym (by_turn (bad (fault_at UnexpectedEof j)) (none d))
     where
@@ -212,7 +203,7 @@ module _ (d : ℕ) (s : List ℕ) (i j : ℕ) (h : j ≡ skip (fails test.Brace)
 
   module _ (l : j < length s) where
     -- the byte at j is an opening brace
-    brace : get_or s j 0 ≡ 0x7B → see s j ≡ Char 0x7B (j + 1)
+    brace : get_or s j 0 ≡ 0x7B → see s j ≡ Some (0x7B, j + 1)
     brace e = seeing.at_byte s j 0x7B l e (omega arith)
 
     pub end-open : get_or s j 0 ≡ 0x7B → left d i ≡ left (suc d) (j + 1)
@@ -224,24 +215,24 @@ module _ (d : ℕ) (s : List ℕ) (i j : ℕ) (h : j ≡ skip (fails test.Brace)
         opens (suc d) = rw (sym h, brace e) refl
 
     -- where the byte at j is no opening brace, it is a closing one
-    closes : (get_or s j 0 ≡ 0x7B → ⊥) → see s j ≡ Char 0x7D (j + 1)
+    closes : (get_or s j 0 ≡ 0x7B → ⊥) → see s j ≡ Some (0x7D, j + 1)
     unfolding holds_of
     closes n = by (eqb (code (drop j s)) 0x7B) (eqb (code (drop j s)) 0x7D) refl refl
         (seeing.skip_at (fails test.Brace) s (length s) i (omega arith) (omega (arith, l, h)))
       where
-        seen : see s j ≡ Char (code (drop j s)) (j + 1 + rest (drop j s))
+        seen : see s j ≡ Some (code (drop j s), j + 1 + rest (drop j s))
         seen = seeing.see-at s j l
 
         by : (x y : Bool) → eqb (code (drop j s)) 0x7B ≡ x → eqb (code (drop j s)) 0x7D ≡ y
-            → fails test.Brace (code (drop (skip (fails test.Brace) s i) s)) ≡ false → see s j ≡ Char 0x7D (j + 1)
-        by true y p q f = absurd (n (seeing.byte_of s j _ _ (seen ∙ ap (λ (c : ℕ). Char c (j + 1 + rest (drop j s))) (eqb-true _ _ p)) (omega arith)))
-        by false true p q f = seeing.at_byte s j 0x7D l (seeing.byte_of s j _ _ (seen ∙ ap (λ (c : ℕ). Char c (j + 1 + rest (drop j s))) (eqb-true _ _ q))
+            → fails test.Brace (code (drop (skip (fails test.Brace) s i) s)) ≡ false → see s j ≡ Some (0x7D, j + 1)
+        by true y p q f = absurd (n (seeing.byte_of s j _ _ (seen ∙ ap (λ (c : ℕ). Some (c, j + 1 + rest (drop j s))) (eqb-true _ _ p)) (omega arith)))
+        by false true p q f = seeing.at_byte s j 0x7D l (seeing.byte_of s j _ _ (seen ∙ ap (λ (c : ℕ). Some (c, j + 1 + rest (drop j s))) (eqb-true _ _ q))
             (omega arith)) (omega arith)
         by false false p q f = true-not-false (fails test.Brace (code (drop j s))) (rw (p, q) refl)
             (ap (λ (j : ℕ). fails test.Brace (code (drop j s))) h ∙ f)
 
     module _ (n : get_or s j 0 ≡ 0x7B → ⊥) where
-      pub end-found : d ≡ 0 → step.At j ≡ left d i
+      pub end-found : d ≡ 0 → Ok j ≡ left d i
       unfolding end_turn
       end-found e = sym (by_turn (ok j []) (zeroed d e))
         where

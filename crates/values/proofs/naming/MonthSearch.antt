@@ -3,6 +3,7 @@
 --     seek-starts, seek-room, seek-word      where the search begins; a month's four numbers are there, and its word lies in the lent bytes
 --     seek_hit, seek-on, seek-none           the ways through `find_month`
 -- Assumes nothing.
+use Rattle.std.specs.Prelude.{Some, None}
 use Prim.Native.Nat.{ℕ, ◌+◌, ◌-◌, ◌%◌, ◌≤◌, ◌<◌}
 use native.Mathlib.Omega.{arith}
 use mathlib.Core.Path.{◌≡◌, refl, sym, ap, ap₂, ◌∙◌}
@@ -21,7 +22,6 @@ use Rattle.row.proofs.Laid.{laid}
 use Rattle.text.specs.SameBytes.{same_bytes}
 use Rattle.text.specs.Every.{every}
 use Rattle.resolve.specs.Checks.{month_in, months_of, is_valid, is_text, is_month, every_month, are_months}
-use Rattle.values.specs.declared.months.Month.TheVariants as found
 use Rattle.values.specs.Field.{month_of}
 use Rattle.values.specs.Uses.{MonthFound}
 
@@ -69,7 +69,7 @@ module _ (months words name : List ℕ) where
         named t x = ap (λ (l : List ℕ). same_bytes l name) (sym word) ∙ x
 
         pub seek_hit : same_bytes (take (e - a) (drop a words)) name ≡ true → (b f : ℕ) → b ≡ get_or months (i + 2) 0 → f ≡ get_or months (i + 3) 0
-            → MonthFound months words name (found.Text b f)
+            → MonthFound months words name (Some (b, f))
         unfolding month_of
         seek_hit x b f r t =
             let d = inside words (get_or months (i + 2) 0) (get_or months (i + 3) 0) texts.1 in
@@ -85,6 +85,6 @@ module _ (months words name : List ℕ) where
           same = s.same ∙ rw (laid.rows_next months i (seek-room h), named false x);
         }
 
-    pub seek-none : length months ≤ i → MonthFound months words name found.Nothing
+    pub seek-none : length months ≤ i → MonthFound months words name None
     unfolding month_of
     seek-none h = s.same ∙ rw (laid.rows_end months i (omega arith))

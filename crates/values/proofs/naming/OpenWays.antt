@@ -2,7 +2,11 @@
 --     path-hit, path-on, path-end           `on_path`: one definition more, and the end
 --     limit-deep, limit-many, limit-none    `limits`
 --     open-cyclic, open-definition, open-month, open_unknown        `may_open`
+--     has                                   what an option has, where what is in it is known
 -- Assumes nothing.
+use Rattle.std.specs.Prelude.{Option, Some, None, Result, Ok, Err, ⊤}
+use Rattle.row.specs.declared.fault.Reason.{Reason}
+use Rattle.values.specs.declared.elements.Meaning.{Meaning}
 use Prim.Native.Nat.{ℕ, zero, suc, ◌+◌, ◌≤◌, ◌<◌}
 use native.Mathlib.Omega.{arith}
 use mathlib.Core.Path.{◌≡◌, refl, sym, ap, ◌∙◌}
@@ -14,10 +18,7 @@ use borrow.Author.Tests.{eq-eqb, ne_eqb, lt-ltb, le-ltb}
 use Rattle.text.proofs.general.Places.{drop-next}
 use Rattle.row.specs.declared.fault.Reason.TheVariants.{UnknownAbbreviation, Cyclic, TooDeep, TooManyNames}
 use Rattle.row.specs.Limits.{most_names}
-use Rattle.values.specs.declared.elements.Meaning.{Meaning}
 use Rattle.values.specs.declared.elements.Meaning.TheVariants as meaning
-use Rattle.values.specs.declared.elements.Allowed.{Allowed}
-use Rattle.values.specs.declared.elements.Allowed.TheVariants as allowed
 use Rattle.values.specs.Field.{on_path}
 use Rattle.values.specs.Uses.{limits, allowed_of}
 
@@ -44,29 +45,33 @@ module _ (path : List ℕ) (used i k : ℕ) where
 
 -- ---- depth and number
 
-pub limit-deep : (left names : ℕ) → left ≡ 0 → allowed.No TooDeep ≡ limits left names
+pub limit-deep : (left names : ℕ) → left ≡ 0 → Err TooDeep ≡ limits left names
 limit-deep left names e = rw e
 
-pub limit-many : (left names : ℕ) → (left ≡ 0 → ⊥) → most_names ≤ names → allowed.No TooManyNames ≡ limits left names
+pub limit-many : (left names : ℕ) → (left ≡ 0 → ⊥) → most_names ≤ names → Err TooManyNames ≡ limits left names
 limit-many zero names n h = absurd (n refl)
 limit-many (suc left) names n h = rw (le-ltb names most_names h)
 
-pub limit-none : (left names : ℕ) → (left ≡ 0 → ⊥) → names < most_names → allowed.Yes ≡ limits left names
+pub limit-none : (left names : ℕ) → (left ≡ 0 → ⊥) → names < most_names → Ok tt ≡ limits left names
 limit-none zero names n h = absurd (n refl)
 limit-none (suc left) names n h = rw (lt-ltb names most_names h)
 
 -- ---- one use
 
-module _ (m : Meaning) (path : List ℕ) (left names : ℕ) where
-  pub open-cyclic : (i : ℕ) → m ≡ meaning.Definition i → on_path i path ≡ true → allowed.No Cyclic ≡ allowed_of m path left names
+module _ (m : Option Meaning) (path : List ℕ) (left names : ℕ) where
+  pub open-cyclic : (i : ℕ) → m ≡ Some (meaning.Definition i) → on_path i path ≡ true → Err Cyclic ≡ allowed_of m path left names
   open-cyclic i e t = rw (e, t)
 
-  pub open-definition : (i : ℕ) → m ≡ meaning.Definition i → on_path i path ≡ false → (r : Allowed) → r ≡ limits left names
+  pub open-definition : (i : ℕ) → m ≡ Some (meaning.Definition i) → on_path i path ≡ false → (r : Result ⊤ Reason) → r ≡ limits left names
       → r ≡ allowed_of m path left names
   open-definition i e t r h = rw (e, t) h
 
-  pub open-month : (a b : ℕ) → m ≡ meaning.Month a b → (r : Allowed) → r ≡ limits left names → r ≡ allowed_of m path left names
+  pub open-month : (a b : ℕ) → m ≡ Some (meaning.Month a b) → (r : Result ⊤ Reason) → r ≡ limits left names → r ≡ allowed_of m path left names
   open-month a b e r h = rw e h
 
-  pub open_unknown : m ≡ meaning.Unknown → allowed.No UnknownAbbreviation ≡ allowed_of m path left names
+  pub open_unknown : m ≡ None → Err UnknownAbbreviation ≡ allowed_of m path left names
   open_unknown e = rw e
+
+-- what an option has, where what is in it is known
+pub has : {A : Type 0} {x : Option A} {a b : A} → x ≡ Some a → a ≡ b → x ≡ Some b
+has p q = p ∙ ap Some q

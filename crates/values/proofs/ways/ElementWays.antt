@@ -6,6 +6,9 @@
 --     literal-on, literal-stopped, name-on, name-stopped             the ways through `value` at a literal and at a name
 --     ready-value-on                                                 what `value` requires holds further on
 -- Assumes nothing.
+use Rattle.values.specs.declared.resolver.Resolver.{Resolver}
+use Rattle.std.specs.Prelude.{Option, Some, None, Result, Ok, Err}
+use Rattle.values.specs.declared.elements.Element.{Element}
 use Prim.Native.Nat.{ℕ, zero, suc, ◌+◌, ◌*◌, ◌/◌, ◌%◌, ◌≤◌, ◌<◌}
 use native.Mathlib.Omega.{arith}
 use mathlib.Core.Path.{◌≡◌, refl, sym, ap, subst, ◌∙◌}
@@ -29,14 +32,11 @@ use Rattle.row.proofs.Laid.{laid}
 use Rattle.row.specs.Limits.{most_names}
 use Rattle.literal.specs.Literal.{resolve_literal}
 use Rattle.resolve.specs.declared.progress.Progress.{Progress}
-use Rattle.resolve.specs.declared.progress.Went.{Went}
-use Rattle.resolve.specs.declared.progress.Went.TheVariants as went
 use Rattle.resolve.specs.OneLiteral.{is_span}
 use Rattle.resolve.specs.Checks.{Lent, every_span, are_months, are_lent}
 use Rattle.resolve.specs.Runs.{Run, done, of_literal}
 use Rattle.resolve.specs.Progress.{SaysRun}
 use Rattle.resolve.proofs.Asking.{asking}
-use Rattle.values.specs.declared.elements.Element.{Element}
 use Rattle.values.specs.declared.elements.Element.TheVariants as element
 use Rattle.values.specs.Field.{onward, walk, elements, Meaning, definition}
 use Rattle.values.specs.Field.{month, unknown, meaning_of, known, opened, at_use, elements_of, parse_field, name}
@@ -47,17 +47,17 @@ use Rattle.values.proofs.ways.RunWays.{says-end, says_on, says-stopped}
 -- ---- `element_at`
 
 module _ (rows : List ℕ) (i : ℕ) where
-  pub element-end : length rows < i + 4 → element.Nothing ≡ first_element (rows_of (drop i rows))
+  pub element-end : length rows < i + 4 → None ≡ first_element (rows_of (drop i rows))
   element-end h = rw (laid.rows_end rows i h)
 
   module _ (h : i + 4 ≤ length rows) (a e : ℕ) (p : a ≡ get_or rows (i + 2) 0) (q : e ≡ get_or rows (i + 3) 0) where
-    pub element-literal : get_or rows i 0 ≡ 6 → element.Literal a e ≡ first_element (rows_of (drop i rows))
+    pub element-literal : get_or rows i 0 ≡ 6 → Some (element.Literal a e) ≡ first_element (rows_of (drop i rows))
     element-literal k = rw (laid.rows_next rows i h, eq-eqb (get_or rows i 0) 6 k, p, q)
 
-    pub element-name : (get_or rows i 0 ≡ 6 → ⊥) → get_or rows i 0 ≡ 7 → element.Name a e ≡ first_element (rows_of (drop i rows))
+    pub element-name : (get_or rows i 0 ≡ 6 → ⊥) → get_or rows i 0 ≡ 7 → Some (element.Name a e) ≡ first_element (rows_of (drop i rows))
     element-name n k = rw (laid.rows_next rows i h, ne_eqb (get_or rows i 0) 6 n, eq-eqb (get_or rows i 0) 7 k, p, q)
 
-  pub element-other : i + 4 ≤ length rows → (get_or rows i 0 ≡ 6 → ⊥) → (get_or rows i 0 ≡ 7 → ⊥) → element.Nothing ≡ first_element (rows_of (drop i rows))
+  pub element-other : i + 4 ≤ length rows → (get_or rows i 0 ≡ 6 → ⊥) → (get_or rows i 0 ≡ 7 → ⊥) → None ≡ first_element (rows_of (drop i rows))
   element-other h n m = rw (laid.rows_next rows i h, ne_eqb (get_or rows i 0) 6 n, ne_eqb (get_or rows i 0) 7 m)
 
 -- ---- where elements stand
@@ -80,18 +80,18 @@ months-of file rows months words h = (both_true (every_span file (rows_of rows))
 abbrev pub ElementSpan : List ℕ → List ℕ → ℕ → ℕ → ℕ → Type 0
 ElementSpan file rows i a e = (i + 4 ≤ length rows) × (a ≤ e) × (e ≤ length file) × (every_span file (rows_of (drop (i + 4) rows)) ≡ true)
 
-abbrev pub ElementPlaced : List ℕ → List ℕ → ℕ → Element → Type 0
-ElementPlaced file rows i (element.Literal a e) = ElementSpan file rows i a e
-ElementPlaced file rows i (element.Name a e) = ElementSpan file rows i a e
-ElementPlaced file rows i element.Nothing = Unit {0}
+abbrev pub ElementPlaced : List ℕ → List ℕ → ℕ → Option Element → Type 0
+ElementPlaced file rows i (Some (element.Literal a e)) = ElementSpan file rows i a e
+ElementPlaced file rows i (Some (element.Name a e)) = ElementSpan file rows i a e
+ElementPlaced file rows i None = Unit {0}
 
-pub placed : (file rows : List ℕ) (i : ℕ) → every_span file (rows_of (drop i rows)) ≡ true → (v : Element) → v ≡ first_element (rows_of (drop i rows))
-    → (w : Element) → v ≡ w → ElementPlaced file rows i w
+pub placed : (file rows : List ℕ) (i : ℕ) → every_span file (rows_of (drop i rows)) ≡ true → (v : Option Element) → v ≡ first_element (rows_of (drop i rows))
+    → (w : Option Element) → v ≡ w → ElementPlaced file rows i w
 unfolding every
 placed file rows i h v p w q = subst (ElementPlaced file rows i) (sym p ∙ q) (by (leb (i + 4) (length rows)) refl)
   where
     at_row : (r : Row) (x y : Bool) → ElementSpan file rows i r.start r.end
-        → ElementPlaced file rows i (cond x (element.Literal r.start r.end) (cond y (element.Name r.start r.end) element.Nothing))
+        → ElementPlaced file rows i (cond x (Some (element.Literal r.start r.end)) (cond y (Some (element.Name r.start r.end)) None))
     at_row r true y p = p
     at_row r false true p = p
     at_row r false false p = tt
@@ -114,29 +114,29 @@ placed file rows i h v p w q = subst (ElementPlaced file rows i) (sym p ∙ q) (
 -- ---- what a first element comes to
 
 module _ (r : Row) (rs : List Row) where
-  literal-row : (a e : ℕ) → first_element (r ∷ rs) ≡ element.Literal a e → (is_kind Literal r.kind ≡ true) × (r.start ≡ a) × (r.end ≡ e)
+  literal-row : (a e : ℕ) → first_element (r ∷ rs) ≡ Some (element.Literal a e) → (is_kind Literal r.kind ≡ true) × (r.start ≡ a) × (r.end ≡ e)
   literal-row a e = by (is_kind Literal r.kind) (is_kind Name r.kind)
     where
-      by : (x y : Bool) → cond x (element.Literal r.start r.end) (cond y (element.Name r.start r.end) element.Nothing) ≡ element.Literal a e
+      by : (x y : Bool) → cond x (Some (element.Literal r.start r.end)) (cond y (Some (element.Name r.start r.end)) None) ≡ Some (element.Literal a e)
           → (x ≡ true) × (r.start ≡ a) × (r.end ≡ e)
       by true y h = (refl, cc, cc)
       by false true h = let z : ◌≡◌ {A = ℕ} 0 1 = cc in absurd (omega arith)
       by false false h = let z : ◌≡◌ {A = ℕ} 0 1 = cc in absurd (omega arith)
 
-  name-row : (a e : ℕ) → first_element (r ∷ rs) ≡ element.Name a e
+  name-row : (a e : ℕ) → first_element (r ∷ rs) ≡ Some (element.Name a e)
       → (is_kind Literal r.kind ≡ false) × (is_kind Name r.kind ≡ true) × (r.start ≡ a) × (r.end ≡ e)
   name-row a e = by (is_kind Literal r.kind) (is_kind Name r.kind)
     where
-      by : (x y : Bool) → cond x (element.Literal r.start r.end) (cond y (element.Name r.start r.end) element.Nothing) ≡ element.Name a e
+      by : (x y : Bool) → cond x (Some (element.Literal r.start r.end)) (cond y (Some (element.Name r.start r.end)) None) ≡ Some (element.Name a e)
           → (x ≡ false) × (y ≡ true) × (r.start ≡ a) × (r.end ≡ e)
       by true y h = let z : ◌≡◌ {A = ℕ} 0 1 = cc in absurd (omega arith)
       by false true h = (refl, refl, cc, cc)
       by false false h = let z : ◌≡◌ {A = ℕ} 0 1 = cc in absurd (omega arith)
 
-  no_row : first_element (r ∷ rs) ≡ element.Nothing → (is_kind Literal r.kind || is_kind Name r.kind) ≡ false
+  no_row : first_element (r ∷ rs) ≡ None → (is_kind Literal r.kind || is_kind Name r.kind) ≡ false
   no_row = by (is_kind Literal r.kind) (is_kind Name r.kind)
     where
-      by : (x y : Bool) → cond x (element.Literal r.start r.end) (cond y (element.Name r.start r.end) element.Nothing) ≡ element.Nothing
+      by : (x y : Bool) → cond x (Some (element.Literal r.start r.end)) (cond y (Some (element.Name r.start r.end)) None) ≡ None
           → (x || y) ≡ false
       by true y h = let z : ◌≡◌ {A = ℕ} 0 1 = cc in absurd (omega arith)
       by false true h = let z : ◌≡◌ {A = ℕ} 0 1 = cc in absurd (omega arith)
@@ -169,19 +169,19 @@ module _ (l : Lent) (verb : Bool) (left : ℕ) (path : List ℕ) where
   abbrev from : List Row → ℕ → Run
   from rs n = value_from l verb left path rs n
 
-  pub from-none : (rs : List Row) (n : ℕ) → first_element rs ≡ element.Nothing → from rs n ≡ done [] n
+  pub from-none : (rs : List Row) (n : ℕ) → first_element rs ≡ None → from rs n ≡ done [] n
   unfolding walk elements
   from-none [] n h = refl
   from-none (r ∷ rs) n h = rw (no_row r rs h)
 
-  pub from-literal : (rs ss : List Row) (r : Row) (a e n : ℕ) → rs ≡ r ∷ ss → first_element rs ≡ element.Literal a e
+  pub from-literal : (rs ss : List Row) (r : Row) (a e n : ℕ) → rs ≡ r ∷ ss → first_element rs ≡ Some (element.Literal a e)
       → from rs n ≡ onward (of_literal (resolve_literal verb (part l.file a e) a) n) (from ss)
   unfolding walk elements
   from-literal rs ss r a e n p h =
       let t = literal-row r ss a e (sym (ap first_element p) ∙ h) in
       rw (p, t.0, t.0, t.1, t.2)
 
-  from-name : (rs ss : List Row) (r : Row) (a e n : ℕ) → rs ≡ r ∷ ss → first_element rs ≡ element.Name a e
+  from-name : (rs ss : List Row) (r : Row) (a e n : ℕ) → rs ≡ r ∷ ss → first_element rs ≡ Some (element.Name a e)
       → from rs n ≡ onward (name l verb left path (row Name a e) n) (from ss)
   unfolding walk elements
   from-name rs ss r a e n p h =
@@ -197,24 +197,24 @@ module _ (l : Lent) (verb : Bool) (left : ℕ) (path rows : List ℕ) (i : ℕ) 
   abbrev next : ℕ → Run
   next n = value_from l verb left path (rows_of (drop (i + 4) rows)) n
 
-  pub value-end : (v : Element) → v ≡ first_element (rows_of (drop i rows)) → v ≡ element.Nothing → SaysRun here st b t (went.Done st) b t
+  pub value-end : (v : Option Element) → v ≡ first_element (rows_of (drop i rows)) → v ≡ None → SaysRun here st b t (Ok st) b t
   value-end v p q = says-end here st b t (from-none l verb left path (rows_of (drop i rows)) st.names (sym p ∙ q))
 
-  module _ (v : Element) (p : v ≡ first_element (rows_of (drop i rows))) (a e : ℕ) (room : i + 4 ≤ length rows) (r : Went) (b₁ t₁ : List ℕ) where
+  module _ (v : Option Element) (p : v ≡ first_element (rows_of (drop i rows))) (a e : ℕ) (room : i + 4 ≤ length rows) (r : Result Progress Fault) (b₁ t₁ : List ℕ) where
     -- the element comes to a run, and then the others
-    turn_on : (run : Run) → here ≡ onward run next → SaysRun run st b t r b₁ t₁ → (st₁ : Progress) → r ≡ went.Done st₁ → (r₂ : Went) (b₂ t₂ : List ℕ)
+    turn_on : (run : Run) → here ≡ onward run next → SaysRun run st b t r b₁ t₁ → (st₁ : Progress) → r ≡ Ok st₁ → (r₂ : Result Progress Fault) (b₂ t₂ : List ℕ)
         → SaysRun (next st₁.names) st₁ b₁ t₁ r₂ b₂ t₂ → SaysRun here st b t r₂ b₂ t₂
     turn_on run x k st₁ y r₂ b₂ t₂ z =
         subst (λ (run : Run). SaysRun run st b t r₂ b₂ t₂) (sym x)
-        (says_on st b t st₁ b₁ t₁ r₂ b₂ t₂ run next (subst (λ (r : Went). SaysRun run st b t r b₁ t₁) y k) z)
+        (says_on st b t st₁ b₁ t₁ r₂ b₂ t₂ run next (subst (λ (r : Result Progress Fault). SaysRun run st b t r b₁ t₁) y k) z)
 
-    turn_stopped : (run : Run) → here ≡ onward run next → SaysRun run st b t r b₁ t₁ → (f : Fault) → r ≡ went.Refused f
-        → SaysRun here st b t (went.Refused f) b₁ t₁
+    turn_stopped : (run : Run) → here ≡ onward run next → SaysRun run st b t r b₁ t₁ → (f : Fault) → r ≡ Err f
+        → SaysRun here st b t (Err f) b₁ t₁
     turn_stopped run x k f y =
-        subst (λ (run : Run). SaysRun run st b t (went.Refused f) b₁ t₁) (sym x)
-        (says-stopped run next st b t f b₁ t₁ (subst (λ (r : Went). SaysRun run st b t r b₁ t₁) y k))
+        subst (λ (run : Run). SaysRun run st b t (Err f) b₁ t₁) (sym x)
+        (says-stopped run next st b t f b₁ t₁ (subst (λ (r : Result Progress Fault). SaysRun run st b t r b₁ t₁) y k))
 
-    module _ (q : v ≡ element.Literal a e) (s : List ℕ) (w : s ≡ part l.file a e)
+    module _ (q : v ≡ Some (element.Literal a e)) (s : List ℕ) (w : s ≡ part l.file a e)
         (k : SaysRun (of_literal (resolve_literal verb s a) st.names) st b t r b₁ t₁) where
       literal-here : here ≡ onward (of_literal (resolve_literal verb s a) st.names) next
       literal-here =
@@ -222,14 +222,14 @@ module _ (l : Lent) (verb : Bool) (left : ℕ) (path rows : List ℕ) (i : ℕ) 
           (sym p ∙ q)
           ∙ ap (λ (u : List ℕ). onward (of_literal (resolve_literal verb u a) st.names) next) (sym w)
 
-      pub literal-on : (st₁ : Progress) → r ≡ went.Done st₁ → (r₂ : Went) (b₂ t₂ : List ℕ) → SaysRun (next st₁.names) st₁ b₁ t₁ r₂ b₂ t₂
+      pub literal-on : (st₁ : Progress) → r ≡ Ok st₁ → (r₂ : Result Progress Fault) (b₂ t₂ : List ℕ) → SaysRun (next st₁.names) st₁ b₁ t₁ r₂ b₂ t₂
           → SaysRun here st b t r₂ b₂ t₂
       literal-on = turn_on (of_literal (resolve_literal verb s a) st.names) literal-here k
 
-      pub literal-stopped : (f : Fault) → r ≡ went.Refused f → SaysRun here st b t (went.Refused f) b₁ t₁
+      pub literal-stopped : (f : Fault) → r ≡ Err f → SaysRun here st b t (Err f) b₁ t₁
       literal-stopped = turn_stopped (of_literal (resolve_literal verb s a) st.names) literal-here k
 
-    module _ (q : v ≡ element.Name a e) (path₁ : List ℕ) (w : path₁ ≡ path)
+    module _ (q : v ≡ Some (element.Name a e)) (path₁ : List ℕ) (w : path₁ ≡ path)
         (k : SaysRun (name l verb left path₁ (row Name a e) st.names) st b t r b₁ t₁) where
       name-here : here ≡ onward (name l verb left path₁ (row Name a e) st.names) next
       name-here =
@@ -237,22 +237,20 @@ module _ (l : Lent) (verb : Bool) (left : ℕ) (path rows : List ℕ) (i : ℕ) 
           (sym p ∙ q)
           ∙ ap (λ (u : List ℕ). onward (name l verb left u (row Name a e) st.names) next) (sym w)
 
-      pub name-on : (st₁ : Progress) → r ≡ went.Done st₁ → (r₂ : Went) (b₂ t₂ : List ℕ) → SaysRun (next st₁.names) st₁ b₁ t₁ r₂ b₂ t₂
+      pub name-on : (st₁ : Progress) → r ≡ Ok st₁ → (r₂ : Result Progress Fault) (b₂ t₂ : List ℕ) → SaysRun (next st₁.names) st₁ b₁ t₁ r₂ b₂ t₂
           → SaysRun here st b t r₂ b₂ t₂
       name-on = turn_on (name l verb left path₁ (row Name a e) st.names) name-here k
 
-      pub name-stopped : (f : Fault) → r ≡ went.Refused f → SaysRun here st b t (went.Refused f) b₁ t₁
+      pub name-stopped : (f : Fault) → r ≡ Err f → SaysRun here st b t (Err f) b₁ t₁
       name-stopped = turn_stopped (name l verb left path₁ (row Name a e) st.names) name-here k
 
 -- ---- what `value` requires holds further on
 
-pub ready-value-on : (file rows months words heads next w by_name by_mark held : List ℕ) (left : ℕ) (w' held' : List ℕ)
-    → ReadyValue file rows months words heads next w by_name by_mark held left → length w' ≡ length w → length held' ≡ length held
-    → ReadyValue file rows months words heads next w' by_name by_mark held' left
-ready-value-on file rows months words heads next w by_name by_mark held left w' held' h e f = record {
-  short = h.short;
-  lent = h.lent;
+pub ready-value-on : (r : Resolver) (w held : List ℕ) (left : ℕ) (w' held' : List ℕ)
+    → ReadyValue r w held left → length w' ≡ length w → length held' ≡ length held
+    → ReadyValue r w' held' left
+ready-value-on r w held left w' held' h e f = record {
   index = h.index;
-  ready = asking.ready_on w by_name by_mark w' h.ready e;
+  scratch = omega (arith, h.scratch, e);
   path = (f ∙ h.path.0, h.path.1);
 }

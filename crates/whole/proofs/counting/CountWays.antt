@@ -6,6 +6,10 @@
 --     count-start, count-value, count-other              `counted_fits`: the beginning, and one row more
 --     count-full, count-end                              where the values so far do not fit, and the end
 -- Assumes nothing.
+use Rattle.values.specs.declared.resolver.Resolver.{Resolver}
+use Rattle.std.specs.Prelude.{Result, Ok, Err}
+use Rattle.row.specs.declared.fault.Fault.{Fault}
+use Rattle.resolve.specs.declared.progress.Progress.{Progress}
 use Prim.Native.Nat.{ℕ, ◌+◌, ◌/◌, ◌≤◌, ◌<◌}
 use native.Mathlib.Omega.{arith}
 use mathlib.Core.Path.{◌≡◌, refl, sym, ap, subst, ◌∙◌}
@@ -17,8 +21,6 @@ use borrow.Author.Tests.{ltb-false, le-ltb, le-leb}
 use Rattle.text.proofs.general.Tests.{true-not-false, both_false}
 use Rattle.literal.specs.Rows.{most_number, most_rows, texts_of}
 use Rattle.lookup.specs.Names.{row_no}
-use Rattle.resolve.specs.declared.progress.Went.{Went}
-use Rattle.resolve.specs.declared.progress.Went.TheVariants as went
 use Rattle.resolve.specs.Resolves.{Value, resolved, refused}
 use Rattle.resolve.specs.Checks.{Lent}
 use Rattle.resolve.specs.Progress.{small, Counted}
@@ -113,24 +115,22 @@ module _ (t : Totals) (n m : ℕ) (over : Bool) where
 
 -- ---- a value that was counted
 
-pub counted-on : (v : Value) (w : Went) → Counted v w → (t r : Totals) → AddsCounted t w r → (vs : List Value) → CountsAll vs t
+pub counted-on : (v : Value) (w : Result Progress Fault) → Counted v w → (t r : Totals) → AddsCounted t w r → (vs : List Value) → CountsAll vs t
     → CountsAll (vs ++ v ∷ []) r
 unfolding small texts_of
-counted-on (resolved cs n) (went.Done st) k t r a vs c = a vs (resolved cs n) c k
-counted-on (resolved cs n) (went.Refused f) k t r a vs c = absurd k
-counted-on (refused g) (went.Done st) k t r a vs c = absurd k
-counted-on (refused g) (went.Refused f) k t r a vs c = a vs (refused g) c (refl, λ _. (refl, refl))
+counted-on (resolved cs n) (Ok st) k t r a vs c = a vs (resolved cs n) c k
+counted-on (resolved cs n) (Err f) k t r a vs c = absurd k
+counted-on (refused g) (Ok st) k t r a vs c = absurd k
+counted-on (refused g) (Err f) k t r a vs c = a vs (refused g) c (refl, λ _. (refl, refl))
 
 -- ---- all of them
 
 -- what counting or writing the value of row i requires
-pub resolving : (file rows flags months words heads next w by_name by_mark : List ℕ) → Filing file rows flags months words heads next w by_name by_mark
-    → (w' : List ℕ) → length w' ≡ length w → (i : ℕ) → i < length rows / 4 → Resolving file rows months words heads next w' by_name by_mark i
-resolving file rows flags months words heads next w by_name by_mark p w' e i h = record {
-  short = p.short;
-  lent = p.lent;
+pub resolving : (r : Resolver) (flags w : List ℕ) → Filing r flags w → (w' : List ℕ) → length w' ≡ length w → (i : ℕ) → i < length r.rows.now / 4
+    → Resolving r i w'
+resolving r flags w p w' e i h = record {
   index = p.index;
-  ready = record { scratch = omega (arith, p.ready.scratch, e); names = p.ready.names; marks = p.ready.marks };
+  scratch = omega (arith, p.scratch, e);
   which = h;
 }
 
@@ -159,7 +159,7 @@ module _ (l : Lent) (flags : List ℕ) where
         pub count-flag : values l.rows ≤ length flags → t.values < length flags
         count-flag h = omega (arith, so-flag l flags i b.vs t below b.so (sym e ∙ y) h, b.so.counts.values)
 
-        pub count-value : (verb : Bool) → verb ≡ flag (drop t.values flags) → (g : Went) → Counted (field_of l verb i) g → (r : Totals)
+        pub count-value : (verb : Bool) → verb ≡ flag (drop t.values flags) → (g : Result Progress Fault) → Counted (field_of l verb i) g → (r : Totals)
             → AddsCounted t g r → CountedTo l flags (i + 1) r
         count-value verb f g k r a =
             let same : verb ≡ flag (drop (length b.vs) flags) = f ∙ ap (λ (n : ℕ). flag (drop n flags)) b.so.counts.values in

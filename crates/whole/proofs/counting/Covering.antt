@@ -6,6 +6,10 @@
 --     cover-other, cover-most, cover-count, cover-end      one row more, by its literals or counted, and the end
 --     cover-fits                                           `fits`
 -- Assumes nothing.
+use Rattle.std.specs.Prelude.{Option, Result, Ok, Err}
+use Rattle.row.specs.declared.fault.Fault.{Fault}
+use Rattle.whole.specs.declared.bound.Most.{Most}
+use Rattle.resolve.specs.declared.progress.Progress.{Progress}
 use Prim.Native.Nat.{ℕ, ◌+◌, ◌/◌, ◌≤◌, ◌<◌}
 use native.Mathlib.Omega.{arith}
 use mathlib.Core.Path.{◌≡◌, refl, sym, ap, subst, ◌∙◌}
@@ -17,13 +21,10 @@ use borrow.Author.Tests.{leb-true, not-true}
 use Rattle.text.proofs.general.Tests.{both_true, true-not-false}
 use Rattle.literal.specs.Rows.{texts_of}
 use Rattle.lookup.specs.Names.{row_no}
-use Rattle.resolve.specs.declared.progress.Went.{Went}
-use Rattle.resolve.specs.declared.progress.Went.TheVariants as went
 use Rattle.resolve.specs.Resolves.{Value, resolved, refused}
 use Rattle.resolve.specs.Checks.{Lent}
 use Rattle.resolve.specs.Progress.{Counted}
 use Rattle.values.specs.Field.{field_of}
-use Rattle.whole.specs.declared.bound.Most.{Most}
 use Rattle.whole.specs.declared.file.Totals.{Totals}
 use Rattle.whole.specs.WholeFile.{is_value_row, flag, values, results, fits_all}
 use Rattle.whole.specs.Filing.{BoundedTotals, CountsAll}
@@ -60,14 +61,14 @@ module _ (t : Totals) (n m : ℕ) (over : Bool) where
 
 -- ---- a value that was counted
 
-covered-on : (v : Value) (w : Went) → Counted v w → (t r : Totals) → CoversCounted t w r → (vs : List Value) → CoversAll vs t
+covered-on : (v : Value) (w : Result Progress Fault) → Counted v w → (t r : Totals) → CoversCounted t w r → (vs : List Value) → CoversAll vs t
     → CoversAll (vs ++ v ∷ []) r
 unfolding texts_of
-covered-on (resolved cs n) (went.Done st) k t r a vs c =
+covered-on (resolved cs n) (Ok st) k t r a vs c =
     a vs (resolved cs n) c (λ o. (omega (arith, (k.1 o).0), omega (arith, (k.1 o).1)))
-covered-on (resolved cs n) (went.Refused f) k t r a vs c = absurd k
-covered-on (refused g) (went.Done st) k t r a vs c = absurd k
-covered-on (refused g) (went.Refused f) k t r a vs c = a vs (refused g) c (λ _. (omega arith, omega arith))
+covered-on (resolved cs n) (Err f) k t r a vs c = absurd k
+covered-on (refused g) (Ok st) k t r a vs c = absurd k
+covered-on (refused g) (Err f) k t r a vs c = a vs (refused g) c (λ _. (omega arith, omega arith))
 
 -- ---- all of them
 
@@ -107,11 +108,11 @@ module _ (l : Lent) (flags : List ℕ) where
           covers = c;
         }
 
-        pub cover-most : (u : Most) → UseAtMost l u → (n m : ℕ) → AtMost u (drop (i + 1) l.rows) n m → (r : Totals) → CoversTo t n m false r
+        pub cover-most : (u : Option Most) → UseAtMost l u → (n m : ℕ) → AtMost u (drop (i + 1) l.rows) n m → (r : Totals) → CoversTo t n m false r
             → Covered l flags (i + 1) r
         cover-most u k n m h r a = cover_one r (a b.vs v b.covers (λ _. field-under u l k (flag (drop (length b.vs) flags)) i n m h))
 
-        pub cover-count : (verb : Bool) → verb ≡ flag (drop t.values flags) → (g : Went) → Counted (field_of l verb i) g → (r : Totals)
+        pub cover-count : (verb : Bool) → verb ≡ flag (drop t.values flags) → (g : Result Progress Fault) → Counted (field_of l verb i) g → (r : Totals)
             → CoversCounted t g r → Covered l flags (i + 1) r
         cover-count verb f g k r a =
             let same : verb ≡ flag (drop (length b.vs) flags) = f ∙ ap (λ (n : ℕ). flag (drop n flags)) b.covers.values in

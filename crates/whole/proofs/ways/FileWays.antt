@@ -5,6 +5,8 @@
 --     refuse, refuse-as, writes_as                      what the call then writes
 --     CallAsks, asked_of                                what is so of a call that is not refused
 -- Assumes nothing.
+use Rattle.std.specs.Prelude.{Result, Ok, Err, ⊤}
+use Rattle.whole.specs.declared.file.Filed.{Filed}
 use Prim.Native.Nat.{ℕ, ◌/◌, ◌≤◌, ◌<◌}
 use native.Mathlib.Omega.{arith}
 use mathlib.Core.Path.{◌≡◌, refl, sym, ap, subst, ◌∙◌}
@@ -19,12 +21,8 @@ use Rattle.row.specs.declared.fault.Reason.TheVariants.{NoRoom, BadRows}
 use Rattle.row.specs.Fault.{nowhere}
 use Rattle.row.specs.Numbers.{rows_of}
 use Rattle.row.specs.Limits.{least_scratch}
-use Rattle.chunk.specs.declared.answer.Checked.{Checked}
-use Rattle.chunk.specs.declared.answer.Checked.TheVariants as checked
 use Rattle.resolve.specs.Resolves.{Value, checked_file}
 use Rattle.resolve.specs.Checks.{are_lent, lent_of}
-use Rattle.whole.specs.declared.file.Filed.{Filed}
-use Rattle.whole.specs.declared.file.Filed.TheVariants as filed
 use Rattle.whole.specs.declared.file.Totals.{Totals}
 use Rattle.whole.specs.WholeFile.{values, results, texts, count_rows, small_all, fits_all, All, all, none, after_all, are_filed, all_of, WritesAll}
 use Rattle.whole.specs.Filing.{CountsAll, WroteAll}
@@ -44,11 +42,11 @@ fits_told t q b x vs k = by t.over refl
         (and_assoc (leb (length vs) (length q / 6)) (leb (count_rows vs) (length b / 5)) (leb (length (texts vs)) (length x)))
 
 module _ (vs : List Value) (q b x : List ℕ) where
-  pub file-full : fits_all vs q b x ≡ false → WritesAll (all vs) q b x (filed.Refused (nowhere NoRoom)) q b x
+  pub file-full : fits_all vs q b x ≡ false → WritesAll (all vs) q b x (Err (nowhere NoRoom)) q b x
   file-full e = record { answer = rw e; answers = rw e; chunks = rw e; text = rw e }
 
   pub file-wrote : (t : Totals) (q' b' x' : List ℕ) → CountsAll vs t → fits_all vs q b x ≡ true → WroteAll vs q b x q' b' x'
-      → WritesAll (all vs) q b x (filed.Values t.values t.rows t.bytes) q' b' x'
+      → WritesAll (all vs) q b x (Ok (record { values = t.values; rows = t.rows; bytes = t.bytes })) q' b' x'
   file-wrote t q' b' x' k e w =
       let r = fits-room vs q b x e in
       let o : t.over ≡ false = k.over ∙ (rw (counts-small vs r.few r.short)) in
@@ -61,21 +59,21 @@ module _ (vs : List Value) (q b x : List ℕ) where
 
 -- ---- what the call comes to
 
-pub writes_as : {a a' : All} {q b x : List ℕ} {r : Filed} {q' b' x' : List ℕ} → a ≡ a' → WritesAll a q b x r q' b' x' → WritesAll a' q b x r q' b' x'
+pub writes_as : {a a' : All} {q b x : List ℕ} {r : Result Filed Fault} {q' b' x' : List ℕ} → a ≡ a' → WritesAll a q b x r q' b' x' → WritesAll a' q b x r q' b' x'
 writes_as {q} {b} {x} {r} {q'} {b'} {x'} e w = subst (λ (z : All). WritesAll z q b x r q' b' x') e w
 
-none-writes : (f : Fault) (q b x : List ℕ) → WritesAll (none f) q b x (filed.Refused f) q b x
+none-writes : (f : Fault) (q b x : List ℕ) → WritesAll (none f) q b x (Err f) q b x
 none-writes f q b x = record { answer = refl; answers = refl; chunks = refl; text = refl }
 
-pub refuse : (a : All) (f : Fault) (q b x : List ℕ) → a ≡ none f → WritesAll a q b x (filed.Refused f) q b x
+pub refuse : (a : All) (f : Fault) (q b x : List ℕ) → a ≡ none f → WritesAll a q b x (Err f) q b x
 refuse a f q b x e = writes_as (sym e) (none-writes f q b x)
 
-pub refuse-as : {a : All} {f : Fault} (r : Filed) → r ≡ filed.Refused f → (q b x : List ℕ) → a ≡ none f → WritesAll a q b x r q b x
-refuse-as {a} {f} r k q b x e = subst (λ (z : Filed). WritesAll a q b x z q b x) (sym k) (refuse a f q b x e)
+pub refuse-as : {a : All} {f : Fault} (r : Result Filed Fault) → r ≡ Err f → (q b x : List ℕ) → a ≡ none f → WritesAll a q b x r q b x
+refuse-as {a} {f} r k q b x e = subst (λ (z : Result Filed Fault). WritesAll a q b x z q b x) (sym k) (refuse a f q b x e)
 
 -- ---- the checks
 
-module _ (file rows flags months words : List ℕ) (w : ℕ) (k : Checked) (c : k ≡ checked_file file) where
+module _ (file rows flags months words : List ℕ) (w : ℕ) (k : Result ⊤ Fault) (c : k ≡ checked_file file) where
   -- the rest, where the file passes
   abbrev rest : All
   rest =
@@ -83,12 +81,12 @@ module _ (file rows flags months words : List ℕ) (w : ℕ) (k : Checked) (c : 
       (cond (leb least_scratch w) (all (results (lent_of file rows months words) flags)) (none (nowhere NoRoom)))
       (none (nowhere BadRows))
 
-  pub all-file : (f : Fault) → k ≡ checked.Refused f → all_of file rows flags months words w ≡ none f
-  all-file f e = ap (λ (z : Checked). after_all z rest) (sym c ∙ e)
+  pub all-file : (f : Fault) → k ≡ Err f → all_of file rows flags months words w ≡ none f
+  all-file f e = ap (λ (z : Result ⊤ Fault). after_all z rest) (sym c ∙ e)
 
-  module _ (passed : k ≡ checked.Passed) (lent : Bool) (n : ℕ) (le : lent ≡ are_lent file rows months words) (ne : n ≡ values (rows_of rows)) where
+  module _ (passed : k ≡ Ok tt) (lent : Bool) (n : ℕ) (le : lent ≡ are_lent file rows months words) (ne : n ≡ values (rows_of rows)) where
     after-file : all_of file rows flags months words w ≡ rest
-    after-file = ap (λ (z : Checked). after_all z rest) (sym c ∙ passed)
+    after-file = ap (λ (z : Result ⊤ Fault). after_all z rest) (sym c ∙ passed)
 
     filed-as : (lent && leb n (length flags)) ≡ are_filed file rows flags months words
     unfolding are_filed
@@ -127,7 +125,7 @@ values_in (none f) = []
 
 -- what has been checked where the call is not refused
 pub record CallAsks (file rows flags months words : List ℕ) (w : ℕ) (vs : List Value) : Type 0 where
-  pub passed : checked_file file ≡ checked.Passed
+  pub passed : checked_file file ≡ (Ok tt)
   pub lent : are_lent file rows months words ≡ true
   pub room : leb least_scratch w ≡ true
   pub values-are : results (lent_of file rows months words) flags ≡ vs
@@ -138,12 +136,12 @@ unfolding are_filed
 asked_of file rows flags months words w vs =
     by (checked_file file) (are_filed file rows flags months words) (leb least_scratch w) (nowhere NoRoom) (nowhere BadRows) refl refl refl
   where
-    by : (x : Checked) (good room : Bool) (f g : Fault) → checked_file file ≡ x → are_filed file rows flags months words ≡ good
+    by : (x : Result ⊤ Fault) (good room : Bool) (f g : Fault) → checked_file file ≡ x → are_filed file rows flags months words ≡ good
         → leb least_scratch w ≡ room
         → after_all x (cond good (cond room (all (results (lent_of file rows months words) flags)) (none f)) (none g)) ≡ all vs
         → CallAsks file rows flags months words w vs
-    by checked.Passed true true f g p q r e =
+    by (Ok tt) true true f g p q r e =
         record { passed = p; lent = (both_true (are_lent file rows months words) _ q).0; room = r; values-are = ap values_in e }
-    by checked.Passed true false f g p q r e = absurd (omega (arith, ap is_all e))
-    by checked.Passed false room f g p q r e = absurd (omega (arith, ap is_all e))
-    by (checked.Refused y) good room f g p q r e = absurd (omega (arith, ap is_all e))
+    by (Ok tt) true false f g p q r e = absurd (omega (arith, ap is_all e))
+    by (Ok tt) false room f g p q r e = absurd (omega (arith, ap is_all e))
+    by (Err y) good room f g p q r e = absurd (omega (arith, ap is_all e))

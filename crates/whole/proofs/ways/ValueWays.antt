@@ -5,6 +5,9 @@
 --     wrote-row, row_other         what is written when the row is done
 --     wrote-start, wrote-end       before the first row and behind the last: `write`
 -- Assumes nothing.
+use Rattle.values.specs.declared.resolver.Resolver.{Resolver}
+use Rattle.std.specs.Prelude.{Result, Ok, Err}
+use Rattle.resolve.specs.declared.answer.Chunks.{Chunks}
 use Prim.Native.Nat.{ℕ, ◌+◌, ◌-◌, ◌*◌, ◌/◌, ◌≤◌, ◌<◌}
 use native.Mathlib.Omega.{arith}
 use mathlib.Core.Path.{◌≡◌, refl, sym, ap, subst, ◌∙◌}
@@ -20,8 +23,6 @@ use Rattle.row.specs.declared.fault.Fault.{Fault}
 use Rattle.row.specs.Fault.{number_of}
 use Rattle.row.specs.Numbers.{rows_of}
 use Rattle.lookup.specs.Names.{row_no}
-use Rattle.resolve.specs.declared.answer.Answer.{Answer}
-use Rattle.resolve.specs.declared.answer.Answer.TheVariants as answer
 use Rattle.resolve.specs.Resolves.{Value, resolved, refused, fits, Writes}
 use Rattle.resolve.specs.Checks.{Lent, lent_of}
 use Rattle.resolve.specs.Progress.{small}
@@ -37,12 +38,12 @@ use Rattle.whole.proofs.ways.LentParts.{mid-rest, put_rest, put-behind, sets_beh
 
 -- ---- a value that has room
 
-abbrev told_of : Value → Answer
-told_of (resolved cs n) = answer.Chunks (length cs) (length (texts_of cs)) n
-told_of (refused f) = answer.Refused f
+abbrev told_of : Value → Result Chunks Fault
+told_of (resolved cs n) = Ok (record { rows = length cs; bytes = length (texts_of cs); names = n })
+told_of (refused f) = Err f
 
 -- the value's rows and text stand in front of what the lent numbers b and bytes t held
-pub record One (v : Value) (b t : List ℕ) (a : Answer) (b' t' : List ℕ) : Type 0 where
+pub record One (v : Value) (b t : List ℕ) (a : Result Chunks Fault) (b' t' : List ℕ) : Type 0 where
   pub told : a ≡ told_of v
   pub rows : b' ≡ flat_chunks (rows_from 0 (chunks_in v)) ++ drop (length (chunks_in v) * 5) b
   pub text : t' ≡ texts_of (chunks_in v) ++ drop (length (texts_of (chunks_in v))) t
@@ -55,7 +56,7 @@ fits-is : (cs : List Chunk) (b t : List ℕ) → length (texts_of cs) ≤ most_n
     → fits cs b t ≡ true
 fits-is cs b t k n m = rw (le-leb (length (texts_of cs)) most_number k, le-leb (length cs) (length b / 5) n, le-leb (length (texts_of cs)) (length t) m)
 
-pub one-is : (v : Value) (b t : List ℕ) (a : Answer) (b' t' : List ℕ) → Writes v b t a b' t'
+pub one-is : (v : Value) (b t : List ℕ) (a : Result Chunks Fault) (b' t' : List ℕ) → Writes v b t a b' t'
     → length (texts_of (chunks_in v)) ≤ most_number → length (chunks_in v) ≤ length b / 5 → length (texts_of (chunks_in v)) ≤ length t
     → One v b t a b' t'
 unfolding flat_chunks rows_from texts_of
@@ -132,7 +133,7 @@ module _ (l : Lent) (flags : List ℕ) (i : ℕ) (t : Totals) (q b x : List ℕ)
     value_as : (f : Bool) → f ≡ flag (drop t.values flags) → field_of l f i ≡ value_of l flags i vs
     value_as f e = ap (λ (z : Bool). field_of l z i) (e ∙ ap (λ (n : ℕ). flag (drop n flags)) s.counts.values)
 
-    module _ (f : Bool) (fe : f ≡ flag (drop t.values flags)) (a : Answer) (b' x' : List ℕ)
+    module _ (f : Bool) (fe : f ≡ flag (drop t.values flags)) (a : Result Chunks Fault) (b' x' : List ℕ)
         (w : Writes (field_of l f i) (mid_of (t.rows * 5) (length b - t.rows * 5) b) (mid_of t.bytes (length x - t.bytes) x) a b' x') where
       abbrev v : Value
       v = value_of l flags i vs
@@ -166,7 +167,7 @@ module _ (l : Lent) (flags : List ℕ) (i : ℕ) (t : Totals) (q b x : List ℕ)
             small_is (chunks_in v) (omega (arith, z.0, m.few)) (omega (arith, z.1, m.short))
 
         counted : CountsAll (vs ++ v ∷ []) r
-        counted = adds_one t r vs v s.counts small_one (subst (λ (u : Answer). AddsAnswer t u r) one.told g)
+        counted = adds_one t r vs v s.counts small_one (subst (λ (u : Result Chunks Fault). AddsAnswer t u r) one.told g)
 
         answers-on : sets q (t.values * 6) (six_of t a) ≡ answer_numbers 0 0 (vs ++ v ∷ []) ++ drop (length (vs ++ v ∷ []) * 6) q₀
         answers-on =
@@ -228,12 +229,12 @@ row_other l flags i t below n q b x q₀ b₀ x₀ o = record { vs = o.vs; so = 
 
 -- ---- the answer row
 
-module _ (t : Totals) (a : Answer) where
-  pub six-refused : (f : Fault) → a ≡ answer.Refused f → (n s e : ℕ) → n ≡ number_of f.reason → s ≡ f.start → e ≡ f.end
+module _ (t : Totals) (a : Result Chunks Fault) where
+  pub six-refused : (f : Fault) → a ≡ Err f → (n s e : ℕ) → n ≡ number_of f.reason → s ≡ f.start → e ≡ f.end
       → (n ∷ 0 ∷ s ∷ e ∷ 0 ∷ 0 ∷ []) ≡ six_of t a
   six-refused f k n s e hn hs he = rw (k, hn, hs, he)
 
-  pub six-chunks : (n m names : ℕ) → a ≡ answer.Chunks n m names → (k u v x y : ℕ) → k ≡ names → u ≡ t.rows → v ≡ t.rows + n → x ≡ t.bytes
+  pub six-chunks : (n m names : ℕ) → a ≡ Ok (record { rows = n; bytes = m; names = names }) → (k u v x y : ℕ) → k ≡ names → u ≡ t.rows → v ≡ t.rows + n → x ≡ t.bytes
       → y ≡ t.bytes + m → (0 ∷ k ∷ u ∷ v ∷ x ∷ y ∷ []) ≡ six_of t a
   six-chunks n m names e k u v x y hk hu hv hx hy = rw (e, hk, hu, hv, hx, hy)
 
@@ -251,13 +252,13 @@ module _ (file rows flags months words : List ℕ) (i : ℕ) (t : Totals) (q b x
   pub here-row : values (rows_of rows) ≤ length flags → CountedTo l flags i t → Here t flags q b x
   here-row h s = here-by l flags i t q b x (inside rows i below) is-value fit s.vs s.so h
 
-  pub behind-row : CountedTo l flags i t → (f : Bool) → f ≡ flag (drop t.values flags) → (a : Answer) (b' x' : List ℕ)
+  pub behind-row : CountedTo l flags i t → (f : Bool) → f ≡ flag (drop t.values flags) → (a : Result Chunks Fault) (b' x' : List ℕ)
       → Writes (field_of l f i) (mid_of (t.rows * 5) (length b - t.rows * 5) b) (mid_of t.bytes (length x - t.bytes) x) a b' x'
       → FitsBehind t a
   behind-row s f fe a b' x' w =
       row-behind-by l flags i t q b x (inside rows i below) is-value fit s.vs s.so f fe a b' x' w
 
-  pub wrote-row : (f : Bool) → f ≡ flag (drop t.values flags) → (a : Answer) (b' x' : List ℕ)
+  pub wrote-row : (f : Bool) → f ≡ flag (drop t.values flags) → (a : Result Chunks Fault) (b' x' : List ℕ)
       → Writes (field_of l f i) (mid_of (t.rows * 5) (length b - t.rows * 5) b) (mid_of t.bytes (length x - t.bytes) x) a b' x'
       → (t' : Totals) → AddsAnswer t a t' → (q' : List ℕ) → q' ≡ sets q (t.values * 6) (six_of t a) → (q₀ b₀ x₀ : List ℕ)
       → WroteTo l flags i q₀ b₀ x₀ t q b x
@@ -269,16 +270,12 @@ module _ (file rows flags months words : List ℕ) (i : ℕ) (t : Totals) (q b x
 
 -- ---- the loop
 
-pub filing-on : (file rows flags months words heads next w by_name by_mark w' : List ℕ) → Filing file rows flags months words heads next w by_name by_mark
-    → length w' ≡ length w → Filing file rows flags months words heads next w' by_name by_mark
-filing-on file rows flags months words heads next w by_name by_mark w' f e =
-    record {
-      short = f.short;
-      lent = f.lent;
-      index = f.index;
-      ready = record { scratch = omega (arith, f.ready.scratch); names = f.ready.names; marks = f.ready.marks };
-      flagged = f.flagged;
-    }
+pub filing-on : (r : Resolver) (flags w w' : List ℕ) → Filing r flags w → length w' ≡ length w → Filing r flags w'
+filing-on r flags w w' p e = record {
+  index = p.index;
+  scratch = omega (arith, p.scratch, e);
+  flagged = p.flagged;
+}
 
 pub wrote-start : (l : Lent) (flags : List ℕ) (t : Totals) (q b x : List ℕ) → CountsAll [] t → WroteTo l flags 0 q b x t q b x
 unfolding answer_numbers chunk_numbers texts count_rows

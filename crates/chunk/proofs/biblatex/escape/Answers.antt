@@ -1,6 +1,5 @@
 -- `chunk::biblatex::escape` meets its contract. Assumes nothing.
-use native.Mathlib.Omega.{arith}
-use mathlib.Core.Path.{sym, ◌∙◌}
+use Rattle.std.proofs.Common.{arith, sym, ◌∙◌}
 use Rattle.chunk.proofs.texts.Puts.{puts-on, puts-as}
 use Rattle.chunk.proofs.texts.Escapes.{escape-some, escape-none}
 use Rattle.chunk.proofs.biblatex.escape.Goals as goal

@@ -1,8 +1,5 @@
 -- `chunk::biblatex::escaped` meets its contract. Assumes nothing.
-use Prim.Native.Nat.{◌<◌}
-use native.Mathlib.Omega.{arith}
-use mathlib.Core.Path.{◌≡◌, refl, ◌∙◌}
-use lib.ListN.{length}
+use Rattle.std.proofs.Common.{◌<◌, arith, ◌≡◌, refl, ◌∙◌, length}
 use Rattle.chunk.proofs.texts.Escapes as laws
 use Rattle.chunk.proofs.biblatex.escaped.Goals as goal
 
@@ -11,9 +8,6 @@ loop-i-init c =
     let a = c.args in
     (laws.escaped-start a.verb a.t.now a.from a.out.now a.at, omega arith, c.requires.0, omega arith, refl)
 
-pub escape-j-requires : goal.escape-j-requires
-escape-j-requires c = omega arith
-
 pub loop-i-preserved : goal.loop-i-preserved
 loop-i-preserved c =
     let a = c.args in
@@ -21,9 +15,6 @@ loop-i-preserved c =
     let inside : b.i < length a.t.now = omega (arith, c.loop-i-test.true, c.requires.1) in
     let put = laws.escaped-on a.verb a.t.now a.from b.invariant.1 inside b.invariant.0 c.escape-j.ensures.puts in
     (put, omega arith, omega arith, omega (arith, c.escape-j.ensures.upper_bound, b.invariant.3), c.escape-j.auto.out ∙ b.invariant.4)
-
-pub shape_of-out : goal.shape_of-out
-shape_of-out c = c.loop-i.invariant.4
 
 pub returns : goal.returns
 returns c =

@@ -1,7 +1,5 @@
 -- The invariants of `chunk::biblatex::escaped`.
-use Prim.Native.Nat.{◌+◌, ◌*◌, ◌-◌, ◌≤◌}
-use mathlib.Core.Path.{◌≡◌}
-use lib.ListN.{length}
+use Rattle.std.proofs.Common.{◌+◌, ◌*◌, ◌-◌, ◌≤◌, ◌≡◌, length}
 use Rattle.text.specs.Scan.{part}
 use Rattle.chunk.specs.Format.{escaped}
 use Rattle.chunk.specs.Put.{Puts}

@@ -1,6 +1,5 @@
 -- `chunk::biblatex::put_body` meets its contract. Assumes nothing.
-use native.Mathlib.Omega.{arith}
-use mathlib.Core.Path.{sym, ap}
+use Rattle.std.proofs.Common.{arith, sym, ap}
 use Rattle.text.specs.Scan.{part}
 use Rattle.chunk.specs.declared.form.Kind.{Kind}
 use Rattle.chunk.specs.Format.{body_of}

@@ -1,6 +1,5 @@
 -- `chunk::biblatex::put_closing` meets its contract. Assumes nothing.
-use native.Mathlib.Omega.{arith}
-use mathlib.Core.Path.{sym, ap}
+use Rattle.std.proofs.Common.{arith, sym, ap}
 use Rattle.chunk.specs.Format.{closing}
 use Rattle.chunk.proofs.texts.Puts.{puts-on, puts-as}
 use Rattle.chunk.proofs.biblatex.put_closing.Goals as goal

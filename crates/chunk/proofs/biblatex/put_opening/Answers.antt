@@ -1,6 +1,5 @@
 -- `chunk::biblatex::put_opening` meets its contract. Assumes nothing.
-use native.Mathlib.Omega.{arith}
-use mathlib.Core.Path.{sym, ap, ap₂}
+use Rattle.std.proofs.Common.{arith, sym, ap, ap₂}
 use Rattle.chunk.specs.Format.{opening}
 use Rattle.chunk.proofs.texts.Puts.{puts_none, puts-as}
 use Rattle.chunk.proofs.biblatex.put_opening.Goals as goal

@@ -1,6 +1,5 @@
 -- `chunk::biblatex::write_all` meets its contract. Assumes nothing.
-use native.Mathlib.Omega.{arith}
-use mathlib.Core.Path.{refl, ◌∙◌}
+use Rattle.std.proofs.Common.{arith, refl, ◌∙◌}
 use Rattle.chunk.proofs.rows.RowCheck.{five}
 use Rattle.chunk.proofs.passes.Passes.{row_here}
 use Rattle.chunk.proofs.passes.PassTurns as laws
@@ -13,9 +12,6 @@ loop-i-init c =
 
 pub row_at-row-requires : goal.row_at-row-requires
 row_at-row-requires c = five c.loop-i.invariant.0.checks c.loop-i-test.true
-
-pub put_opening-next-requires : goal.put_opening-next-requires
-put_opening-next-requires c = omega (arith, c.loop-i.invariant.1, c.requires.1)
 
 pub put_body-at-requires : goal.put_body-at-requires
 put_body-at-requires c =
@@ -38,24 +34,12 @@ returns-then-room-at c =
     let now = read c.put_opening-next.ensures.puts c.put_body-at.ensures.puts refl (c.put_body-at.auto.out ∙ c.put_opening-next.auto.out) in
     laws.write-more verb now c.put-at.ensures.puts c.if-room-at.true
 
-pub overflow_add-i : goal.overflow_add-i
-overflow_add-i c = omega arith
-
-pub loop-i-smaller : goal.loop-i-smaller
-loop-i-smaller c = omega arith
-
 pub loop-i-preserved : goal.loop-i-preserved
 loop-i-preserved c =
     let row = laws.row_of c.kind_from-kind.ensures c.row_at-row.ensures in
     let read = laws.write-turn c.args.verb c.loop-i.invariant.0 c.requires.0 c.loop-i-test.true row in
     let now = read c.put_opening-next.ensures.puts c.put_body-at.ensures.puts c.extra_after-extra.ensures (c.put_body-at.auto.out ∙ c.put_opening-next.auto.out) in
     (now, omega (arith, c.if-room-at.false))
-
-pub put_closing-requires : goal.put_closing-requires
-put_closing-requires c = omega (arith, c.loop-i.invariant.1, c.requires.1)
-
-pub shape_of-out : goal.shape_of-out
-shape_of-out c = c.put_closing.auto.out ∙ (c.loop-i.invariant.0.long ∙ c.put-at.auto.out)
 
 pub returns : goal.returns
 returns c =

@@ -1,5 +1,5 @@
 -- `chunk::check::are_chunks` meets its contract. Assumes nothing.
-use mathlib.Core.Path.{sym, ◌∙◌}
+use Rattle.std.proofs.Common.{sym, ◌∙◌}
 use Rattle.chunk.proofs.rows.RowCheck as laws
 use Rattle.chunk.proofs.check.are_chunks.Goals as goal
 

@@ -1,6 +1,5 @@
 -- The invariants of `chunk::check::are_chunks`.
-use Prim.Native.Nat.{◌-◌}
-use lib.ListN.{length}
+use Rattle.std.proofs.Common.{◌-◌, length}
 use Rattle.chunk.proofs.rows.RowCheck as laws
 use Rattle.chunk.proofs.check.are_chunks.Given as goal
 

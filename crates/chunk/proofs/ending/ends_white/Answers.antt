@@ -1,10 +1,7 @@
 -- `chunk::ending::ends_white` meets its contract. Assumes nothing.
-use mathlib.Core.Path.{◌∙◌}
-use Rattle.chunk.proofs.texts.LastCharacter.{last_less, white-none, white-last, white-ascii}
+use Rattle.std.proofs.Common.{◌∙◌}
+use Rattle.chunk.proofs.texts.LastCharacter.{last_less, white-last, white-ascii}
 use Rattle.chunk.proofs.ending.ends_white.Goals as goal
-
-pub returns-then-to-from : goal.returns-then-to-from
-returns-then-to-from c = let a = c.args in white-none a.t.now a.from a.to c.if-to-from.true c.requires.0
 
 pub returns-then-b-lt128 : goal.returns-then-b-lt128
 returns-then-b-lt128 c =

@@ -1,8 +1,5 @@
 -- `chunk::ending::last_at` meets its contract. Assumes nothing.
-use Prim.Native.Nat.{ℕ, ◌+◌, ◌-◌, ◌≤◌}
-use native.Mathlib.Omega.{arith}
-use mathlib.Core.Path.{◌≡◌, sym, ap, ◌∙◌}
-use lib.ListN.{length}
+use Rattle.std.proofs.Common.{ℕ, ◌+◌, ◌-◌, ◌≤◌, arith, ◌≡◌, sym, ap, ◌∙◌, length}
 use Rattle.chunk.proofs.texts.LastCharacter as laws
 use Rattle.chunk.proofs.ending.last_at.Goals as goal
 

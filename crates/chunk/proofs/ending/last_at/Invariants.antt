@@ -1,6 +1,5 @@
 -- The invariants of `chunk::ending::last_at`.
-use Prim.Native.Nat.{◌≤◌}
-use mathlib.Core.Path.{◌≡◌}
+use Rattle.std.proofs.Common.{◌≤◌, ◌≡◌}
 use Rattle.text.specs.Scan.{part}
 use Rattle.chunk.specs.Format.{last_at}
 use Rattle.chunk.proofs.ending.last_at.Given as goal

@@ -1,9 +1,5 @@
 -- `chunk::ending::line_end` meets its contract. Assumes nothing.
-use Prim.Native.Nat.{◌<◌}
-use native.Mathlib.Omega.{arith}
-use mathlib.Core.Path.{sym, ◌∙◌}
-use lib.ListN.{length}
-use lib.Seq.{length-take-le}
+use Rattle.std.proofs.Common.{◌<◌, arith, sym, ◌∙◌, length, length-take-le}
 use Rattle.chunk.proofs.texts.LineEnds as laws
 use Rattle.chunk.proofs.ending.line_end.Goals as goal
 

@@ -1,7 +1,5 @@
 -- The invariants of `chunk::ending::line_end`.
-use Prim.Native.Nat.{◌-◌, ◌≤◌}
-use mathlib.Core.Path.{◌≡◌}
-use mathlib.Core.Bool.{true}
+use Rattle.std.proofs.Common.{◌-◌, ◌≤◌, ◌≡◌, true}
 use Rattle.text.specs.Scan.{part}
 use Rattle.chunk.specs.Inner.{plain}
 use Rattle.chunk.proofs.ending.line_end.Given as goal

@@ -1,27 +1,13 @@
 -- `chunk::form::write_chunk` meets its contract. Assumes nothing.
-use native.Mathlib.Omega.{arith}
-use lib.ListN.{length-set}
 use Rattle.chunk.specs.Chunk.{kind_of, chunk_row}
 use Rattle.chunk.proofs.rows.ChunkRows.{put-sets, put-out}
 use Rattle.chunk.proofs.form.write_chunk.Goals as goal
-
-pub bounds-rows-i-then-n-rows : goal.bounds-rows-i-then-n-rows
-bounds-rows-i-then-n-rows c = simp length-set (omega arith)
-
-pub bounds-rows-i-then-n-rows-2 : goal.bounds-rows-i-then-n-rows-2
-bounds-rows-i-then-n-rows-2 c = simp length-set (omega arith)
-
-pub bounds-rows-i-then-n-rows-3 : goal.bounds-rows-i-then-n-rows-3
-bounds-rows-i-then-n-rows-3 c = simp length-set (omega arith)
-
-pub bounds-rows-i-then-n-rows-4 : goal.bounds-rows-i-then-n-rows-4
-bounds-rows-i-then-n-rows-4 c = simp length-set (omega arith)
 
 pub returns-then-n-rows : goal.returns-then-n-rows
 returns-then-n-rows c =
     let a = c.args in
     let row = chunk_row (kind_of a.kind) a.from a.to a.start a.end in
-    rw c.kind_number-number.ensures (put-sets a.rows.now a.n row c.if-n-rows.true)
+    rw c.from-number.ensures (put-sets a.rows.now a.n row c.if-n-rows.true)
 
 pub returns-else-n-rows : goal.returns-else-n-rows
 returns-else-n-rows c =

@@ -1,6 +1,5 @@
 -- `chunk::format::format_all` meets its contract. Assumes nothing.
-use native.Mathlib.Omega.{arith}
-use mathlib.Core.Path.{◌∙◌}
+use Rattle.std.proofs.Common.{arith}
 use Rattle.chunk.proofs.rows.RowCheck.{five}
 use Rattle.chunk.proofs.passes.Passes.{row_here}
 use Rattle.chunk.proofs.passes.PassTurns as laws
@@ -22,29 +21,17 @@ format_one-next-requires c =
     let fit = row_here g.0.checks p.0 c.loop-i-test.true row in
     (fit.0, fit.1, omega (arith, row.small, g.1, p.1))
 
-pub shape_of-out-then-room-next : goal.shape_of-out-then-room-next
-shape_of-out-then-room-next c = c.format_one-next.auto.out ∙ c.loop-i.invariant.0.long
-
 pub returns-then-room-next : goal.returns-then-room-next
 returns-then-room-next c =
     let row = laws.row_of c.kind_from-kind.ensures c.row_at-row.ensures in
     let read = laws.format-turn c.loop-i.invariant.0 c.requires.0 c.loop-i-test.true row in
     laws.format-more (read c.format_one-next.ensures.puts c.format_one-next.ensures.white_value.0 c.format_one-next.auto.out) c.if-room-next.true
 
-pub overflow_add-i : goal.overflow_add-i
-overflow_add-i c = omega arith
-
-pub loop-i-smaller : goal.loop-i-smaller
-loop-i-smaller c = omega arith
-
 pub loop-i-preserved : goal.loop-i-preserved
 loop-i-preserved c =
     let row = laws.row_of c.kind_from-kind.ensures c.row_at-row.ensures in
     let read = laws.format-turn c.loop-i.invariant.0 c.requires.0 c.loop-i-test.true row in
     (read c.format_one-next.ensures.puts c.format_one-next.ensures.white_value.0 c.format_one-next.auto.out, c.if-room-next.false)
-
-pub shape_of-out : goal.shape_of-out
-shape_of-out c = c.loop-i.invariant.0.long
 
 pub returns : goal.returns
 returns c = laws.format-done c.loop-i.invariant.0 c.requires.0 c.loop-i-test.false

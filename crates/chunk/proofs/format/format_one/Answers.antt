@@ -1,21 +1,10 @@
 -- `chunk::format::format_one` meets its contract. Assumes nothing.
-use native.Mathlib.Omega.{arith}
-use mathlib.Core.Path.{sym, ap, ◌∙◌}
+use Rattle.std.proofs.Common.{arith, sym, ap, ◌∙◌}
 use Rattle.text.specs.Scan.{part}
 use Rattle.chunk.specs.declared.form.Kind.{Kind}
 use Rattle.chunk.specs.Format.{Written, format_one}
 use Rattle.chunk.proofs.texts.Puts.{puts-on, puts-as}
 use Rattle.chunk.proofs.format.format_one.Goals as goal
-
-pub copy-last-requires : goal.copy-last-requires
-copy-last-requires c =
-    let p = c.requires in
-    (p.0, p.1, omega (arith, c.put-first.ensures.value, p.2))
-
-pub put-end-requires : goal.put-end-requires
-put-end-requires c =
-    let p = c.requires in
-    omega (arith, c.copy-last.ensures.from_value, c.put-first.ensures.value, p.0, p.2)
 
 pub returns-in-Normal : goal.returns-in-Normal
 returns-in-Normal c =

@@ -1,8 +1,5 @@
 -- `chunk::format::lines` meets its contract. Assumes nothing.
-use Prim.Native.Nat.{ℕ}
-use native.Mathlib.Omega.{arith}
-use mathlib.Core.Path.{◌≡◌, subst}
-use mathlib.Core.Bool.{true}
+use Rattle.std.proofs.Common.{ℕ, arith, ◌≡◌, subst, true}
 use Rattle.text.specs.Scan.{part}
 use Rattle.chunk.specs.Inner.{stops}
 use Rattle.chunk.proofs.texts.LineEnds as laws
@@ -12,9 +9,6 @@ pub loop-i-init : goal.loop-i-init
 loop-i-init c =
     let a = c.args in
     laws.lining a.t.now a.from a.to a.white a.out.now a.at c.requires.0
-
-pub line_end-n-requires : goal.line_end-n-requires
-line_end-n-requires c = (omega (arith, c.loop-i-test.true), c.requires.1)
 
 pub ends_white-w-requires : goal.ends_white-w-requires
 ends_white-w-requires c = (c.line_end-n.ensures.2, omega (arith, c.line_end-n.ensures.3, c.requires.1))
@@ -26,20 +20,11 @@ copy-j-requires c =
     let n = c.line_end-n.ensures in
     (n.2, omega (arith, n.3, p.1), omega (arith, n.2, n.3, g.room, g.first, p.2))
 
-pub loop-i-smaller-then-i-n : goal.loop-i-smaller-then-i-n
-loop-i-smaller-then-i-n c = omega (arith, c.if-i-n.true, c.line_end-n.ensures.3)
-
 pub loop-i-preserved-then-i-n : goal.loop-i-preserved-then-i-n
 loop-i-preserved-then-i-n c =
     let b = c.loop-i in
     let run = laws.runs b.invariant c.requires.1 c.if-i-n.true c.line_end-n.ensures.3 in
     run c.line_end-n.ensures.0 c.line_end-n.ensures.1 c.ends_white-w.ensures c.copy-j.ensures.puts c.copy-j.auto.out
-
-pub overflow_add-i : goal.overflow_add-i
-overflow_add-i c = omega (arith, c.loop-i-test.true, c.requires.1)
-
-pub loop-i-smaller-then-w : goal.loop-i-smaller-then-w
-loop-i-smaller-then-w c = omega (arith, c.loop-i-test.true)
 
 pub loop-i-preserved-then-w : goal.loop-i-preserved-then-w
 loop-i-preserved-then-w c =
@@ -49,17 +34,6 @@ loop-i-preserved-then-w c =
     let stop = subst (λ (k : ℕ). stops (part a.t.now k a.to) ≡ true) e c.line_end-n.ensures.1 in
     laws.passes b.invariant c.requires.1 c.loop-i-test.true stop c.if-w.true
 
-pub put-j-requires : goal.put-j-requires
-put-j-requires c =
-    let g = c.loop-i.invariant in
-    omega (arith, g.room, g.first, c.loop-i-test.true, c.requires.2)
-
-pub overflow_add-i-else-w : goal.overflow_add-i-else-w
-overflow_add-i-else-w c = omega (arith, c.loop-i-test.true, c.requires.1)
-
-pub loop-i-smaller : goal.loop-i-smaller
-loop-i-smaller c = omega (arith, c.loop-i-test.true)
-
 pub loop-i-preserved : goal.loop-i-preserved
 loop-i-preserved c =
     let a = c.args in
@@ -68,9 +42,6 @@ loop-i-preserved c =
     let stop = subst (λ (k : ℕ). stops (part a.t.now k a.to) ≡ true) e c.line_end-n.ensures.1 in
     laws.blanks b.invariant c.requires.1 c.loop-i-test.true stop c.if-w.false c.put-j.ensures.puts
     c.put-j.auto.out
-
-pub shape_of-out : goal.shape_of-out
-shape_of-out c = c.loop-i.invariant.long
 
 pub returns : goal.returns
 returns c =

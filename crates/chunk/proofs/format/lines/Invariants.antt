@@ -1,5 +1,5 @@
 -- The invariants of `chunk::format::lines`.
-use Prim.Native.Nat.{◌-◌}
+use Rattle.std.proofs.Common.{◌-◌}
 use Rattle.chunk.proofs.texts.LineEnds as laws
 use Rattle.chunk.proofs.format.lines.Given as goal
 

@@ -1,6 +1,5 @@
 -- `chunk::format::surely_fits` meets its contract. Assumes nothing.
-use Prim.Native.Nat.{◌-◌}
-use native.Mathlib.Omega.{arith}
+use Rattle.std.proofs.Common.{◌-◌, arith}
 use Rattle.chunk.proofs.rows.RowCheck.{five}
 use Rattle.chunk.proofs.passes.Passes.{row_here}
 use Rattle.chunk.proofs.passes.Bounds as laws

@@ -1,6 +1,5 @@
 -- The invariants of `chunk::format::surely_fits`.
-use Prim.Native.Nat.{◌-◌, ◌≤◌}
-use lib.ListN.{length}
+use Rattle.std.proofs.Common.{◌-◌, ◌≤◌, length}
 use Rattle.chunk.proofs.passes.Bounds as laws
 use Rattle.chunk.proofs.format.surely_fits.Given as goal
 

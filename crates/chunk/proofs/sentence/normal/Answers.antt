@@ -7,8 +7,3 @@ put_normal-requires c =
     let a = c.args in
     let p = c.requires in
     (p.0, p.1, p.2, ascii-lowers a.t.now a.from a.to p.0 p.1 (c.all_ascii.ensures c.if-all_ascii.true))
-
-pub put_normal-requires-2 : goal.put_normal-requires-2
-put_normal-requires-2 c =
-    let p = c.requires in
-    (p.0, p.1, p.2, λ k i j w. c.lower_table-table.ensures)

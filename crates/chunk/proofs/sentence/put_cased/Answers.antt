@@ -1,9 +1,5 @@
 -- `chunk::sentence::put_cased` meets its contract. Assumes nothing.
-use Prim.Native.Nat.{ℕ}
-use native.Mathlib.Omega.{arith}
-use mathlib.Core.Path.{◌≡◌, sym, ap, ◌∙◌}
-use mathlib.Core.Bool.{Bool, true, false}
-use mathlib.Core.List.{List, [], ◌∷◌}
+use Rattle.std.proofs.Common.{ℕ, arith, ◌≡◌, sym, ap, ◌∙◌, Bool, true, false, List, [], ◌∷◌}
 use Rattle.text.specs.Every.{every}
 use Rattle.text.specs.Utf8.{is_scalar, utf8_of}
 use Rattle.casing.specs.Casing.{cased}
@@ -34,9 +30,6 @@ returns-then-up c = record {
   puts = puts-as (same-octets c.args.c true c.if-up.true c.to_uppercase.ensures.same) c.put_image.ensures.puts;
   upper_bound = omega (arith, c.put_image.ensures.upper_bound);
 }
-
-pub lowered-requires : goal.lowered-requires
-lowered-requires c = c.requires.2 c.if-c-lt128.false
 
 pub put_image-requires-2 : goal.put_image-requires-2
 put_image-requires-2 c = (all-scalar c.args.c false c.if-up.false c.lowered.ensures.same c.requires.0, omega (arith, c.requires.1))

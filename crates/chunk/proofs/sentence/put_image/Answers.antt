@@ -1,5 +1,5 @@
 -- `chunk::sentence::put_image` meets its contract. Assumes nothing.
-use native.Mathlib.Omega.{arith}
+use Rattle.std.proofs.Common.{arith}
 use Rattle.chunk.proofs.texts.Puts.{puts-on, puts-as}
 use Rattle.chunk.proofs.texts.Encodes as laws
 use Rattle.chunk.proofs.sentence.put_image.Goals as goal

@@ -1,8 +1,5 @@
 -- `chunk::sentence::put_lowered` meets its contract. Assumes nothing.
-use Prim.Native.Nat.{◌+◌, ◌-◌, ◌≤◌, ◌<◌}
-use native.Mathlib.Omega.{arith}
-use mathlib.Core.Path.{◌≡◌, refl, ◌∙◌}
-use lib.ListN.{length, length-set}
+use Rattle.std.proofs.Common.{◌+◌, ◌-◌, ◌≤◌, ◌<◌, arith, ◌≡◌, refl, ◌∙◌, length, length-set}
 use Rattle.chunk.proofs.texts.Copies as laws
 use Rattle.chunk.proofs.sentence.put_lowered.Goals.{else-room-n, then-room-n}
 use Rattle.chunk.proofs.sentence.put_lowered.Goals as goal
@@ -31,9 +28,6 @@ loop-k-preserved c =
       length-set b.out (a.at + b.k) _ ∙ b.invariant.3,
       laws.lower-more a.t.now a.out.now a.from a.at b.k inside b.invariant.4 c.cased_byte.ensures,
     )
-
-pub shape_of-out : goal.shape_of-out
-shape_of-out c = c.loop-k.invariant.3
 
 pub returns : goal.returns
 returns c =

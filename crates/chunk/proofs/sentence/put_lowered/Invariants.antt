@@ -1,9 +1,5 @@
 -- The invariants of `chunk::sentence::put_lowered`.
-use Prim.Native.Nat.{◌+◌, ◌-◌, ◌≤◌}
-use mathlib.Core.Path.{◌≡◌}
-use mathlib.Core.Bool.{false}
-use mathlib.Core.List.{map}
-use lib.ListN.{length}
+use Rattle.std.proofs.Common.{◌+◌, ◌-◌, ◌≤◌, ◌≡◌, false, map, length}
 use lib.Seq.{sets}
 use Rattle.text.specs.Scan.{part}
 use Rattle.casing.specs.Casing.{ascii_cased}

@@ -1,10 +1,6 @@
 -- `chunk::sentence::put_normal` meets its contract. Assumes nothing.
-use Prim.Native.Nat.{ℕ, ◌<◌}
-use native.Mathlib.Omega.{arith}
-use mathlib.Core.Path.{◌≡◌}
-use mathlib.Core.Bool.{Bool, true, false, not, ◌&&◌}
-use lib.Dec.{ltb}
-use borrow.Author.Tests.{ltb-true, not-true}
+use Rattle.std.proofs.Common.{ℕ, ◌<◌, arith, ◌≡◌, Bool, true, false, not, ◌&&◌, ltb, ltb-true}
+use borrow.Author.Tests.{not-true}
 use Rattle.text.proofs.general.Tests.{both_true}
 use Rattle.chunk.proofs.sentences.Saying as laws
 use Rattle.chunk.proofs.sentence.put_normal.Goals as goal
@@ -17,9 +13,6 @@ pub loop-i-init : goal.loop-i-init
 loop-i-init c =
     let a = c.args in
     laws.saying a.t.now a.from a.to a.begin.first a.begin.white a.out.now a.begin.at c.requires.0
-
-pub run_end-n-requires : goal.run_end-n-requires
-run_end-n-requires c = (omega (arith, c.loop-i-test.true), c.requires.1)
 
 pub ends_white-white-requires : goal.ends_white-white-requires
 ends_white-white-requires c = (c.run_end-n.ensures.1, omega (arith, c.run_end-n.ensures.2, c.requires.1))
@@ -49,19 +42,10 @@ step-s-requires c =
       λ k p q w. c.requires.3 k (omega (arith, g.first, p)) q w,
     )
 
-pub overflow_add-i : goal.overflow_add-i
-overflow_add-i c = omega (arith, c.loop-i-test.true, c.requires.1)
-
-pub loop-i-smaller : goal.loop-i-smaller
-loop-i-smaller c = omega (arith, c.loop-i-test.true)
-
 pub loop-i-preserved : goal.loop-i-preserved
 loop-i-preserved c =
     let said = c.step-s.ensures.white_value in
     laws.says c.loop-i.invariant c.requires.1 c.loop-i-test.true c.step-s.ensures.puts said.0 said.1 said.2 c.step-s.auto.out
-
-pub shape_of-out : goal.shape_of-out
-shape_of-out c = c.loop-i.invariant.long
 
 pub returns : goal.returns
 returns c =

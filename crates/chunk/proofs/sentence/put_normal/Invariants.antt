@@ -1,5 +1,5 @@
 -- The invariants of `chunk::sentence::put_normal`.
-use Prim.Native.Nat.{◌-◌}
+use Rattle.std.proofs.Common.{◌-◌}
 use Rattle.chunk.proofs.sentences.Saying as laws
 use Rattle.chunk.proofs.sentence.put_normal.Given as goal
 

@@ -1,7 +1,5 @@
 -- `chunk::sentence::run_end` meets its contract. Assumes nothing.
-use native.Mathlib.Omega.{arith}
-use mathlib.Core.Path.{sym}
-use lib.Seq.{length-take-le}
+use Rattle.std.proofs.Common.{arith, sym, length-take-le}
 use Rattle.chunk.proofs.texts.QuietRuns as laws
 use Rattle.chunk.proofs.sentence.run_end.Goals as goal
 
@@ -13,14 +11,8 @@ loop-i-init c =
     let a = c.args in
     laws.quiet-clear a.t.now a.from a.to c.requires.0 c.requires.1 c.past_narrow-i.ensures
 
-pub returns-then-next-i : goal.returns-then-next-i
-returns-then-next-i c = c.loop-i.invariant
-
 pub past_quiet-next-requires : goal.past_quiet-next-requires
 past_quiet-next-requires c = (c.loop-i-test.true, c.requires.1)
-
-pub loop-i-smaller : goal.loop-i-smaller
-loop-i-smaller c = omega (arith, c.if-next-i.false, c.past_quiet-next.ensures.2)
 
 pub loop-i-preserved : goal.loop-i-preserved
 loop-i-preserved c =
@@ -28,6 +20,3 @@ loop-i-preserved c =
     let b = c.loop-i in
     let y = c.past_quiet-next.ensures in
     (laws.quiet-more a.t.now b.invariant.1 y.1 (omega (arith, y.2, c.requires.1)) b.invariant.0 (y.0 c.if-next-i.false), omega (arith, b.invariant.1, y.1), y.2)
-
-pub returns : goal.returns
-returns c = c.loop-i.invariant

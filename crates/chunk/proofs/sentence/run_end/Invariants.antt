@@ -1,5 +1,5 @@
 -- The invariants of `chunk::sentence::run_end`.
-use Prim.Native.Nat.{◌-◌, ◌≤◌}
+use Rattle.std.proofs.Common.{◌-◌, ◌≤◌}
 use Rattle.chunk.specs.Inner.{QuietRun}
 use Rattle.chunk.proofs.sentence.run_end.Given as goal
 

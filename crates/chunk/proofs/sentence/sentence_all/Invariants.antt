@@ -1,6 +1,5 @@
 -- The invariants of `chunk::sentence::sentence_all`.
-use Prim.Native.Nat.{◌-◌, ◌≤◌}
-use lib.ListN.{length}
+use Rattle.std.proofs.Common.{◌-◌, ◌≤◌, length}
 use Rattle.chunk.proofs.passes.PassTurns as laws
 use Rattle.chunk.proofs.sentence.sentence_all.Given as goal
 

@@ -1,8 +1,5 @@
 -- `chunk::sentence::step` meets its contract. Assumes nothing.
-use Prim.Native.Nat.{ℕ, ◌≤◌}
-use native.Mathlib.Nat.{le_refl}
-use mathlib.Core.Path.{◌≡◌, sym, ap, subst, ◌∙◌}
-use mathlib.Core.Bool.{Bool, ◌&&◌}
+use Rattle.std.proofs.Common.{ℕ, ◌≤◌, le_refl, ◌≡◌, sym, ap, subst, ◌∙◌, Bool, ◌&&◌}
 use Rattle.text.specs.Utf8.{is_scalar}
 use Rattle.text.specs.Scan.{part, code}
 use Rattle.chunk.specs.Sentence.{unbroken}

@@ -1,5 +1,5 @@
 -- `command::execute::bare` meets its contract. Assumes nothing.
-use borrow.Author.Tests.{ne_eqb}
+use Rattle.std.proofs.Common.{ne_eqb}
 use Rattle.command.specs.Execute.{bare}
 use Rattle.command.proofs.execute.bare.Goals as goal
 

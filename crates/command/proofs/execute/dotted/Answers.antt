@@ -1,5 +1,5 @@
 -- `command::execute::dotted` meets its contract. Assumes nothing.
-use borrow.Author.Tests.{ne_eqb}
+use Rattle.std.proofs.Common.{ne_eqb}
 use Rattle.command.specs.Execute.{dotted}
 use Rattle.command.proofs.execute.dotted.Goals as goal
 

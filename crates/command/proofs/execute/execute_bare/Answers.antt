@@ -1,7 +1,5 @@
 -- `command::execute::execute_bare` meets its contract. Assumes nothing.
-use native.Mathlib.Omega.{arith}
-use mathlib.Core.Path.{refl, sym, subst}
-use mathlib.Core.List.{[], append-nil}
+use Rattle.std.proofs.Common.{arith, refl, sym, subst, [], append-nil}
 use Rattle.text.specs.Utf8.{octets, is_scalar}
 use Rattle.text.specs.Scan.{part}
 use Rattle.command.proofs.stacks.LaysLaws.{lays-none, octets-three, octets-two}

@@ -1,6 +1,5 @@
 -- `command::execute::execute_before` meets its contract. Assumes nothing.
-use native.Mathlib.Omega.{arith}
-use mathlib.Core.Path.{refl}
+use Rattle.std.proofs.Common.{arith, refl}
 use Rattle.text.specs.Scan.{part}
 use Rattle.text.specs.Utf8.{is_scalar}
 use Rattle.command.specs.declared.meaning.Meaning.TheVariants as meaning

@@ -1,8 +1,5 @@
 -- `command::execute::last_char_combine` meets its contract. Assumes nothing.
-use Prim.Native.Nat.{◌≤◌}
-use native.Mathlib.Omega.{arith}
-use mathlib.Core.Path.{sym, ap, ◌∙◌}
-use lib.ListN.{length}
+use Rattle.std.proofs.Common.{◌≤◌, arith, sym, ap, ◌∙◌, length}
 use Rattle.text.specs.Utf8.{octets}
 use Rattle.command.proofs.stacks.LaysLaws.{lays-as, octets-two}
 use Rattle.chunk.proofs.texts.LastCharacter.{last_less}
@@ -33,8 +30,8 @@ code_at-c-requires c =
     let eo : a.to ≤ length o = omega (arith, c.requires.2) in
     (last_less o a.from a.to _ c.if-to-from.false eo c.last_at-at.ensures, eo)
 
-pub put_code-requires-in-Char : goal.put_code-requires-in-Char
-put_code-requires-in-Char c =
+pub put_code-requires-in-Some : goal.put_code-requires-in-Some
+put_code-requires-in-Some c =
     let a = c.args in
     let p = c.requires in
     let o = a.out.now in
@@ -42,7 +39,7 @@ put_code-requires-in-Char c =
     let eo : a.to ≤ length o = omega (arith, p.2) in
     let h = last_less o a.from a.to c.last_at-at.result l eo c.last_at-at.ensures in
     let f = laws.looked a.marks.now c.dotted-d.result a.mark c.code_at-c.result c.find.result _ c.find.ensures p.0
-    c.dotted-d.ensures c.in-Char.is in
+    c.dotted-d.ensures c.in-Some.is in
     let y = laws.char-room o c.last_at-at.result a.to c.code_at-c.result a.mark _ h eo c.code_at-c.ensures f in
     (y.0, omega (arith, y.1, p.2))
 
@@ -63,7 +60,7 @@ returns-then-d-c c =
     let l = c.if-to-from.false in
     let eo : a.to ≤ length o = omega (arith, p.2) in
     let f = laws.looked a.marks.now c.dotted-d.result a.mark c.code_at-c.result c.find.result _ c.find.ensures p.0
-    c.dotted-d.ensures c.in-Nothing.is in record {
+    c.dotted-d.ensures c.in-None.is in record {
       lays = laws.behind o a.from a.to p.1 eo a.mark l c.last_at-at.result c.code_at-c.result c.last_at-at.ensures c.code_at-c.ensures c.put_code-then-d-c.result _ f
           (sym c.dotted-d.ensures ∙ c.if-d-c.true) c.put_code-then-d-c.ensures;
       upper_bound = omega (arith, c.put_code-then-d-c.ensures.end, octets-two a.mark p.4);
@@ -80,8 +77,8 @@ put_code-l-requires c =
     let y = laws.dot-room c.last_at-at.result a.to c.code_at-c.result c.dotted-d.result h c.dotted-d.ensures c.if-d-c.false in
     (y.0, omega (arith, y.1, h, p.2))
 
-pub put_code-requires-in-Nothing : goal.put_code-requires-in-Nothing
-put_code-requires-in-Nothing c =
+pub put_code-requires-in-None : goal.put_code-requires-in-None
+put_code-requires-in-None c =
     let a = c.args in
     let p = c.requires in
     let o = a.out.now in
@@ -91,8 +88,8 @@ put_code-requires-in-Nothing c =
     let y = laws.dot-room c.last_at-at.result a.to c.code_at-c.result c.dotted-d.result h c.dotted-d.ensures c.if-d-c.false in
     (p.3, omega (arith, y.1, h, p.2, c.put_code-l.ensures.end, c.put_code-l.auto.out, octets-two a.mark p.4))
 
-pub returns-in-Char : goal.returns-in-Char
-returns-in-Char c =
+pub returns-in-Some : goal.returns-in-Some
+returns-in-Some c =
     let a = c.args in
     let p = c.requires in
     let o = a.out.now in
@@ -100,11 +97,11 @@ returns-in-Char c =
     let eo : a.to ≤ length o = omega (arith, p.2) in
     let h = last_less o a.from a.to c.last_at-at.result l eo c.last_at-at.ensures in
     let f = laws.looked a.marks.now c.dotted-d.result a.mark c.code_at-c.result c.find.result _ c.find.ensures p.0
-    c.dotted-d.ensures c.in-Char.is in
+    c.dotted-d.ensures c.in-Some.is in
     let y = laws.char-room o c.last_at-at.result a.to c.code_at-c.result a.mark _ h eo c.code_at-c.ensures f in record {
-      lays = laws.composes o a.from a.to p.1 eo a.mark l c.last_at-at.result c.code_at-c.result c.last_at-at.ensures c.code_at-c.ensures _ c.put_code-in-Char.result _
-          f c.put_code-in-Char.ensures;
-      upper_bound = omega (arith, c.put_code-in-Char.ensures.end, y.1);
+      lays = laws.composes o a.from a.to p.1 eo a.mark l c.last_at-at.result c.code_at-c.result c.last_at-at.ensures c.code_at-c.ensures _ c.put_code-in-Some.result _
+          f c.put_code-in-Some.ensures;
+      upper_bound = omega (arith, c.put_code-in-Some.ensures.end, y.1);
     }
 
 pub returns-else-d-c : goal.returns-else-d-c
@@ -116,10 +113,10 @@ returns-else-d-c c =
     let eo : a.to ≤ length o = omega (arith, p.2) in
     let h = last_less o a.from a.to c.last_at-at.result l eo c.last_at-at.ensures in
     let f = laws.looked a.marks.now c.dotted-d.result a.mark c.code_at-c.result c.find.result _ c.find.ensures p.0
-    c.dotted-d.ensures c.in-Nothing.is in
+    c.dotted-d.ensures c.in-None.is in
     let y = laws.dot-room c.last_at-at.result a.to c.code_at-c.result c.dotted-d.result h c.dotted-d.ensures c.if-d-c.false in record {
       lays = laws.dots o a.from a.to p.1 eo a.mark l c.last_at-at.result c.code_at-c.result c.last_at-at.ensures c.code_at-c.ensures c.put_code-l.result _
-          c.put_code-in-Nothing.result _ f (λ e. c.if-d-c.false (c.dotted-d.ensures ∙ e))
-          (lays-as c.last_at-at.result _ _ o c.put_code-l.result _ (ap octets c.dotted-d.ensures) c.put_code-l.ensures) c.put_code-in-Nothing.ensures;
-      upper_bound = omega (arith, y.1, h, c.put_code-l.ensures.end, c.put_code-in-Nothing.ensures.end, octets-two a.mark p.4);
+          c.put_code-in-None.result _ f (λ e. c.if-d-c.false (c.dotted-d.ensures ∙ e))
+          (lays-as c.last_at-at.result _ _ o c.put_code-l.result _ (ap octets c.dotted-d.ensures) c.put_code-l.ensures) c.put_code-in-None.ensures;
+      upper_bound = omega (arith, y.1, h, c.put_code-l.ensures.end, c.put_code-in-None.ensures.end, octets-two a.mark p.4);
     }

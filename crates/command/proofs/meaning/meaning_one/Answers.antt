@@ -1,6 +1,5 @@
 -- `command::meaning::meaning_one` meets its contract. Assumes nothing.
-use mathlib.Core.Path.{refl}
-use borrow.Author.Tests.{ne_eqb}
+use Rattle.std.proofs.Common.{refl, ne_eqb}
 use Rattle.text.specs.Utf8.{octets}
 use Rattle.text.specs.Strings.{utf8}
 use Rattle.text.specs.SameBytes.{same_bytes}

@@ -1,8 +1,5 @@
 -- `command::meaning::span_of` meets its contract. Assumes nothing.
-use mathlib.Core.Path.{◌≡◌, refl}
-use mathlib.Core.Bool.{false}
-use mathlib.Core.List.{[], ◌∷◌}
-use borrow.Author.Tests.{ne_eqb}
+use Rattle.std.proofs.Common.{◌≡◌, refl, false, [], ◌∷◌, ne_eqb}
 use Rattle.text.specs.Class.{mark}
 use Rattle.text.specs.Every.{every}
 use Rattle.text.specs.Utf8.{octets}

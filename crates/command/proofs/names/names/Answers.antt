@@ -1,6 +1,6 @@
 -- `command::names::names` meets its contract: the source's constant is the list of specs/, byte by byte.
 -- Assumes nothing.
-use mathlib.Core.Path.{refl}
+use Rattle.std.proofs.Common.{refl}
 use Rattle.text.specs.Utf8.{octets}
 use Rattle.text.specs.Strings.{utf8}
 use Rattle.command.specs.Commands.{commands}

@@ -1,8 +1,5 @@
 -- `command::settle::lines` meets its contract. Assumes nothing.
-use Prim.Native.Nat.{ℕ}
-use native.Mathlib.Omega.{arith}
-use mathlib.Core.Path.{◌≡◌, subst}
-use mathlib.Core.Bool.{true}
+use Rattle.std.proofs.Common.{ℕ, arith, ◌≡◌, subst, true}
 use Rattle.text.specs.Scan.{part}
 use Rattle.chunk.specs.Inner.{stops}
 use Rattle.command.proofs.ways.SettleWays as laws
@@ -34,12 +31,6 @@ shift-j-requires c =
     let a = c.args in
     let g = c.loop-i.invariant in
     (g.behind, c.line_end-n.ensures.2, omega (arith, c.line_end-n.ensures.3, g.long, c.requires.1))
-
-pub loop-i-smaller-then-i-n : goal.loop-i-smaller-then-i-n
-loop-i-smaller-then-i-n c =
-    let a = c.args in
-    let g = c.loop-i.invariant in
-    omega (arith, c.if-i-n.true, c.line_end-n.ensures.3)
 
 pub loop-i-preserved-then-i-n : goal.loop-i-preserved-then-i-n
 loop-i-preserved-then-i-n c =
@@ -103,9 +94,6 @@ loop-i-preserved c =
     let s = subst (λ (k : ℕ). stops (part c.loop-i.t k a.to) ≡ true) i c.line_end-n.ensures.1 in
     laws.blanks a.t.now a.from a.to a.white c.loop-i.t c.loop-i.w c.loop-i.i c.loop-i.j g c.requires.1 c.loop-i-test.true s
     c.if-w.false
-
-pub shape_of-t : goal.shape_of-t
-shape_of-t c = c.loop-i.invariant.long
 
 pub returns : goal.returns
 returns c =

@@ -1,5 +1,5 @@
 -- The invariants of `command::settle::lines`.
-use Prim.Native.Nat.{◌-◌}
+use Rattle.std.proofs.Common.{◌-◌}
 use Rattle.command.proofs.ways.SettleWays as laws
 use Rattle.command.proofs.settle.lines.Given as goal
 

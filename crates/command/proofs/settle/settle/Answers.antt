@@ -1,6 +1,5 @@
 -- `command::settle::settle` meets its contract. Assumes nothing.
-use native.Mathlib.Omega.{arith}
-use mathlib.Core.Path.{ap, ◌∙◌}
+use Rattle.std.proofs.Common.{arith, ap, ◌∙◌}
 use Rattle.text.specs.Scan.{part}
 use Rattle.chunk.specs.Format.{Written}
 use Rattle.command.proofs.stacks.LaysLaws.{lays-as, lays-still}

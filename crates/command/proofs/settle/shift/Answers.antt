@@ -1,6 +1,5 @@
 -- `command::settle::shift` meets its contract. Assumes nothing.
-use native.Mathlib.Omega.{arith}
-use mathlib.Core.Path.{refl}
+use Rattle.std.proofs.Common.{arith, refl}
 use Rattle.command.proofs.ways.SettleWays as laws
 use Rattle.command.proofs.settle.shift.Goals as goal
 
@@ -63,9 +62,6 @@ loop-i-preserved c =
     let b = c.loop-i in
     let l = c.loop-i-test.true in
     (laws.moved a.t.now a.from a.at b.t b.i b.j b.invariant.0 p.0 (omega (arith, l, p.2)), omega (arith, l))
-
-pub shape_of-t : goal.shape_of-t
-shape_of-t c = c.loop-i.invariant.0.long
 
 pub returns : goal.returns
 returns c =

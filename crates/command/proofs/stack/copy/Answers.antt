@@ -1,5 +1,5 @@
 -- `command::stack::copy` meets its contract. Assumes nothing.
-use native.Mathlib.Omega.{arith}
+use Rattle.std.proofs.Common.{arith}
 use Rattle.command.proofs.stacks.LaysLaws as laws
 use Rattle.command.proofs.stack.copy.Goals as goal
 

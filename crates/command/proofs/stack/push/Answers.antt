@@ -1,5 +1,5 @@
 -- `command::stack::push` meets its contract. Assumes nothing.
-use mathlib.Core.Path.{refl}
+use Rattle.std.proofs.Common.{refl}
 use Rattle.command.proofs.stacks.LaysLaws as laws
 use Rattle.command.proofs.stack.push.Goals as goal
 

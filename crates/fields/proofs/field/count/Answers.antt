@@ -6,8 +6,7 @@ use mathlib.Core.List.{[]}
 use lib.ListN.{drop}
 use Rattle.row.specs.Numbers.{rows_of}
 use Rattle.row.specs.Limits.{most_open}
-use Rattle.resolve.specs.Checks.{lent_of}
-use Rattle.values.specs.Uses.{value_from}
+use Rattle.values.specs.Uses.{value_from, lent_in}
 use Rattle.fields.proofs.ways.FieldWays.{says-count}
 use Rattle.fields.proofs.ways.FieldWays as ways
 use Rattle.fields.proofs.field.count.Goals as goal
@@ -22,8 +21,7 @@ pub value-requires : goal.value-requires
 value-requires c =
     let a = c.args in
     let p = c.requires in (
-      ways.ready-value-first a.file.now a.rows.now a.months.now a.words.now a.heads.now a.next.now a.scratch.now a.known.now
-          a.marks.now a.which a.scratch.now _ p refl refl,
+      ways.ready-value-first a.resolver.now a.scratch.now a.which a.scratch.now _ p refl refl,
       c.begin.ensures.1,
       omega arith,
       omega (arith, p.which),
@@ -32,10 +30,10 @@ value-requires c =
 pub returns : goal.returns
 returns c =
     let a = c.args in
-    let lent = lent_of a.file.now a.rows.now a.months.now a.words.now in
-    let run = value_from lent a.verbatim most_open [] (rows_of (drop (a.which * 4 + 4) a.rows.now)) in
+    let lent = lent_in a.resolver.now in
+    let run = value_from lent a.verbatim most_open [] (rows_of (drop (a.which * 4 + 4) a.resolver.now.rows.now)) in
     let said = says-count run c.begin.result.names 0 c.begin.ensures.2 c.begin.result _ _ c.value.result _ _ c.value.ensures.says_run in record {
-      counted = ways.count_at lent a.verbatim a.rows.now a.which refl c.value.result
+      counted = ways.count_at lent a.verbatim a.resolver.now.rows.now a.which refl c.value.result
           (ways.count-as (run 0) c.begin.result c.begin.ensures.0 _ _ c.value.result _ _ said);
       bounded_went = c.value.ensures.bounded_went.0;
     }

@@ -1,7 +1,5 @@
 -- `literal::content::begin` meets its contract. Assumes nothing.
-use Prim.Native.Nat.{◌+◌}
-use native.Mathlib.Omega.{arith}
-use mathlib.Core.Path.{refl}
+use Rattle.std.proofs.Common.{◌+◌, arith, refl}
 use Rattle.text.specs.Scan.{part}
 use Rattle.literal.proofs.ways.ArgumentWays.{begun}
 use Rattle.literal.proofs.content.begin.Goals as goal

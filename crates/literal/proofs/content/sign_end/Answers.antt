@@ -1,6 +1,5 @@
 -- `literal::content::sign_end` meets its contract. Assumes nothing.
-use native.Mathlib.Omega.{arith}
-use lib.ListN.{get_or}
+use Rattle.std.proofs.Common.{arith, get_or}
 use Rattle.turn.proofs.Turning.{turning}
 use Rattle.literal.proofs.ways.StepWays.{end-open, end-close, close-refused, end-math, math-refused}
 use Rattle.literal.proofs.content.sign_end.Goals as goal
@@ -14,7 +13,8 @@ pub returns-then-s-to : goal.returns-then-s-to
 returns-then-s-to c =
     let a = c.args in
     let p = c.requires in
-    let plain = turning.sign-dollar a.verb (get_or a.s.now a.at 0) p.0 c.if-b-eq36.true in (
+    let plain = turning.sign-dollar a.verb (get_or a.s.now a.at 0) p.0 c.if-b-eq36.true in
+    rw c.fault_at.ensures (
       math-refused a.verb a.s.now a.at a.braces p.1 c.if-b-eq36.true plain _ c.eat_until-to.ensures.0 c.if-s-to.true,
       (omega (arith, c.eat_until-to.ensures.1.to, p.1), omega (arith, c.eat_until-to.ensures.1.to, p.1)),
     )

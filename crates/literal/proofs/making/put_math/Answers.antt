@@ -1,7 +1,5 @@
 -- `literal::making::put_math` meets its contract. Assumes nothing.
-use native.Mathlib.Omega.{arith}
-use mathlib.Core.Path.{refl}
-use mathlib.Core.List.{◌∷◌, []}
+use Rattle.std.proofs.Common.{arith, refl, ◌∷◌, []}
 use Rattle.text.specs.Scan.{part}
 use Rattle.literal.proofs.ways.MakingWays.{math-argument, math-literal, lays-three}
 use Rattle.literal.proofs.making.put_math.Goals as goal

@@ -1,6 +1,5 @@
 -- `literal::making::turnaround` meets its contract. Assumes nothing.
-use native.Mathlib.Omega.{arith}
-use mathlib.Core.Path.{refl}
+use Rattle.std.proofs.Common.{arith, refl}
 use Rattle.literal.proofs.ways.MakingWays.{argument-holds, literal-done}
 use Rattle.literal.proofs.making.turnaround.Goals as goal
 
@@ -20,9 +19,6 @@ returns-then-place c =
       len = c.settle-w.ensures.white_value.1;
       rows = omega arith;
     }
-
-pub push-more-requires : goal.push-more-requires
-push-more-requires c = c.requires.0.rows
 
 pub returns : goal.returns
 returns c =

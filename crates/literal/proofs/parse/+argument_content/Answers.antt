@@ -1,10 +1,11 @@
 -- `literal::parse::content` and `literal::parse::argument`, which call each other, meet their contracts: `argument` calls `content` with a
 -- smaller depth, and `content` calls `argument` with its own. What falls is twice the depth, and one more for `content`. Assumes nothing.
-use Prim.Native.Nat.{◌+◌}
-use native.Mathlib.Omega.{arith}
-use mathlib.Core.Path.{◌≡◌, refl, sym, subst, ◌∙◌}
-use lib.ListN.{length, take, get_or}
+use Rattle.std.proofs.Common.{◌+◌, arith, ◌≡◌, refl, sym, subst, ◌∙◌, length, take, get_or}
 use Rattle.text.specs.Scan.{part}
+use Rattle.std.specs.Prelude.{Result, Ok}
+use Rattle.std.proofs.lemmas.Result.{err_from_is_err_and}
+use Rattle.row.specs.declared.fault.Fault.{Fault}
+use Rattle.turn.specs.declared.turn.Text.{Text}
 use Rattle.turn.specs.Content.{inside}
 use Rattle.literal.specs.Inner.{AheadMade}
 use Rattle.turn.specs.Turns.{GrowsText}
@@ -14,6 +15,10 @@ use Rattle.literal.proofs.ways.StepWays.{text-put, ahead-further}
 use Rattle.literal.proofs.ways.ContentWays as ways
 use Rattle.literal.proofs.ways.NestedWays as nested
 use Rattle.literal.proofs.parse.+argument_content.Goals as goal
+
+-- the answer of `text_at`, which `?` opened
+told : {r : Result Text Fault} {t u : Text} → r ≡ Ok t → t ≡ u → r ≡ Ok u
+told e h = cc
 
 pub argument-returns-then-depth-eq0 : goal.argument-returns-then-depth-eq0
 argument-returns-then-depth-eq0 t c =
@@ -33,47 +38,48 @@ pub argument-slice_bounds-content-end : goal.argument-slice_bounds-content-end
 argument-slice_bounds-content-end t c =
     nested.cut-length c.args.s.now c.args.to c.requires.m_value.1.3
 
-pub argument-content-r-requires : goal.argument-content-r-requires
-argument-content-r-requires t c =
+pub argument-content-requires : goal.argument-content-requires
+argument-content-requires t c =
     let a = c.args in (
       omega arith,
-      nested.ready-in a.s.now a.st c.begin-i.result a.out.now _ a.names.now a.marks.now _ a.m a.end a.from a.to c.requires.ready_content
+      nested.ready-in a.s.now a.st c.begin-i.result a.out.now _ _ a.m a.end a.from a.to c.requires.ready_content
           c.requires.m_value.1 c.begin-i.ensures.argument_begun c.begin-i.ensures.at_bound.0 c.begin-i.ensures.at_bound.1 c.begin-i.auto.out,
     )
 
-pub argument-returns-in_default : goal.argument-returns-in_default
-argument-returns-in_default t c =
+pub argument-returns-in_err-t : goal.argument-returns-in_err-t
+argument-returns-in_err-t t c =
     let a = c.args in
-    let is = c.in_default.is in
-    let placed = subst (AheadMade (length (take a.to a.s.now)) 0 c.begin-i.result) is c.content-r.ensures.ahead_made in record {
+    let is = c.in_err-t.was in
+    -- a refusal inside an argument has its place inside the content around it
+    let within = c.requires.m_value.1.3 in
+    let cut = nested.cut-length a.s.now a.to within in
+    let placed = subst (AheadMade (length (take a.to a.s.now)) 0 c.begin-i.result) is c.content.ensures.ahead_made in
+    let e = err_from_is_err_and c.from_residual.result c.from_residual.ensures.1 in
+    rw (e.1, e.2) (record {
       says_argument = nested.argument-refused (take a.to a.s.now) (part a.s.now (a.st.at + 1) a.end) a.m a.depth a.from a.to
           c.if-depth-eq0.false
-          a.st a.out.now c.begin-i.result _ c.begin-i.ensures.argument_begun c.content-r.result _ _ c.content-r.ensures.says_content _ is;
-      ahead_made = nested.placed-in a.s.now a.to a.st c.content-r.result _ c.requires.m_value.1.3 is placed;
-    }
+          a.st a.out.now c.begin-i.result _ c.begin-i.ensures.argument_begun c.content.result _ _ c.content.ensures.says_content _ is;
+      ahead_made = (omega (arith, placed.0, cut, within), omega (arith, placed.1, cut, within));
+    })
 
 pub argument-finish-requires : goal.argument-finish-requires
 argument-finish-requires t c =
     let a = c.args in
-    let m = c.in-Done.t in
-    let is = c.in-Done.is in
-    let same = c.content-r.auto.out ∙ c.begin-i.auto.out in
-    let ahead = subst (AheadMade (length (take a.to a.s.now)) 0 c.begin-i.result) is c.content-r.ensures.ahead_made in
+    let m = c.in_ok-t.t in
+    let is = c.in_ok-t.was in
+    let same = c.content.auto.out ∙ c.begin-i.auto.out in
+    let ahead = subst (AheadMade (length (take a.to a.s.now)) 0 c.begin-i.result) is c.content.ensures.ahead_made in
     let kept = nested.kept (take a.to a.s.now) (part a.s.now (a.st.at + 1) a.end) a.m a.depth a.from a.to
     c.if-depth-eq0.false
-    a.st a.out.now c.begin-i.result _ c.begin-i.ensures.argument_begun c.content-r.result _ _ c.content-r.ensures.says_content m is
+    a.st a.out.now c.begin-i.result _ c.begin-i.ensures.argument_begun c.content.result _ _ c.content.ensures.says_content m is
     (nested.room-now c.requires.ready_content) in record {
-      marks_value = (c.requires.ready_content.text.marks, c.requires.m_value.0);
+      meaning = c.requires.m_value.0;
       closes = (
-        nested.closes a.s.now a.st c.begin-i.result m a.out.now _ a.names.now a.marks.now a.end a.from a.to c.requires.ready_content c.requires.m_value.1
+        nested.closes a.s.now a.st c.begin-i.result m a.out.now _ a.end a.from a.to c.requires.ready_content c.requires.m_value.1
             c.begin-i.ensures.argument_begun.at c.begin-i.ensures.at_bound.0 kept.0 kept.1 kept.2 ahead same,
         kept.3 (nested.room-lead c.requires.ready_content c.requires.m_value.1 c.begin-i.ensures.at_bound.0 same),
       );
     }
-
-pub argument-shape_of-out : goal.argument-shape_of-out
-argument-shape_of-out t c =
-    c.finish.auto.out ∙ c.content-r.auto.out ∙ c.begin-i.auto.out
 
 pub argument-returns : goal.argument-returns
 argument-returns t c =
@@ -83,8 +89,8 @@ argument-returns t c =
     let out = c.finish.new.out in
     let put = nested.argument-done (take a.to a.s.now) name a.m a.depth a.from a.to c.if-depth-eq0.false a.st a.out.now
     c.begin-i.result _
-    c.begin-i.ensures.argument_begun c.content-r.result _ _ c.content-r.ensures.says_content c.in-Done.t c.in-Done.is (nested.room-now c.requires.ready_content)
-    (no_text _ c.content-r.auto.numbers) (a.end + 1) spans.1 c.finish.result out c.finish.ensures.argument_finished in record {
+    c.begin-i.ensures.argument_begun c.content.result _ _ c.content.ensures.says_content c.in_ok-t.t c.in_ok-t.was (nested.room-now c.requires.ready_content)
+    (no_text _ c.content.auto.numbers) (a.end + 1) spans.1 c.finish.result out c.finish.ensures.argument_finished in record {
       says_argument = put;
       ahead_made = nested.ahead_past name a.from a.to (length a.s.now) a.st a.out.now c.finish.result out
           (omega (arith, spans.0, spans.1, spans.2)) spans.3 c.requires.ready_content.from c.requires.ready_content.start c.finish.ensures.at_value.1
@@ -95,49 +101,50 @@ pub content-loop-out-init : goal.content-loop-out-init
 content-loop-out-init t c =
     let a = c.args in
     let ready = c.requires in
-    (ways.ahead_none a.s.now a.place a.first a.out.now a.names.now a.marks.now ready, refl, refl, ready, λ r o b h. h)
+    (ways.ahead_none a.s.now a.place a.first a.out.now ready, refl, refl, ready, λ r o b h. h)
 
 pub content-sign-requires : goal.content-sign-requires
 content-sign-requires t c =
     let a = c.args in
     let l = c.loop-out in
     let is = sym c.sign_at.ensures ∙ c.if-sign_at.true in (
-      ways.ready-within a.s.now a.place l.st l.out a.names.now a.marks.now l.invariant.3,
+      l.invariant.3,
       is,
       turning.sign-inside a.verb a.s.now l.st.at is,
     )
 
-pub content-loop-out-smaller-in-Done : goal.content-loop-out-smaller-in-Done
-content-loop-out-smaller-in-Done t c =
+pub content-loop-out-smaller-then-sign_at : goal.content-loop-out-smaller-then-sign_at
+content-loop-out-smaller-then-sign_at t c =
     let a = c.args in
-    let k = subst (AheadMade (length a.s.now) 1 c.loop-out.st) c.in-Done.is c.sign.ensures.ahead_made in
+    let k = subst (AheadMade (length a.s.now) 1 c.loop-out.st) c.in_ok-st.was c.sign.ensures.ahead_made in
     omega (arith, k.grows.at, k.grows.inside)
 
-pub content-loop-out-preserved-in-Done : goal.content-loop-out-preserved-in-Done
-content-loop-out-preserved-in-Done t c =
+pub content-loop-out-preserved-then-sign_at : goal.content-loop-out-preserved-then-sign_at
+content-loop-out-preserved-then-sign_at t c =
     let a = c.args in
     let l = c.loop-out in
-    let m = c.in-Done.t in
-    let k = subst (AheadMade (length a.s.now) 1 l.st) c.in-Done.is c.sign.ensures.ahead_made in (
+    let m = c.in_ok-st.st in
+    let k = subst (AheadMade (length a.s.now) 1 l.st) c.in_ok-st.was c.sign.ensures.ahead_made in (
       ways.ahead-on (length a.s.now) 1 a.first l.st m l.invariant.0 k,
       c.sign.auto.out ∙ l.invariant.1,
       c.sign.auto.numbers ∙ l.invariant.2,
-      ways.ready_on a.s.now a.place 1 l.st m l.out _ a.names.now a.marks.now l.invariant.3 k c.sign.auto.out,
+      ways.ready_on a.s.now a.place 1 l.st m l.out _ l.invariant.3 k c.sign.auto.out,
       λ r₂ o₂ b₂ h. l.invariant.4 r₂ o₂ b₂
           (ways.turn-again a.place (inside a.depth) a.verb a.s.now l.st l.out l.numbers m _ _
-          (ways.sign-again a.place (inside a.depth) a.verb a.s.now l.st l.out l.numbers _ _ c.sign.ensures.says_sign c.in-Done.is)
+          (ways.sign-again a.place (inside a.depth) a.verb a.s.now l.st l.out l.numbers _ _ c.sign.ensures.says_sign c.in_ok-st.was)
           r₂ o₂ b₂ h),
     )
 
-pub content-returns-in-Refused : goal.content-returns-in-Refused
-content-returns-in-Refused t c =
+pub content-returns-in_err-st : goal.content-returns-in_err-st
+content-returns-in_err-st t c =
     let a = c.args in
     let l = c.loop-out in
-    record {
+    let e = err_from_is_err_and c.from_residual.result c.from_residual.ensures.1 in
+    rw (e.1, e.2) (record {
       says_content = l.invariant.4 _ _ _ (ways.sign-refused a.place (inside a.depth) a.verb a.s.now l.st l.out l.numbers _ _ c.sign.ensures.says_sign
-          c.in-Refused.is);
-      ahead_made = subst (AheadMade (length a.s.now) 1 l.st) c.in-Refused.is c.sign.ensures.ahead_made;
-    }
+          c.in_err-st.was);
+      ahead_made = subst (AheadMade (length a.s.now) 1 l.st) c.in_err-st.was c.sign.ensures.ahead_made;
+    })
 
 pub content-text_at-requires : goal.content-text_at-requires
 content-text_at-requires t c =
@@ -152,14 +159,14 @@ content-returns-in-End t c =
     record {
       says_content = l.invariant.4 _ _ _
           (ways.turn-done a.place (inside a.depth) a.verb a.s.now l.st l.out l.numbers c.text_at.result _ c.text_at.ensures.says_text
-          c.in-End.is);
+          (told c.in_ok-text_at.was c.in-End.is));
       ahead_made = l.invariant.0;
     }
 
 pub content-loop-out-smaller-in-Put : goal.content-loop-out-smaller-in-Put
 content-loop-out-smaller-in-Put t c =
     let a = c.args in
-    let k = subst (GrowsText (length a.s.now) c.loop-out.st.at c.loop-out.st.len) c.in-Put.is
+    let k = subst (GrowsText (length a.s.now) c.loop-out.st.at c.loop-out.st.len) (told c.in_ok-text_at.was c.in-Put.is)
     c.text_at.ensures.grows_text in
     let f = c.further-st.ensures.at in
     omega (arith, k.at, k.inside, f)
@@ -169,30 +176,31 @@ content-loop-out-preserved-in-Put t c =
     let a = c.args in
     let l = c.loop-out in
     let m = c.further-st.result in
-    let is = c.in-Put.is in
+    let is = (told c.in_ok-text_at.was c.in-Put.is) in
     let grows = subst (GrowsText (length a.s.now) l.st.at l.st.len) is c.text_at.ensures.grows_text in
     let k = ahead-further (length a.s.now) a.verb a.s.now l.st l.out _ _ _ c.text_at.result m is c.text_at.ensures.says_text grows l.invariant.3.from
     l.invariant.3.start c.further-st.ensures in (
       ways.ahead-on (length a.s.now) 1 a.first l.st m l.invariant.0 k,
       c.text_at.auto.out ∙ l.invariant.1,
       l.invariant.2,
-      ways.ready_on a.s.now a.place 1 l.st m l.out _ a.names.now a.marks.now l.invariant.3 k c.text_at.auto.out,
+      ways.ready_on a.s.now a.place 1 l.st m l.out _ l.invariant.3 k c.text_at.auto.out,
       λ r₂ o₂ b₂ h. l.invariant.4 r₂ o₂ b₂
           (ways.turn-again a.place (inside a.depth) a.verb a.s.now l.st l.out l.numbers m _ _
           (text-put a.place a.verb a.s.now l.st l.out l.numbers c.text_at.result _ c.text_at.ensures.says_text _ _ is m c.further-st.ensures)
           r₂ o₂ b₂ h),
     )
 
-pub content-returns-in-Refused-text_at : goal.content-returns-in-Refused-text_at
-content-returns-in-Refused-text_at t c =
+pub content-returns-in_err-text_at : goal.content-returns-in_err-text_at
+content-returns-in_err-text_at t c =
     let a = c.args in
     let l = c.loop-out in
-    record {
+    let e = err_from_is_err_and c.from_residual-in_err-text_at.result c.from_residual-in_err-text_at.ensures.1 in
+    rw (e.1, e.2) (record {
       says_content = l.invariant.4 _ _ _
           (ways.turn-refused a.place (inside a.depth) a.verb a.s.now l.st l.out l.numbers c.text_at.result _ c.text_at.ensures.says_text _
-          c.in-Refused-text_at.is);
-      ahead_made = subst (GrowsText (length a.s.now) l.st.at l.st.len) c.in-Refused-text_at.is c.text_at.ensures.grows_text;
-    }
+          c.in_err-text_at.was);
+      ahead_made = subst (GrowsText (length a.s.now) l.st.at l.st.len) c.in_err-text_at.was c.text_at.ensures.grows_text;
+    })
 
 pub content-argument-requires : goal.content-argument-requires
 content-argument-requires t c =
@@ -200,11 +208,11 @@ content-argument-requires t c =
     let l = c.loop-out in (
       omega (arith, c.decreases),
       (
-        ways.ready-argument a.s.now a.place l.st l.out _ a.names.now a.marks.now l.invariant.3 c.text_at.auto.out,
+        ways.ready-argument a.s.now a.place l.st l.out _ l.invariant.3 c.text_at.auto.out,
         (
           ways.meaning-told a.place (inside a.depth) a.verb a.s.now l.st l.out l.numbers c.text_at.result _ c.text_at.ensures.says_text _ _ _ _
-              c.in-Argument.is,
-          subst (GrowsText (length a.s.now) l.st.at l.st.len) c.in-Argument.is c.text_at.ensures.grows_text,
+              (told c.in_ok-text_at.was c.in-Argument.is),
+          subst (GrowsText (length a.s.now) l.st.at l.st.len) (told c.in_ok-text_at.was c.in-Argument.is) c.text_at.ensures.grows_text,
         ),
       ),
     )
@@ -212,33 +220,36 @@ content-argument-requires t c =
 pub content-loop-out-smaller : goal.content-loop-out-smaller
 content-loop-out-smaller t c =
     let a = c.args in
-    let k = subst (AheadMade (length a.s.now) 1 c.loop-out.st) c.in-Done-argument.is c.argument.ensures.ahead_made in
+    let k = subst (AheadMade (length a.s.now) 1 c.loop-out.st) c.in_ok-st-in-Argument.was c.argument.ensures.ahead_made in
     omega (arith, k.grows.at, k.grows.inside)
 
 pub content-loop-out-preserved : goal.content-loop-out-preserved
 content-loop-out-preserved t c =
     let a = c.args in
     let l = c.loop-out in
-    let m = c.in-Done-argument.t in
-    let k = subst (AheadMade (length a.s.now) 1 l.st) c.in-Done-argument.is c.argument.ensures.ahead_made in
+    let m = c.in_ok-st-in-Argument.st in
+    let k = subst (AheadMade (length a.s.now) 1 l.st) c.in_ok-st-in-Argument.was c.argument.ensures.ahead_made in
     let n : length c.argument.new.out ≡ length l.out = c.argument.auto.out ∙ c.text_at.auto.out in (
       ways.ahead-on (length a.s.now) 1 a.first l.st m l.invariant.0 k,
       n ∙ l.invariant.1,
       l.invariant.2,
-      ways.ready_on a.s.now a.place 1 l.st m l.out _ a.names.now a.marks.now l.invariant.3 k n,
+      ways.ready_on a.s.now a.place 1 l.st m l.out _ l.invariant.3 k n,
       λ r₂ o₂ b₂ h. l.invariant.4 r₂ o₂ b₂
           (ways.turn-argument a.place (inside a.depth) a.verb a.s.now l.st l.out l.numbers c.text_at.result _ c.text_at.ensures.says_text
-          c.in-Argument.m c.in-Argument.end c.in-Argument.from c.in-Argument.to c.in-Argument.is c.argument.result _ c.argument.ensures.says_argument m r₂ o₂ b₂ h
-          c.in-Done-argument.is),
+          c.in-Argument.m c.in-Argument.end c.in-Argument.from c.in-Argument.to (told c.in_ok-text_at.was c.in-Argument.is)
+          c.argument.result _ c.argument.ensures.says_argument m r₂ o₂ b₂ h
+          c.in_ok-st-in-Argument.was),
     )
 
-pub content-returns-in-Refused-argument : goal.content-returns-in-Refused-argument
-content-returns-in-Refused-argument t c =
+pub content-returns-in_err-st-in-Argument : goal.content-returns-in_err-st-in-Argument
+content-returns-in_err-st-in-Argument t c =
     let a = c.args in
     let l = c.loop-out in
-    record {
+    let e = err_from_is_err_and c.from_residual-in_err-st-in-Argument.result c.from_residual-in_err-st-in-Argument.ensures.1 in
+    rw (e.1, e.2) (record {
       says_content = l.invariant.4 _ _ _
           (ways.turn_stopped a.place (inside a.depth) a.verb a.s.now l.st l.out l.numbers c.text_at.result _ c.text_at.ensures.says_text
-          c.in-Argument.m c.in-Argument.end c.in-Argument.from c.in-Argument.to c.in-Argument.is c.argument.result _ c.argument.ensures.says_argument _ c.in-Refused-argument.is);
-      ahead_made = subst (AheadMade (length a.s.now) 1 l.st) c.in-Refused-argument.is c.argument.ensures.ahead_made;
-    }
+          c.in-Argument.m c.in-Argument.end c.in-Argument.from c.in-Argument.to (told c.in_ok-text_at.was c.in-Argument.is)
+          c.argument.result _ c.argument.ensures.says_argument _ c.in_err-st-in-Argument.was);
+      ahead_made = subst (AheadMade (length a.s.now) 1 l.st) c.in_err-st-in-Argument.was c.argument.ensures.ahead_made;
+    })

@@ -1,17 +1,7 @@
 -- `literal::parse::close` meets its contract. Assumes nothing.
-use native.Mathlib.Omega.{arith}
 use Rattle.literal.proofs.ways.MakingWays.{literal-done}
 use Rattle.literal.proofs.ways.LiteralWays.{closed-done, closed-left}
 use Rattle.literal.proofs.parse.close.Goals as goal
-
-pub overflow_add-place-then-t-2 : goal.overflow_add-place-then-t-2
-overflow_add-place-then-t-2 c = omega (arith, c.requires.0.start)
-
-pub overflow_add-place-then-t-3 : goal.overflow_add-place-then-t-3
-overflow_add-place-then-t-3 c = omega (arith, c.requires.1)
-
-pub push-requires : goal.push-requires
-push-requires c = c.requires.0.rows
 
 pub returns-then-t : goal.returns-then-t
 returns-then-t c =

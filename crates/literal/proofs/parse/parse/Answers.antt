@@ -1,6 +1,5 @@
 -- `literal::parse::parse` meets its contract. Assumes nothing.
-use native.Mathlib.Omega.{arith}
-use mathlib.Core.Path.{subst}
+use Rattle.std.proofs.Common.{arith, subst}
 use Rattle.literal.specs.declared.parse.Begun.{Begun}
 use Rattle.literal.specs.Inner.{SaysBegun}
 use Rattle.literal.proofs.ways.LiteralWays.{parse-whole}
@@ -24,8 +23,6 @@ rest-requires c =
         scratch = omega (arith, p.scratch, c.begin.auto.out);
         value = p.value;
         rows = p.rows;
-        names = p.names;
-        marks = p.marks;
       },
       subst (λ (r : Begun). SaysBegun a.verb a.s.now r o) c.in-Part.is c.begin.ensures,
     )

@@ -1,5 +1,5 @@
 -- `literal::parse::whole` meets its contract. Assumes nothing.
-use native.Mathlib.Omega.{arith}
+use Rattle.std.proofs.Common.{arith}
 use Rattle.literal.proofs.ways.LiteralWays.{whole_row}
 use Rattle.literal.proofs.parse.whole.Goals as goal
 

@@ -1,19 +1,14 @@
 -- `lookup::hash::fnv1a` meets its contract. Assumes nothing.
-use native.Mathlib.Omega.{arith}
-use mathlib.Core.Path.{refl, sym, ◌∙◌}
+use Rattle.std.proofs.Common.{sym, ◌∙◌, arith}
 use Rattle.lookup.proofs.bytes.HashTurns.{hash-turn, hash-end}
 use Rattle.lookup.proofs.hash.fnv1a.Goals as goal
 
-pub loop-i-preserved : goal.loop-i-preserved
-loop-i-preserved c =
-    let bytes = c.args.bytes.now in
-    let l = c.loop-i in
-    (omega arith, rw (c.wrapping_mul-hash.ensures, c.wide.ensures) (l.invariant.1 ∙ hash-turn bytes l.hash l.i (omega arith)))
+pub loop-b-preserved : goal.loop-b-preserved
+loop-b-preserved c =
+    let l = c.loop-b in
+    rw (c.wrapping_mul-hash.ensures, c.from.ensures) (l.invariant ∙ hash-turn c.args.bytes.now l.hash l.b-index (omega arith))
 
 pub returns : goal.returns
 returns c =
-    let bytes = c.args.bytes.now in
-    sym (c.loop-i.invariant.1 ∙ hash-end bytes c.loop-i.hash c.loop-i.i (omega arith))
-
-pub loop-i-init : goal.loop-i-init
-loop-i-init c = (omega arith, refl)
+    let l = c.loop-b in
+    sym (l.invariant ∙ hash-end c.args.bytes.now l.hash l.b-index (omega arith))

@@ -1,6 +1,5 @@
 -- `lookup::order::gather` meets its contract. Assumes nothing.
-use native.Mathlib.Omega.{arith}
-use mathlib.Core.Path.{refl}
+use Rattle.std.proofs.Common.{refl, arith}
 use Rattle.lookup.proofs.loops.GatherTurns.{gather_none, going-in, going-not, going-ends}
 use Rattle.lookup.proofs.order.gather.Goals as goal
 use Rattle.lookup.proofs.order.gather.Goals.{then-rows-i-eq-DEFINITION_NAME, else-rows-i-eq-DEFINITION_NAME}
@@ -14,9 +13,9 @@ loop-i-preserved c =
     let a = c.args in
     let j = c.if-rows-i-eq-DEFINITION_NAME in
     elim j.branch [
-      | then-rows-i-eq-DEFINITION_NAME w ↦ going-in a.rows.now a.next.now l.next l.m l.i c.requires.0 l.invariant j.next j.m c.loop-i-test.true
+      | then-rows-i-eq-DEFINITION_NAME w ↦ going-in a.rows.now a.next.now l.next l.m l.i c.requires.0 l.invariant j.next j.m (omega arith)
           w.if-rows-i-eq-DEFINITION_NAME.true w.next-is w.m-is
-      | else-rows-i-eq-DEFINITION_NAME w ↦ going-not a.rows.now a.next.now l.next l.m l.i c.requires.0 l.invariant j.next j.m c.loop-i-test.true
+      | else-rows-i-eq-DEFINITION_NAME w ↦ going-not a.rows.now a.next.now l.next l.m l.i c.requires.0 l.invariant j.next j.m (omega arith)
           w.if-rows-i-eq-DEFINITION_NAME.false w.next-is w.m-is
     ]
 
@@ -24,7 +23,4 @@ pub returns : goal.returns
 returns c =
     let l = c.loop-i in
     let a = c.args in
-    going-ends a.rows.now a.next.now l.next l.m l.i c.requires.0 l.invariant c.loop-i-test.false
-
-pub shape_of-next : goal.shape_of-next
-shape_of-next c = c.loop-i.invariant.0
+    going-ends a.rows.now a.next.now l.next l.m l.i c.requires.0 l.invariant (omega arith)

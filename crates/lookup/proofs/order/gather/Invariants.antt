@@ -1,11 +1,6 @@
 -- The invariants of `lookup::order::gather`.
-use Prim.Native.Nat.{◌-◌, ◌/◌}
-use lib.ListN.{length}
 use Rattle.lookup.proofs.loops.GatherTurns.{Going}
 use Rattle.lookup.proofs.order.gather.Given as goal
 
 abbrev pub invariant-loop-i : goal.invariant-loop-i
 invariant-loop-i l = Going l.rows l.initial.next l.next l.m l.i
-
-abbrev pub decreases-loop-i : goal.decreases-loop-i
-decreases-loop-i l = length l.rows / 4 - l.i

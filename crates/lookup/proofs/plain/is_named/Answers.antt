@@ -1,5 +1,5 @@
 -- `lookup::plain::is_named` meets its contract. Assumes nothing.
-use mathlib.Core.Path.{◌∙◌}
+use Rattle.std.proofs.Common.{refl, ◌∙◌}
 use Rattle.lookup.proofs.rows.RowNumbers.{name_by, named-not, named-if}
 use Rattle.lookup.proofs.plain.is_named.Goals as goal
 
@@ -11,5 +11,5 @@ returns-then-rows-at-ne-DEFINITION_NAME c =
 pub returns : goal.returns
 returns c =
     let a = c.args in
-    let name = c.from.ensures ∙ name_by a.file.now a.rows.now a.i c.requires _ _ c.number.ensures c.number-2.ensures in
+    let name = c.from.ensures ∙ name_by a.file.now a.rows.now a.i c.requires _ _ refl refl in
     named-if a.file.now a.rows.now a.i c.requires a.name.now _ _ c.if-rows-at-ne-DEFINITION_NAME.false name c.equal.ensures

@@ -1,8 +1,5 @@
 -- `pack::packing::put_all` meets its contract: each turn of the loop writes the next row over the lent bytes. Assumes nothing.
-use Prim.Native.Nat.{◌+◌, ◌*◌, ◌/◌}
-use mathlib.Core.Path.{refl, ◌∙◌}
-use native.Mathlib.Omega.{arith}
-use lib.ListN.{length}
+use Rattle.std.proofs.Common.{◌+◌, ◌*◌, ◌/◌, refl, ◌∙◌, arith, length}
 use Rattle.pack.proofs.loops.ListWriting.{at_first}
 use Rattle.pack.proofs.bytes.AcceptedInput.{packable, packable-seven, seven-next}
 use Rattle.pack.proofs.loops.RowWriting.{pack-turn, pack-end}
@@ -34,9 +31,6 @@ loop-i-preserved c =
       (seven-next a.rows.now c.loop-i.i (omega arith) m.7).1,
       pack-turn a.rows.now a.bytes.now c.loop-i.i c.loop-i.p c.loop-i.bytes _ (omega arith) c.put_packed.ensures m.8,
     )
-
-pub shape_of-bytes : goal.shape_of-bytes
-shape_of-bytes c = c.loop-i.invariant.5
 
 pub returns : goal.returns
 returns c =

@@ -1,7 +1,5 @@
 -- The invariants of `pack::packing::put_all`.
-use Prim.Native.Nat.{ℕ, ◌*◌, ◌/◌, ◌%◌, ◌-◌, ◌≤◌}
-use mathlib.Core.Path.{◌≡◌}
-use lib.ListN.{length, drop}
+use Rattle.std.proofs.Common.{ℕ, ◌*◌, ◌/◌, ◌%◌, ◌-◌, ◌≤◌, ◌≡◌, length, drop}
 use Rattle.row.specs.Numbers.{rows_of}
 use Rattle.pack.proofs.bytes.AcceptedInput.{AllInSeven}
 use Rattle.pack.proofs.loops.RowWriting.{Packing}

@@ -1,6 +1,6 @@
 -- `pack::unpacking::is_unpackable` meets its contract: each turn of the loop judges a row. Assumes nothing.
-use native.Mathlib.Omega.{arith}
-use borrow.Author.Tests.{le-leb, lt-leb}
+use Rattle.std.proofs.Common.{arith, le-leb}
+use borrow.Author.Tests.{lt-leb}
 use Rattle.row.specs.Limits.{most_bytes}
 use Rattle.pack.specs.Seven.{unpack_at}
 use Rattle.pack.proofs.bytes.SevenBytes.{sevens-next, sevens-end}
@@ -15,16 +15,13 @@ loop-p-init c =
     let a = c.args in
     (c.if-bytes-ne0.false, omega arith, omega arith, seven-start a.bytes.now c.if-bytes-ne0.false c.first-masks.ensures)
 
-pub overflow_cast-head : goal.overflow_cast-head
-overflow_cast-head c = omega (arith, c.shared_slice_known-in-loop-p-1.given c.loop-p.p)
-
 pub loop-p-preserved : goal.loop-p-preserved
 loop-p-preserved c =
     let a = c.args in
     let m = c.loop-p.invariant in
     let r = unpack_at a.bytes.now c.loop-p.p in
     let e = le-leb r.end most_bytes (omega (arith, c.three-start.ensures.0, c.three-size.ensures.0)) in
-    (m.0, omega arith, omega arith, judge-row m.3 (sevens-next a.bytes.now c.loop-p.p (omega arith)) c.step-masks.ensures e)
+    (m.0, omega arith, omega arith, judge-row m.3 (sevens-next a.bytes.now c.loop-p.p (omega arith)) (rw c.from-head.ensures at c.step-masks.ensures) e)
 
 pub returns-else-start-size-le-LAST_PLACE : goal.returns-else-start-size-le-LAST_PLACE
 returns-else-start-size-le-LAST_PLACE c =

@@ -1,7 +1,5 @@
 -- The invariants of `pack::unpacking::is_unpackable`.
-use Prim.Native.Nat.{◌%◌, ◌-◌, ◌≤◌}
-use mathlib.Core.Path.{◌≡◌}
-use lib.ListN.{length, drop}
+use Rattle.std.proofs.Common.{◌%◌, ◌-◌, ◌≤◌, ◌≡◌, length, drop}
 use Rattle.pack.specs.Seven.{unpacking, end_fits}
 use Rattle.pack.specs.Unpack.{is_unpackable}
 use Rattle.pack.proofs.loops.Judging.{Judging}

@@ -1,17 +1,8 @@
 -- `pack::unpacking::put_all` meets its contract: each turn of the loop lays the next row over the lent numbers. Assumes nothing.
-use Prim.Native.Nat.{◌+◌, ◌/◌, ◌%◌}
-use mathlib.Core.Path.{refl, ◌∙◌}
-use native.Mathlib.Omega.{arith}
-use lib.ListN.{get_or}
+use Rattle.std.proofs.Common.{◌+◌, ◌/◌, ◌%◌, ◌∙◌, arith, get_or}
 use Rattle.row.specs.Row.{row_of}
 use Rattle.pack.proofs.loops.RowWriting.{unpack-turn, unpack-end}
 use Rattle.pack.proofs.unpacking.put_all.Goals as goal
-
-pub loop-p-init : goal.loop-p-init
-loop-p-init c = (refl, refl, omega arith, refl, c.requires, refl)
-
-pub overflow_cast-head : goal.overflow_cast-head
-overflow_cast-head c = omega (arith, c.shared_slice_known-in-loop-p-1.given c.loop-p.p)
 
 pub loop-p-preserved : goal.loop-p-preserved
 loop-p-preserved c =
@@ -26,11 +17,8 @@ loop-p-preserved c =
       m.4,
       unpack-turn a.bytes.now a.rows.now c.loop-p.p c.loop-p.n r c.loop-p.rows _ (omega arith)
           (rw (c.three-start.ensures.0, c.three-size.ensures.0))
-          c.write_numbers.ensures m.5,
+          (rw c.from-head.ensures at c.write_numbers.ensures) m.5,
     )
-
-pub shape_of-rows : goal.shape_of-rows
-shape_of-rows c = c.loop-p.invariant.3
 
 pub returns : goal.returns
 returns c =

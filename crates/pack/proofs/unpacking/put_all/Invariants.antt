@@ -1,7 +1,5 @@
 -- The invariants of `pack::unpacking::put_all`.
-use Prim.Native.Nat.{◌*◌, ◌/◌, ◌-◌, ◌≤◌}
-use mathlib.Core.Path.{◌≡◌}
-use lib.ListN.{length}
+use Rattle.std.proofs.Common.{◌*◌, ◌/◌, ◌-◌, ◌≤◌, ◌≡◌, length}
 use Rattle.pack.proofs.loops.RowWriting.{Unpacking}
 use Rattle.pack.proofs.unpacking.put_all.Given as goal
 

@@ -1,5 +1,5 @@
 -- `raw::field::field_end` meets its contract. Assumes nothing.
-use native.Mathlib.Omega.{arith}
+use Rattle.std.proofs.Common.{arith}
 use Rattle.raw.proofs.contracts.SaysLaws.{turn-done, turn-again, turn-off}
 use Rattle.raw.proofs.ways.FieldWays.{end-end, end-here, end-comma, end-brace, end-off}
 use Rattle.raw.proofs.field.field_end.Goals.{else-p1-s, then-p1-s+else-b-eq44+else-b-eq125}

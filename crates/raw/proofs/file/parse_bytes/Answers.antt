@@ -1,24 +1,14 @@
 -- `raw::file::parse_bytes` meets its contract. Assumes nothing.
-use Rattle.raw.proofs.ways.FileWays.{bytes-ill, bytes-off, bytes_on}
+use Rattle.std.proofs.Common.{rules}
+use Rattle.raw.proofs.contracts.SaysLaws.{says-exit}
+use Rattle.raw.proofs.ways.FileWays.{bytes-ill, bytes-told}
 use Rattle.raw.proofs.file.parse_bytes.Goals as goal
 
-pub returns-in_default : goal.returns-in_default
-returns-in_default c = record {
-  says = bytes_on c.args.s.now c.args.rows.now c.requires c.validate_short.ensures c.in-Valid.is
-      c.parse-r.ensures.says c.in_default.is;
-  within = c.parse-r.ensures.within;
-}
+pub returns-in_err-validate_short-clause-says : goal.returns-in_err-validate_short-clause-says
+returns-in_err-validate_short-clause-says c =
+    says-exit (bytes-ill c.args.s.now c.requires c.in_err-validate_short.ensures) c.from_residual.result c.from_residual.ensures.1
 
-pub returns-in-IllFormed : goal.returns-in-IllFormed
-returns-in-IllFormed c = record {
-  says = rw c.fault_at.ensures
-      (bytes-ill c.args.s.now c.args.rows.now c.requires c.validate_short.ensures c.in-IllFormed.is);
-  within = tt;
-}
-
-pub returns-in-Refused : goal.returns-in-Refused
-returns-in-Refused c = record {
-  says = bytes-off c.args.s.now c.args.rows.now c.requires c.validate_short.ensures c.in-Valid.is
-      c.parse-r.ensures.says c.in-Refused.is c.culprit.ensures;
-  within = tt;
-}
+pub returns-clause-says : goal.returns-clause-says
+returns-clause-says c =
+    bytes-told c.args.s.now c.requires c.in_ok-validate_short.ensures _ c.parse.result c.map_err.result c.map_err.ensures.cases (λ f g l. search rules)
+    c.parse.ensures.says

@@ -3,6 +3,4 @@ use Rattle.raw.proofs.ways.FileWays.{read-long}
 use Rattle.raw.proofs.file.read.Goals as goal
 
 pub returns-then-s-gt-MOST_BYTES : goal.returns-then-s-gt-MOST_BYTES
-returns-then-s-gt-MOST_BYTES c =
-    let a = c.args in
-    rw c.fault_at.ensures (read-long a.s.now a.rows.now c.if-s-gt-MOST_BYTES.true)
+returns-then-s-gt-MOST_BYTES c = let a = c.args in rw c.nowhere.ensures (read-long a.s.now a.rows.now c.if-s-gt-MOST_BYTES.true)

@@ -1,12 +1,10 @@
 -- `raw::token::comma` meets its contract. Assumes nothing.
-use native.Mathlib.Omega.{arith}
+use Rattle.std.proofs.Common.{rules, arith}
 use Rattle.text.specs.Class.{holds_of}
-use Rattle.raw.specs.Grammar.{comma}
+use Rattle.text.proofs.general.Tests.{narrow-is}
+use Rattle.raw.specs.Grammar.{is, comma}
 use Rattle.raw.proofs.token.comma.Goals as goal
-
-pub need-requires : goal.need-requires
-need-requires c = omega arith
 
 pub returns : goal.returns
 unfolding comma holds_of
-returns c = c.need.ensures
+returns c = c.need.ensures (is 0x2C) (narrow-is 0x2C (omega arith)) (λ b h r p. search rules)

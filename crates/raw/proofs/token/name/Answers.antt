@@ -6,6 +6,3 @@ pub returns-then-b-ender : goal.returns-then-b-ender
 returns-then-b-ender c =
     let a = c.args in
     ident-letters a.s.now a.at c.eat_letters-end.ensures c.if-at-end.true c.if-end-s.true c.requires c.if-b-ender.true
-
-pub returns : goal.returns
-returns c = c.ident.ensures

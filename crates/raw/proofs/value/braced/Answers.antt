@@ -1,55 +1,34 @@
 -- `raw::value::braced` meets its contract. Assumes nothing.
-use native.Mathlib.Omega.{arith}
-use lib.ListN.{length}
 use Rattle.raw.specs.Grammar.{opening, in_braces, closing, braced}
 use Rattle.raw.proofs.grammar.Rowless.{opening-rowless, in-braces-rowless, closing-rowless}
-use Rattle.raw.proofs.contracts.Bounds.{step-place, off-step}
-use Rattle.raw.proofs.contracts.SaysLaws.{says_of}
-use Rattle.raw.proofs.ways.DelimitedLiteral.{opens-off, inside-off, closes, literal-within}
+use Rattle.raw.proofs.contracts.SaysLaws.{says_of, says-exit}
+use Rattle.raw.proofs.ways.DelimitedLiteral.{opens-off, inside-off, closes}
 use Rattle.raw.proofs.value.braced.Goals as goal
 
-pub returns-in_default : goal.returns-in_default
+pub returns-in_err-p1-clause-says : goal.returns-in_err-p1-clause-says
 unfolding braced
-returns-in_default c =
-    let told = c.in_default.is in
+returns-in_err-p1-clause-says c =
     let a = c.args in
-    let s = a.s.now in
-    let all = off-step (length s) 2 a.at
-    (opens-off opening in_braces closing s a.at (opening-rowless s a.at) (in-braces-rowless s) (closing-rowless s)
-    c.opening-r1.ensures.0 told) told c.refused.ensures in
-    record { says = all.0; within = all.1 }
+    says-exit
+    (opens-off opening in_braces closing a.s.now a.at (opening-rowless a.s.now a.at) (in-braces-rowless a.s.now) (closing-rowless a.s.now)
+    c.in_err-p1.ensures.0)
+    c.from_residual.result c.from_residual.ensures.1
 
-pub returns-in_default-r2 : goal.returns-in_default-r2
+pub returns-in_err-p2-clause-says : goal.returns-in_err-p2-clause-says
 unfolding braced
-returns-in_default-r2 c =
-    let told = c.in_default-r2.is in
+returns-in_err-p2-clause-says c =
     let a = c.args in
-    let s = a.s.now in
-    let all = off-step (length s) 2 a.at
-    (inside-off opening in_braces closing s a.at (opening-rowless s a.at) (in-braces-rowless s) (closing-rowless s) c.opening-r1.ensures.0 c.in-At.is
-    c.in_braces-r2.ensures.0 told) told c.refused-in_default-r2.ensures in
-    record { says = all.0; within = all.1 }
+    let r = c.from_residual-in_err-p2 in
+    says-exit
+    (inside-off opening in_braces closing a.s.now a.at (opening-rowless a.s.now a.at) (in-braces-rowless a.s.now) (closing-rowless a.s.now)
+    c.in_ok-p1.ensures.0 c.in_err-p2.ensures.0)
+    r.result r.ensures.1
 
-pub literal-requires : goal.literal-requires
-literal-requires c =
-    let len = length c.args.s.now in
-    let k = step-place len 1 c.args.at c.in-At.is c.opening-r1.ensures.1 c.requires.place in
-    let l = step-place len 0 _ c.in-At-r2.is c.in_braces-r2.ensures.1 k.1 in
-    let file = c.requires.file in
-    let rows = c.requires.rows in
-    (omega arith, record { file = omega arith; place = omega arith; rows = omega arith })
-
-pub returns : goal.returns
+pub returns-clause-says : goal.returns-clause-says
 unfolding braced
-returns c =
+returns-clause-says c =
     let a = c.args in
-    let s = a.s.now in
-    let len = length s in
-    let k = step-place len 1 a.at c.in-At.is c.opening-r1.ensures.1 c.requires.place in
-    let l = step-place len 0 _ c.in-At-r2.is c.in_braces-r2.ensures.1 k.1 in
-    let e = closes opening in_braces closing s a.at (opening-rowless s a.at) (in-braces-rowless s) (closing-rowless s) c.opening-r1.ensures.0 c.in-At.is
-    c.in_braces-r2.ensures.0 c.in-At-r2.is c.closing.ensures.0 in record {
-      says = says_of e c.literal.ensures;
-      within = literal-within len a.at c.in-At.p1 _ a.base a.n c.closing.result (omega arith) l.1
-          c.closing.ensures.1 c.literal.ensures;
-    }
+    says_of
+    (closes opening in_braces closing a.s.now a.at (opening-rowless a.s.now a.at) (in-braces-rowless a.s.now) (closing-rowless a.s.now)
+    c.in_ok-p1.ensures.0 c.in_ok-p2.ensures.0 c.closing.ensures.0)
+    c.literal.ensures

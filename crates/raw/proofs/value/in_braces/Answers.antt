@@ -1,25 +1,9 @@
 -- `raw::value::in_braces` meets its contract: a byte is a turn of `braced_turn`, over a character or an octet of one; a run of plain bytes
 -- is as many turns. Assumes nothing.
-use native.Mathlib.Omega.{arith}
-use Rattle.raw.proofs.ways.ByteLoops.{reached}
+use Rattle.std.proofs.Common.{arith}
 use Rattle.raw.proofs.ways.ByteTurns.{braces-end, braces-open, braces-close, braces-closed, braces-plain}
 use Rattle.raw.proofs.ways.BlockLoops.{braces-clear, braces-far, braces-eof}
 use Rattle.raw.proofs.value.in_braces.Goals as goal
-
-pub loop-i-init : goal.loop-i-init
-loop-i-init c = (omega arith, reached)
-
-pub bounds-s-i : goal.bounds-s-i
-bounds-s-i c = omega arith
-
-pub overflow_add-depth : goal.overflow_add-depth
-overflow_add-depth c = omega arith
-
-pub overflow_add-i : goal.overflow_add-i
-overflow_add-i c = omega arith
-
-pub loop-i-smaller-in-123 : goal.loop-i-smaller-in-123
-loop-i-smaller-in-123 c = omega arith
 
 pub loop-i-preserved-in-123 : goal.loop-i-preserved-in-123
 loop-i-preserved-in-123 c = (omega arith, braces-open c.loop-i.invariant.1 c.loop-i-test.true c.in-123.is)
@@ -30,47 +14,20 @@ returns-then-depth-eq0 c =
     let test = c.loop-i-test in
     braces-closed turn.invariant.1 test.true c.in-125.is c.if-depth-eq0.true
 
-pub overflow_sub-depth : goal.overflow_sub-depth
-overflow_sub-depth c = omega arith
-
-pub overflow_add-i-in-125 : goal.overflow_add-i-in-125
-overflow_add-i-in-125 c = omega arith
-
-pub loop-i-smaller-in-125 : goal.loop-i-smaller-in-125
-loop-i-smaller-in-125 c = omega arith
-
 pub loop-i-preserved-in-125 : goal.loop-i-preserved-in-125
 loop-i-preserved-in-125 c =
     let turn = c.loop-i in
     let test = c.loop-i-test in
     (omega arith, braces-close turn.invariant.1 test.true c.in-125.is c.if-depth-eq0.false)
 
-pub overflow_sub-s : goal.overflow_sub-s
-overflow_sub-s c = omega arith
-
-pub overflow_add-end : goal.overflow_add-end
-overflow_add-end c = omega arith
-
 pub returns-then-s-i-lt2 : goal.returns-then-s-i-lt2
 returns-then-s-i-lt2 c = rw c.fault_at.ensures (braces-eof c.loop-i.invariant.1 c.loop-i-test.true c.in-92.is (omega arith))
-
-pub overflow_add-i-in-92 : goal.overflow_add-i-in-92
-overflow_add-i-in-92 c = omega arith
-
-pub loop-i-smaller-in-92 : goal.loop-i-smaller-in-92
-loop-i-smaller-in-92 c = omega arith
 
 pub loop-i-preserved-in-92 : goal.loop-i-preserved-in-92
 loop-i-preserved-in-92 c =
     let turn = c.loop-i in
     let test = c.loop-i-test in
     (omega arith, braces-far turn.invariant.1 test.true c.in-92.is (omega arith))
-
-pub overflow_add-i-in_default : goal.overflow_add-i-in_default
-overflow_add-i-in_default c = omega arith
-
-pub loop-i-smaller : goal.loop-i-smaller
-loop-i-smaller c = omega (arith, c.past_braces-i.ensures.from)
 
 pub loop-i-preserved : goal.loop-i-preserved
 loop-i-preserved c =

@@ -1,6 +1,5 @@
 -- The invariants of `raw::value::in_braces`.
-use Prim.Native.Nat.{◌-◌, ◌≤◌}
-use lib.ListN.{length}
+use Rattle.std.proofs.Common.{◌-◌, ◌≤◌, length}
 use Rattle.raw.specs.Grammar.{braced_turn}
 use Rattle.raw.proofs.ways.ByteLoops.{Reached}
 use Rattle.raw.proofs.value.in_braces.Given as goal

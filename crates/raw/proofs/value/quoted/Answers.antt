@@ -1,38 +1,19 @@
 -- `raw::value::quoted` meets its contract: a byte, or a backslash with the byte after it, is a turn of `quoted_turn`; a run of bytes is as
 -- many turns. Assumes nothing.
-use native.Mathlib.Omega.{arith}
-use Rattle.raw.proofs.ways.ByteLoops.{reached}
+use Rattle.std.proofs.Common.{arith}
 use Rattle.raw.proofs.ways.ByteTurns.{quoted-closed, quoted-plain}
 use Rattle.raw.proofs.ways.BlockLoops.{quoted-clear, quoted-far, quoted-rest}
 use Rattle.raw.proofs.value.quoted.Goals as goal
-
-pub loop-at-init : goal.loop-at-init
-loop-at-init c = reached
-
-pub bounds-s-i : goal.bounds-s-i
-bounds-s-i c = omega (arith, c.has.ensures c.loop-at-test.true)
 
 pub returns-in-34 : goal.returns-in-34
 returns-in-34 c =
     let turn = c.loop-at in
     quoted-closed turn.invariant (omega (arith, c.has.ensures c.loop-at-test.true)) c.in-34.is
 
-pub overflow_add-i : goal.overflow_add-i
-overflow_add-i c = omega (arith, c.has.ensures c.loop-at-test.true)
-
-pub loop-at-smaller-in-92 : goal.loop-at-smaller-in-92
-loop-at-smaller-in-92 c = omega (arith, c.has.ensures c.loop-at-test.true)
-
 pub loop-at-preserved-in-92 : goal.loop-at-preserved-in-92
 loop-at-preserved-in-92 c =
     let turn = c.loop-at in
     quoted-far turn.invariant (omega (arith, c.has.ensures c.loop-at-test.true)) c.in-92.is
-
-pub overflow_add-j : goal.overflow_add-j
-overflow_add-j c = omega (arith, c.has.ensures c.loop-at-test.true)
-
-pub bounds-s-j : goal.bounds-s-j
-bounds-s-j c = omega (arith, c.has.ensures c.loop-at-test.true)
 
 pub returns-in-34-s : goal.returns-in-34-s
 returns-in-34-s c =
@@ -40,23 +21,11 @@ returns-in-34-s c =
     let m = c.in_default.in_default-own.rest in
     quoted-closed (quoted-plain c.loop-at.invariant (omega (arith, h)) m.0.1 m.1) (omega (arith, h)) c.in-34-s.is
 
-pub overflow_add-i-in-92-s : goal.overflow_add-i-in-92-s
-overflow_add-i-in-92-s c = omega (arith, c.has.ensures c.loop-at-test.true)
-
-pub loop-at-smaller-in-92-s : goal.loop-at-smaller-in-92-s
-loop-at-smaller-in-92-s c = omega (arith, c.has.ensures c.loop-at-test.true)
-
 pub loop-at-preserved-in-92-s : goal.loop-at-preserved-in-92-s
 loop-at-preserved-in-92-s c =
     let h = c.has.ensures c.loop-at-test.true in
     let m = c.in_default.in_default-own.rest in
     quoted-far (quoted-plain c.loop-at.invariant (omega (arith, h)) m.0.1 m.1) (omega (arith, h)) c.in-92-s.is
-
-pub overflow_add-j-in_default-s : goal.overflow_add-j-in_default-s
-overflow_add-j-in_default-s c = omega (arith, c.has.ensures c.loop-at-test.true)
-
-pub loop-at-smaller : goal.loop-at-smaller
-loop-at-smaller c = omega (arith, c.has.ensures c.loop-at-test.true, c.past_quotes-i.ensures.from)
 
 pub loop-at-preserved : goal.loop-at-preserved
 loop-at-preserved c =

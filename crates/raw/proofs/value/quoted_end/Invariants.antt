@@ -1,6 +1,5 @@
 -- The invariants of `raw::value::quoted_end`.
-use Prim.Native.Nat.{◌-◌}
-use lib.ListN.{length}
+use Rattle.std.proofs.Common.{◌-◌, length}
 use Rattle.raw.specs.Grammar.{quoted_turn}
 use Rattle.raw.proofs.ways.ByteLoops.{Reached}
 use Rattle.raw.proofs.value.quoted_end.Given as goal

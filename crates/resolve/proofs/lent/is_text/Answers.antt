@@ -1,7 +1,6 @@
 -- `resolve::lent::is_text` meets its contract. Assumes nothing.
-use native.Mathlib.Omega.{arith}
-use mathlib.Core.Path.{sym, ◌∙◌}
-use Rattle.resolve.proofs.lending.CheckWays.{text-not, text-inside, text-there}
+use Rattle.std.proofs.Common.{arith, ◌∙◌}
+use Rattle.resolve.proofs.lending.CheckWays.{text-not, text-inside, text-there, valid-told}
 use Rattle.resolve.proofs.lent.is_text.Goals as goal
 
 pub returns-then-to-from : goal.returns-then-to-from
@@ -16,12 +15,5 @@ slice_bounds-validate-start c = let a = c.args in omega (arith, text-inside a.wo
 pub slice_bounds-validate-end : goal.slice_bounds-validate-end
 slice_bounds-validate-end c = let a = c.args in omega (arith, text-inside a.words.now a.from a.to c.if-to-from.false)
 
-pub returns-in-Valid : goal.returns-in-Valid
-returns-in-Valid c =
-    let a = c.args in
-    text-there a.words.now a.from a.to c.if-to-from.false _ (sym c.in-Valid.is ∙ c.validate.ensures)
-
-pub returns-in-IllFormed : goal.returns-in-IllFormed
-returns-in-IllFormed c =
-    let a = c.args in
-    text-there a.words.now a.from a.to c.if-to-from.false _ (sym c.in-IllFormed.is ∙ c.validate.ensures)
+pub returns : goal.returns
+returns c = let a = c.args in rw c.is_ok.ensures.value (valid-told _ ∙ text-there a.words.now a.from a.to c.if-to-from.false _ c.validate.ensures)

@@ -5,7 +5,7 @@ use Rattle.resolve.proofs.one_literal.one_chunk.Goals as goal
 pub returns-then-chunks-text : goal.returns-then-chunks-text
 returns-then-chunks-text c =
     let a = c.args in
-    one-full a.t.now a.n a.start a.end c.requires.0 c.requires.1 a.chunks.now a.text.now c.if-chunks-text.true
+    rw c.nowhere.ensures (one-full a.t.now a.n a.start a.end c.requires.0 c.requires.1 a.chunks.now a.text.now c.if-chunks-text.true)
 
 pub returns : goal.returns
 returns c =

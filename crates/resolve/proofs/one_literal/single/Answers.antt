@@ -10,14 +10,14 @@ pub one_chunk-requires : goal.one_chunk-requires
 one_chunk-requires c =
     let a = c.args in
     let one = subst (λ (r : Begun). SaysBegun a.verbatim a.s.now r c.begin.new.out) c.in-Whole.is c.begin.ensures in
-    (one.few, omega (arith, one.few, c.requires.1.scratch, c.begin.auto.out), omega (arith, c.requires.0), c.requires.0)
+    (one.few, omega (arith, one.few, c.requires.1, c.begin.auto.out), omega (arith, c.requires.0), c.requires.0)
 
 pub write-requires : goal.write-requires
 write-requires c =
     let a = c.args in
     let p = c.requires in (
       p.0,
-      record { scratch = omega (arith, p.1.scratch, c.begin.auto.out); names = p.1.names; marks = p.1.marks },
+      omega (arith, p.1, c.begin.auto.out),
       subst (λ (r : Begun). SaysBegun a.verbatim a.s.now r c.begin.new.out) c.in-Part.is c.begin.ensures,
     )
 

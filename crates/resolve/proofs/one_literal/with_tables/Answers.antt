@@ -16,11 +16,7 @@ pub write-requires : goal.write-requires
 write-requires c =
     let a = c.args in (
       c.requires.0,
-      record {
-        scratch = omega (arith, c.requires.1, c.begin.auto.out);
-        names = c.names-names.ensures;
-        marks = c.table-marks.ensures;
-      },
+      omega (arith, c.requires.1, c.begin.auto.out),
       subst (λ (r : Begun). SaysBegun a.verbatim a.s.now r c.begin.new.out) c.in-Part.is c.begin.ensures,
     )
 

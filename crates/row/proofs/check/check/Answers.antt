@@ -31,7 +31,7 @@ loop-i-smaller c =
     let m = c.loop-i.invariant in
     let x = named_value a.rows.now c.loop-i.i c.loop-i.state _ _ _ (omega arith) c.step-state.ensures
     c.in-Value.is c.value_row.ensures m.3
-    _ c.in-Value-value_row.is in
+    _ c.in-Some.is in
     omega (arith, x.0.0, x.0.1)
 
 pub loop-i-preserved : goal.loop-i-preserved
@@ -40,7 +40,7 @@ loop-i-preserved c =
     let m = c.loop-i.invariant in
     let x = named_value a.rows.now c.loop-i.i c.loop-i.state _ _ _ (omega arith) c.step-state.ensures
     c.in-Value.is c.value_row.ensures m.3
-    _ c.in-Value-value_row.is in
+    _ c.in-Some.is in
     (m.0, omega (arith, x.0.0), omega (arith, x.0.0, x.0.1), x.1)
 
 pub returns-then-is_whole : goal.returns-then-is_whole

@@ -8,4 +8,4 @@ pub returns : goal.returns
 returns c =
     let a = c.args in
     c.write_numbers.ensures
-    ∙ ap (λ (k : ℕ). put_row a.rows.now a.n (row_of k a.detail a.start a.end)) c.kind_number.ensures
+    ∙ ap (λ (k : ℕ). put_row a.rows.now a.n (row_of k a.detail a.start a.end)) c.from.ensures

@@ -1,6 +1,5 @@
 -- The invariants of `salvage::file::read_pieces`.
-use Prim.Native.Nat.{◌-◌}
-use lib.ListN.{length}
+use Rattle.std.proofs.Common.{◌-◌, length}
 use Rattle.salvage.proofs.ways.PieceLoop.{Going}
 use Rattle.salvage.proofs.file.read_pieces.Given as goal
 

@@ -1,6 +1,5 @@
 -- The invariants of `salvage::piece::far_end`.
-use Prim.Native.Nat.{ℕ, ◌-◌, ◌≤◌, ◌<◌}
-use lib.ListN.{length}
+use Rattle.std.proofs.Common.{ℕ, ◌-◌, ◌≤◌, ◌<◌, length}
 use Rattle.salvage.specs.Inner.{PieceEnds}
 use Rattle.salvage.proofs.piece.far_end.Given as goal
 

@@ -1,5 +1,5 @@
 -- `salvage::piece::write_damage` meets its contract. Assumes nothing.
-use native.Mathlib.Omega.{arith}
+use Rattle.std.proofs.Common.{arith}
 use Rattle.salvage.proofs.ways.ReadPiece.{damage-put}
 use Rattle.salvage.proofs.piece.write_damage.Goals as goal
 

@@ -1,7 +1,5 @@
 -- `text::block::copy` meets its contract. Assumes nothing.
-use Prim.Native.Nat.{◌-◌}
-use native.Mathlib.Omega.{arith}
-use mathlib.Core.Path.{refl, ◌∙◌}
+use Rattle.std.proofs.Common.{◌-◌, arith, refl, ◌∙◌}
 use Rattle.text.proofs.general.Stores.{sets-parts, sets-none}
 use Rattle.text.proofs.block.copy.Goals as goal
 

@@ -1,7 +1,5 @@
 -- The invariants of `text::block::copy`.
-use Prim.Native.Nat.{◌+◌, ◌-◌, ◌≤◌}
-use mathlib.Core.Path.{◌≡◌}
-use lib.ListN.{length}
+use Rattle.std.proofs.Common.{◌+◌, ◌-◌, ◌≤◌, ◌≡◌, length}
 use lib.Seq.{sets}
 use Rattle.text.specs.Scan.{part}
 use Rattle.text.proofs.block.copy.Given as goal

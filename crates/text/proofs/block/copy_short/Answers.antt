@@ -1,16 +1,10 @@
 -- `text::block::copy_short` meets its contract. Assumes nothing.
-use Prim.Native.Nat.{◌+◌, ◌-◌, ◌<◌}
-use native.Mathlib.Omega.{arith}
-use mathlib.Core.Path.{refl, ◌∙◌}
-use lib.ListN.{length, length-set}
+use Rattle.std.proofs.Common.{◌+◌, ◌-◌, ◌<◌, refl, ◌∙◌, arith, length, length-set}
 use Rattle.text.proofs.general.Stores.{sets-parts, sets-none, sets_more, sets-done}
 use Rattle.text.proofs.block.copy_short.Goals as goal
 
 pub move_block-requires-then-n-ge8 : goal.move_block-requires-then-n-ge8
 move_block-requires-then-n-ge8 c = omega (arith, c.move_block.auto.out)
-
-pub shape_of-out-then-n-ge8 : goal.shape_of-out-then-n-ge8
-shape_of-out-then-n-ge8 c = c.move_block-then-n-ge8.auto.out ∙ c.move_block.auto.out
 
 pub returns-then-n-ge8 : goal.returns-then-n-ge8
 returns-then-n-ge8 c =
@@ -21,9 +15,6 @@ returns-then-n-ge8 c =
 pub move_block-requires-then-n-ge4-2 : goal.move_block-requires-then-n-ge4-2
 move_block-requires-then-n-ge4-2 c = omega (arith, c.move_block-then-n-ge4.auto.out)
 
-pub shape_of-out-then-n-ge4 : goal.shape_of-out-then-n-ge4
-shape_of-out-then-n-ge4 c = c.move_block-then-n-ge4-2.auto.out ∙ c.move_block-then-n-ge4.auto.out
-
 pub returns-then-n-ge4 : goal.returns-then-n-ge4
 returns-then-n-ge4 c =
     let a = c.args in
@@ -33,22 +24,18 @@ returns-then-n-ge4 c =
 pub loop-i-init : goal.loop-i-init
 loop-i-init c =
     let a = c.args in
-    (omega arith, refl, sets-none a.s.now a.out.now a.from a.at)
+    (refl, sets-none a.s.now a.out.now a.from a.at)
 
 pub loop-i-preserved : goal.loop-i-preserved
 loop-i-preserved c =
     let a = c.args in
     let b = c.loop-i in
     let inside : a.from + b.i < length a.s.now = omega arith in (
-      omega arith,
-      length-set b.out (a.at + b.i) _ ∙ b.invariant.1,
-      sets_more a.s.now a.out.now a.from a.at b.i inside b.invariant.2 refl,
+      length-set b.out (a.at + b.i) _ ∙ b.invariant.0,
+      sets_more a.s.now a.out.now a.from a.at b.i inside b.invariant.1 refl,
     )
-
-pub shape_of-out : goal.shape_of-out
-shape_of-out c = c.loop-i.invariant.1
 
 pub returns : goal.returns
 returns c =
     let a = c.args in
-    sets-done a.s.now a.out.now a.from a.at c.loop-i.invariant.2 (omega arith)
+    sets-done a.s.now a.out.now a.from a.at c.loop-i.invariant.1 (omega arith)

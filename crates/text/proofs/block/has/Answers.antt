@@ -1,9 +1,5 @@
 -- `text::block::has` meets its contract. Assumes nothing.
-use Prim.Native.Nat.{ℕ, ◌-◌}
-use mathlib.Core.Path.{◌≡◌}
-use native.Mathlib.Omega.{arith}
-use lib.ListN.{length}
-use borrow.Author.Tests.{leb-true}
+use Rattle.std.proofs.Common.{ℕ, ◌-◌, ◌≡◌, arith, length, leb-true}
 use Rattle.text.proofs.block.has.Goals as goal
 
 pub returns-then-s-n : goal.returns-then-s-n

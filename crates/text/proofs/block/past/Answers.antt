@@ -1,16 +1,10 @@
 -- `text::block::past` meets its contract. Assumes nothing.
-use native.Mathlib.Omega.{arith}
+use Rattle.std.proofs.Common.{arith}
 use Rattle.text.proofs.scanning.Blocks.{clear_none, clear-join, clear-block}
 use Rattle.text.proofs.block.past.Goals as goal
 
 pub loop-x-init : goal.loop-x-init
 loop-x-init c = clear_none
-
-pub part-k-requires : goal.part-k-requires
-part-k-requires c = c.has.ensures c.loop-x-test.true
-
-pub overflow_add-result : goal.overflow_add-result
-overflow_add-result c = let h = c.has.ensures c.loop-x-test.true in omega (arith, h)
 
 pub returns-then-k-lt16 : goal.returns-then-k-lt16
 returns-then-k-lt16 c = clear-join c.loop-x.invariant c.part-k.ensures.0
@@ -23,6 +17,3 @@ loop-x-smaller c = let h = c.has.ensures c.loop-x-test.true in omega (arith, h)
 
 pub loop-x-preserved : goal.loop-x-preserved
 loop-x-preserved c = clear-block c.loop-x.invariant c.part-k.ensures.0 (omega arith)
-
-pub returns : goal.returns
-returns c = c.loop-x.invariant

@@ -1,6 +1,5 @@
 -- The invariants of `text::block::past`.
-use Prim.Native.Nat.{◌-◌}
-use lib.ListN.{length}
+use Rattle.std.proofs.Common.{◌-◌, length}
 use Rattle.text.specs.Block.{Clear}
 use Rattle.text.proofs.block.past.Given as goal
 

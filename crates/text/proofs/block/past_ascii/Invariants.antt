@@ -1,6 +1,5 @@
 -- The invariants of `text::block::past_ascii`.
-use Prim.Native.Nat.{◌-◌}
-use lib.ListN.{length}
+use Rattle.std.proofs.Common.{◌-◌, length}
 use Rattle.text.specs.Block.{others, Clear}
 use Rattle.text.proofs.block.past_ascii.Given as goal
 

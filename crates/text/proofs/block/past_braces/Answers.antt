@@ -1,6 +1,5 @@
--- `text::block::past_braces` meets its contract. Assumes nothing.
-use Rattle.text.proofs.scanning.Blocks.{clear-as}
+-- `text::block::past_braces` meets its contract: by an answer, so that a fault in the set is refused for itself. Assumes nothing.
 use Rattle.text.proofs.block.past_braces.Goals as goal
 
 pub returns : goal.returns
-returns c = clear-as c.intervals.ensures c.past.ensures
+returns c = c.past.ensures

@@ -1,6 +1,5 @@
--- `text::block::past_narrow` meets its contract. Assumes nothing.
-use Rattle.text.proofs.scanning.Blocks.{clear-as}
+-- `text::block::past_narrow` meets its contract: by an answer, so that a fault in the set is refused for itself. Assumes nothing.
 use Rattle.text.proofs.block.past_narrow.Goals as goal
 
 pub returns : goal.returns
-returns c = clear-as c.intervals.ensures c.past_short.ensures
+returns c = c.past_short.ensures

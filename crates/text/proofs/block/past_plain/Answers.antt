@@ -1,13 +1,10 @@
 -- `text::block::past_plain` meets its contract. Assumes nothing.
-use native.Mathlib.Omega.{arith}
+use Rattle.std.proofs.Common.{arith}
 use Rattle.text.proofs.scanning.Blocks.{plain-none, plain-meet, plain-join, plain-block}
 use Rattle.text.proofs.block.past_plain.Goals as goal
 
 pub returns-then-not-has : goal.returns-then-not-has
 returns-then-not-has c = plain-none
-
-pub overflow_sub-last : goal.overflow_sub-last
-overflow_sub-last c = omega (arith, c.has.ensures c.if-not-has.false)
 
 pub loop-i-init : goal.loop-i-init
 loop-i-init c = (c.has.ensures c.if-not-has.false, plain-none)

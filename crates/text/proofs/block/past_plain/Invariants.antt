@@ -1,6 +1,5 @@
 -- The invariants of `text::block::past_plain`.
-use Prim.Native.Nat.{◌+◌, ◌-◌, ◌≤◌}
-use lib.ListN.{length}
+use Rattle.std.proofs.Common.{◌+◌, ◌-◌, ◌≤◌, length}
 use Rattle.text.specs.Block.{PlainRun}
 use Rattle.text.proofs.block.past_plain.Given as goal
 

@@ -1,8 +1,5 @@
 -- `text::block::past_short` meets its contract. Assumes nothing.
-use Prim.Native.Nat.{ℕ, ◌+◌, ◌-◌}
-use native.Mathlib.Omega.{arith}
-use mathlib.Core.Path.{◌≡◌, subst}
-use lib.ListN.{length}
+use Rattle.std.proofs.Common.{ℕ, ◌≡◌, ◌+◌, ◌-◌, subst, length, arith}
 use Rattle.text.specs.Block.{Clear}
 use Rattle.text.proofs.scanning.Blocks.{clear_none, clear-join, clear-meet}
 use Rattle.text.proofs.block.past_short.Goals as goal
@@ -10,14 +7,8 @@ use Rattle.text.proofs.block.past_short.Goals as goal
 pub returns-then-not-has : goal.returns-then-not-has
 returns-then-not-has c = clear_none
 
-pub overflow_sub-last : goal.overflow_sub-last
-overflow_sub-last c = omega (arith, c.has.ensures c.if-not-has.false)
-
 pub loop-i-init : goal.loop-i-init
 loop-i-init c = (c.has.ensures c.if-not-has.false, clear_none)
-
-pub returns-then-not-is_clear : goal.returns-then-not-is_clear
-returns-then-not-is_clear c = c.loop-i.invariant.1
 
 pub loop-i-preserved : goal.loop-i-preserved
 loop-i-preserved c = (c.loop-i.invariant.0, clear-join c.loop-i.invariant.1 (c.is_clear.ensures c.if-not-is_clear.false))
@@ -29,6 +20,3 @@ returns-then-is_clear c =
     let end : n - 16 + 16 ≡ n = omega arith in
     let rest = subst (λ (r : ℕ). Clear a.x a.s.now (n - 16) r) end (c.is_clear-2.ensures c.if-is_clear.true) in
     clear-meet c.loop-i.invariant.1 rest (omega arith) (omega arith)
-
-pub returns : goal.returns
-returns c = c.loop-i.invariant.1

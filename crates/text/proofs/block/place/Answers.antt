@@ -1,5 +1,5 @@
 -- `text::block::place` meets its contract. Assumes nothing.
-use native.Mathlib.Omega.{arith}
+use Rattle.std.proofs.Common.{arith}
 use Rattle.text.proofs.block.place.Goals as goal
 
 pub returns : goal.returns

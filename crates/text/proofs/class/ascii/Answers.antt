@@ -1,6 +1,5 @@
 -- `text::class::ascii` meets its contract: each row's bits are computed over ASCII. Assumes nothing.
-use mathlib.Core.Bool.{true, false}
-use native.Mathlib.Omega.{arith}
+use Rattle.std.proofs.Common.{true, false, arith}
 use Rattle.text.specs.Class.{white_space, control, is_whitespace, is_control, is_key, is_id_continue, is_id_start, holds_of}
 use Rattle.text.specs.Inner.{has_bit}
 use Rattle.text.specs.declared.class.Test.TheVariants.{Whitespace, Key, IdStart, IdContinue, Digit, Comma, QuotationMark, Equals}

@@ -1,5 +1,5 @@
 -- `text::class::has` meets its contract. Assumes nothing.
-use borrow.Author.Tests.{lt-ltb, le-ltb}
+use Rattle.std.proofs.Common.{lt-ltb, le-ltb}
 use Rattle.text.specs.Inner.{has_bit}
 use Rattle.text.proofs.class.has.Goals as goal
 

@@ -1,7 +1,6 @@
 -- `text::class::holds` meets its contract: each arm is a clause of `holds_of`. Assumes nothing.
-use mathlib.Core.Bool.{◌||◌, or-false}
-use mathlib.Core.Path.{sym, ap, ◌∙◌}
-use lib.Dec.{eqb}
+use Rattle.std.proofs.Common.{◌||◌, sym, ap, ◌∙◌, eqb}
+use mathlib.Core.Bool.{or-false}
 use Rattle.text.specs.Class.{holds_of}
 use Rattle.text.proofs.scanning.Masks.{told}
 use Rattle.text.proofs.class.holds.Goals as goal

@@ -1,9 +1,6 @@
 -- `turn::turn::argument_end` meets its contract. The invariant: the search from `i` on finds what the search from the start finds.
 -- Assumes nothing.
-use Prim.Native.Nat.{ℕ, ◌+◌}
-use native.Mathlib.Omega.{arith}
-use native.Mathlib.Numerals.{add-one}
-use mathlib.Core.Path.{refl, sym, ap, ◌∙◌}
+use Rattle.std.proofs.Common.{ℕ, ◌+◌, arith, add-one, refl, sym, ap, ◌∙◌}
 use Rattle.raw.specs.Reader.{many}
 use Rattle.turn.specs.Content.{end_turn, argument_end}
 use Rattle.turn.specs.Turns.{end_of}
@@ -19,10 +16,10 @@ returns-then-s-j c =
     let loop = c.loop-at in
     let s = c.args.s.now in
     let off = end-off loop.depth s loop.i c.eat_until-j.result c.eat_until-j.ensures.0 c.if-s-j.true in
-    record {
+    rw c.fault_at.ensures (record {
       value = off ∙ sym loop.invariant.3;
       end_inside = (omega (arith, c.eat_until-j.ensures.1.to, loop.invariant.1), omega (arith, c.eat_until-j.ensures.1.to, loop.invariant.1));
-    }
+    })
 
 pub loop-at-preserved-then-s-j-eq123 : goal.loop-at-preserved-then-s-j-eq123
 loop-at-preserved-then-s-j-eq123 c = (

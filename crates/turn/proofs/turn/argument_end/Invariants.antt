@@ -1,7 +1,5 @@
 -- The invariants of `turn::turn::argument_end`.
-use Prim.Native.Nat.{◌-◌, ◌≤◌}
-use mathlib.Core.Path.{◌≡◌}
-use lib.ListN.{length}
+use Rattle.std.proofs.Common.{◌-◌, ◌≤◌, ◌≡◌, length}
 use Rattle.raw.specs.Reader.{many}
 use Rattle.turn.specs.Content.{end_turn, argument_end}
 use Rattle.turn.specs.Turns.{end_of}

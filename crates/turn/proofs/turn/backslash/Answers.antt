@@ -1,7 +1,5 @@
 -- `turn::turn::backslash` meets its contract. Assumes nothing.
-use native.Mathlib.Omega.{arith}
-use mathlib.Core.Path.{sym, ◌∙◌}
-use mathlib.Core.Bool.{false}
+use Rattle.std.proofs.Common.{arith, sym, ◌∙◌, false}
 use Rattle.turn.proofs.ways.TextTurns.{says-as}
 use Rattle.turn.proofs.ways.CommandAnswers.{ends-verb, ends-refused, char-next, escapes, stands, behind, begins-so}
 use Rattle.turn.proofs.turn.backslash.Goals as goal
@@ -11,7 +9,7 @@ returns-then-verb c =
     let a = c.args in
     let p = c.requires in record {
       says_text = ends-verb a.verb a.s.now a.at a.len a.out.now p.0 p.1 c.peek.ensures.0
-          c.in-End.is c.if-verb.true c.push-l.result _ c.push-l.ensures.lays;
+          c.in-None.is c.if-verb.true c.push-l.result _ c.push-l.ensures.lays;
       grows_text = record { at = omega arith; inside = omega (arith, p.0); text = omega (arith, c.push-l.ensures.value) };
     }
 
@@ -19,7 +17,7 @@ pub copy-l-requires : goal.copy-l-requires
 copy-l-requires c =
     let a = c.args in
     let p = c.requires in
-    let next = char-next a.verb a.s.now a.at a.len a.out.now p.0 p.1 c.peek.ensures.0 c.in-Char.is
+    let next = char-next a.verb a.s.now a.at a.len a.out.now p.0 p.1 c.peek.ensures.0 c.in-Some.is
     c.is_escape.ensures in
     (omega (arith, next.0), next.1, omega (arith, next.0, next.1, p.2.room))
 
@@ -27,9 +25,9 @@ pub returns-then-is_escape : goal.returns-then-is_escape
 returns-then-is_escape c =
     let a = c.args in
     let p = c.requires in
-    let next = char-next a.verb a.s.now a.at a.len a.out.now p.0 p.1 c.peek.ensures.0 c.in-Char.is
+    let next = char-next a.verb a.s.now a.at a.len a.out.now p.0 p.1 c.peek.ensures.0 c.in-Some.is
     c.is_escape.ensures in record {
-      says_text = escapes a.verb a.s.now a.at a.len a.out.now p.0 p.1 c.peek.ensures.0 c.in-Char.is
+      says_text = escapes a.verb a.s.now a.at a.len a.out.now p.0 p.1 c.peek.ensures.0 c.in-Some.is
           c.is_escape.ensures c.if-is_escape.true c.copy-l.result _ c.copy-l.ensures.lays;
       grows_text = record { at = omega (arith, next.0); inside = next.1; text = omega (arith, next.0, c.copy-l.ensures.from_value) };
     }
@@ -38,7 +36,7 @@ pub returns-then-verb-2 : goal.returns-then-verb-2
 returns-then-verb-2 c =
     let a = c.args in
     let p = c.requires in record {
-      says_text = stands a.verb a.s.now a.at a.len a.out.now p.0 p.1 c.peek.ensures.0 c.in-Char.is
+      says_text = stands a.verb a.s.now a.at a.len a.out.now p.0 p.1 c.peek.ensures.0 c.in-Some.is
           c.is_escape.ensures c.if-is_escape.false c.if-verb-2.true c.push-l-then-verb-2.result _ c.push-l-then-verb-2.ensures.lays;
       grows_text = record { at = omega arith; inside = omega (arith, p.0); text = omega (arith, c.push-l-then-verb-2.ensures.value) };
     }
@@ -47,7 +45,7 @@ pub back_blank-requires : goal.back_blank-requires
 back_blank-requires c =
     let a = c.args in
     let p = c.requires in (
-      behind a.verb a.s.now a.at a.len a.out.now p.0 p.1 c.peek.ensures.0 c.in-Char.is
+      behind a.verb a.s.now a.at a.len a.out.now p.0 p.1 c.peek.ensures.0 c.in-Some.is
           c.is_escape.ensures c.if-is_escape.false c.if-verb-2.false,
       sym c.is_whitespace.ensures ∙ c.if-is_whitespace.true,
       p.2.room,
@@ -65,7 +63,7 @@ pub back_control-requires : goal.back_control-requires
 back_control-requires c =
     let a = c.args in
     let p = c.requires in (
-      behind a.verb a.s.now a.at a.len a.out.now p.0 p.1 c.peek.ensures.0 c.in-Char.is
+      behind a.verb a.s.now a.at a.len a.out.now p.0 p.1 c.peek.ensures.0 c.in-Some.is
           c.is_escape.ensures c.if-is_escape.false c.if-verb-2.false,
       sym c.is_whitespace.ensures ∙ c.if-is_whitespace.false,
       sym c.is_control.ensures ∙ c.if-is_control.true,
@@ -84,7 +82,7 @@ pub command-requires : goal.command-requires
 command-requires c =
     let a = c.args in
     let p = c.requires in (
-      behind a.verb a.s.now a.at a.len a.out.now p.0 p.1 c.peek.ensures.0 c.in-Char.is
+      behind a.verb a.s.now a.at a.len a.out.now p.0 p.1 c.peek.ensures.0 c.in-Some.is
           c.is_escape.ensures c.if-is_escape.false c.if-verb-2.false,
       begins-so _ c.is_whitespace.ensures c.if-is_whitespace.false c.is_control.ensures c.if-is_control.false,
       p.2,
@@ -93,11 +91,12 @@ command-requires c =
 pub returns-else-verb : goal.returns-else-verb
 returns-else-verb c =
     let a = c.args in
-    let p = c.requires in record {
-      says_text = ends-refused a.verb a.s.now a.at a.len a.out.now p.0 p.1 c.peek.ensures.0 c.in-End.is
+    let p = c.requires in
+    rw c.fault_at.ensures (record {
+      says_text = ends-refused a.verb a.s.now a.at a.len a.out.now p.0 p.1 c.peek.ensures.0 c.in-None.is
           c.if-verb.false;
       grows_text = (omega (arith, p.0), omega (arith, p.0));
-    }
+    })
 
 pub returns-else-is_control : goal.returns-else-is_control
 returns-else-is_control c = let a = c.args in record {

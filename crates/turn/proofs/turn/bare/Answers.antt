@@ -1,7 +1,5 @@
 -- `turn::turn::bare` meets its contract. Assumes nothing.
-use Prim.Native.Nat.{◌+◌}
-use native.Mathlib.Omega.{arith}
-use mathlib.Core.Path.{refl, sym, subst}
+use Rattle.std.proofs.Common.{◌+◌, arith, refl, sym, subst}
 use Rattle.text.specs.Scan.{part}
 use Rattle.command.specs.Execute.{Sane}
 use Rattle.command.proofs.ways.ExecuteWays.{meaning-sane}

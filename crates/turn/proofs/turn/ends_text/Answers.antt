@@ -1,7 +1,5 @@
 -- `turn::turn::ends_text` meets its contract. Assumes nothing.
-use mathlib.Core.Path.{ap}
-use mathlib.Core.Bool.{Bool, ◌||◌}
-use lib.Dec.{eqb}
+use Rattle.std.proofs.Common.{ap, Bool, ◌||◌, eqb}
 use Rattle.turn.proofs.turn.ends_text.Goals as goal
 
 pub returns : goal.returns

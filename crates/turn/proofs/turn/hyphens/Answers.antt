@@ -1,9 +1,5 @@
 -- `turn::turn::hyphens` meets its contract. Assumes nothing.
-use Prim.Native.Nat.{◌+◌}
-use native.Mathlib.Omega.{arith}
-use mathlib.Core.Path.{refl}
-use mathlib.Core.Bool.{false}
-use mathlib.Core.List.{◌∷◌, []}
+use Rattle.std.proofs.Common.{◌+◌, arith, refl, false, ◌∷◌, []}
 use Rattle.text.specs.Utf8.{is_scalar, octets}
 use Rattle.command.proofs.stacks.LaysLaws.{octets-three}
 use Rattle.turn.proofs.ways.TextTurns.{wrote_one}

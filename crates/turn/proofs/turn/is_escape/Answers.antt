@@ -1,6 +1,5 @@
 -- `turn::turn::is_escape` meets its contract. Assumes nothing.
-use mathlib.Core.Bool.{true}
-use lib.Dec.{eqb}
+use Rattle.std.proofs.Common.{true, eqb}
 use Rattle.chunk.specs.Format.{is_escapable}
 use Rattle.turn.proofs.ways.TestChains.{escape-tests}
 use Rattle.turn.proofs.turn.is_escape.Goals as goal

@@ -1,5 +1,5 @@
 -- `turn::turn::is_simple` meets its contract. Assumes nothing.
-use lib.Dec.{eqb, ltb}
+use Rattle.std.proofs.Common.{eqb, ltb}
 use Rattle.text.specs.Block.{is_simple}
 use Rattle.turn.proofs.ways.TestChains.{plains}
 use Rattle.turn.proofs.turn.is_simple.Goals as goal

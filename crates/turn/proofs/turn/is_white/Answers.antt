@@ -1,5 +1,5 @@
 -- `turn::turn::is_white` meets its contract. Assumes nothing.
-use mathlib.Core.Path.{sym}
+use Rattle.std.proofs.Common.{sym}
 use Rattle.turn.proofs.ways.TestChains.{not_white}
 use Rattle.turn.proofs.turn.is_white.Goals as goal
 

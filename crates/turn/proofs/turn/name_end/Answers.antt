@@ -1,6 +1,5 @@
 -- `turn::turn::name_end` meets its contract. Assumes nothing.
-use native.Mathlib.Omega.{arith}
-use mathlib.Core.Path.{refl, sym}
+use Rattle.std.proofs.Common.{arith, refl, sym}
 use Rattle.turn.proofs.turn.name_end.Goals as goal
 
 pub returns-then-is_single_char_func : goal.returns-then-is_single_char_func

@@ -1,8 +1,6 @@
 -- `turn::turn::one` meets its contract. Assumes nothing.
-use Prim.Native.Nat.{ℕ, ◌+◌, ◌≤◌}
-use native.Mathlib.Omega.{arith}
-use mathlib.Core.Path.{sym, ap, subst}
-use lib.ListN.{length}
+use Rattle.std.proofs.Common.{ℕ, ◌+◌, ◌≤◌, arith, sym, ap, subst, length}
+use Rattle.std.specs.Prelude.{Ok}
 use Rattle.text.specs.Scan.{part}
 use Rattle.command.specs.Execute.{Sane, leading}
 use Rattle.command.proofs.stacks.LaysLaws.{lays-as, both_first}
@@ -24,8 +22,7 @@ execute_command-l-requires c =
     end white to.from inside p.1.room c.execute_before-from.ensures.a_bound c.copy-e.ensures.from_value in
     let one = c.execute_before-from.auto.out in
     let two = c.copy-e.auto.out in record {
-      marks_value = (
-        p.1.marks,
+      sane = (
         subst Sane (sym c.meaning_of-m.ensures) (meaning-sane (part a.s.now (a.at + 1) a.end)),
         omega (arith, end),
         omega
@@ -57,7 +54,7 @@ returns c =
     let two = c.copy-e.auto.out in record {
       took = record {
         len = c.execute_command-l.result;
-        told = ap (λ (n : ℕ). text.Put n c.execute_command-l.result) c.eat-to.ensures.0;
+        told = ap (λ (n : ℕ). Ok (text.Put n c.execute_command-l.result)) c.eat-to.ensures.0;
         lays = one-lays (part a.s.now (a.at + 1) a.end) _ a.out.now a.len c.meaning_of-m.result c.execute_before-from.result _
             c.copy-e.result _ c.execute_command-l.result
             _ c.meaning_of-m.ensures c.execute_before-from.ensures.lays

@@ -1,15 +1,8 @@
 -- `turn::turn::one_text` meets its contract. Assumes nothing.
-use mathlib.Core.Path.{sym}
-use mathlib.Core.Bool.{false}
-use lib.ListN.{get_or}
+use Rattle.std.proofs.Common.{sym, false, get_or}
 use Rattle.turn.proofs.ways.TextTurns.{wrote_as}
 use Rattle.turn.proofs.ways.CommandAnswers.{sign-tests, no_sign}
 use Rattle.turn.proofs.turn.one_text.Goals as goal
-
-pub hyphens-requires : goal.hyphens-requires
-hyphens-requires c =
-    let is = sign-tests 0x2D _ c.args.verb c.if-s-at.true in
-    (c.requires.0, is.0, c.requires.3)
 
 pub returns-then-s-at : goal.returns-then-s-at
 returns-then-s-at c =

@@ -1,5 +1,5 @@
 -- `turn::turn::past_rare` meets its contract. Assumes nothing.
-use mathlib.Core.Path.{sym, ◌∙◌}
+use Rattle.std.proofs.Common.{sym, ◌∙◌}
 use Rattle.turn.proofs.ways.TextTurns.{steps-none, steps-blank, steps-wide}
 use Rattle.turn.proofs.turn.past_rare.Goals as goal
 
@@ -17,11 +17,11 @@ returns-then-s-at-lt128 c = steps-none c.args.s.now c.args.at c.requires
 pub returns-then-is_white : goal.returns-then-is_white
 returns-then-is_white c = steps-none c.args.s.now c.args.at c.requires
 
-pub returns-in-End : goal.returns-in-End
-returns-in-End c = steps-none c.args.s.now c.args.at c.requires
+pub returns-in-None : goal.returns-in-None
+returns-in-None c = steps-none c.args.s.now c.args.at c.requires
 
 pub returns-else-is_white : goal.returns-else-is_white
 returns-else-is_white c =
     let a = c.args in
-    steps-wide a.s.now a.at _ _ c.if-s-at-lt128.false (sym c.peek.ensures.0 ∙ c.in-Char.is)
+    steps-wide a.s.now a.at _ _ c.if-s-at-lt128.false (sym c.peek.ensures.0 ∙ c.in-Some.is)
     (sym c.is_white.ensures ∙ c.if-is_white.false)

@@ -1,6 +1,5 @@
 -- The invariants of `turn::turn::past_simple`.
-use Prim.Native.Nat.{◌-◌}
-use lib.ListN.{length}
+use Rattle.std.proofs.Common.{◌-◌, length}
 use Rattle.text.specs.Block.{PlainRun}
 use Rattle.turn.proofs.turn.past_simple.Given as goal
 

@@ -1,5 +1,4 @@
 -- `turn::turn::run` meets its contract. The invariant: every turn before `i` copies what stands there. Assumes nothing.
-use native.Mathlib.Omega.{arith}
 use Rattle.turn.proofs.ways.TextTurns.{runs_none, runs_on, runs-words}
 use Rattle.turn.proofs.turn.run.Goals as goal
 
@@ -11,9 +10,6 @@ returns-then-s-end c = runs-words _ _ _ _ c.loop-at.invariant c.words-end.ensure
 
 pub returns-then-i-end : goal.returns-then-i-end
 returns-then-i-end c = runs-words _ _ _ _ c.loop-at.invariant c.words-end.ensures
-
-pub loop-at-smaller : goal.loop-at-smaller
-loop-at-smaller c = omega (arith, c.if-i-end.false, c.past_rare-i.ensures.to, c.words-end.ensures.from)
 
 pub loop-at-preserved : goal.loop-at-preserved
 loop-at-preserved c =

@@ -1,6 +1,5 @@
 -- The invariants of `turn::turn::run`.
-use Prim.Native.Nat.{◌-◌}
-use lib.ListN.{length}
+use Rattle.std.proofs.Common.{◌-◌, length}
 use Rattle.turn.specs.Turns.{CopiesAll}
 use Rattle.turn.proofs.turn.run.Given as goal
 

@@ -1,7 +1,5 @@
 -- `turn::turn::texts` meets its contract. The invariant: the turns before `i` wrote text, which ends at `l`. Assumes nothing.
-use native.Mathlib.Omega.{arith}
-use mathlib.Core.Path.{refl, sym, ◌∙◌}
-use lib.ListN.{length}
+use Rattle.std.proofs.Common.{arith, refl, sym, ◌∙◌, length}
 use Rattle.turn.proofs.ways.TextTurns.{wrote_none, wrote-more, grows-more, wrote_on, grows-on}
 use Rattle.turn.proofs.ways.CommandAnswers.{not-ends}
 use Rattle.turn.proofs.turn.texts.Goals as goal
@@ -61,9 +59,6 @@ one_text-t-requires c =
         c.copy-k.auto.out,
       ),
     )
-
-pub loop-verb-smaller : goal.loop-verb-smaller
-loop-verb-smaller c = omega (arith, c.one_text-t.ensures.grows.at, c.one_text-t.ensures.grows.inside, c.run-j.ensures.from)
 
 pub loop-verb-preserved : goal.loop-verb-preserved
 loop-verb-preserved c =

@@ -1,7 +1,5 @@
 -- The invariants of `turn::turn::texts`.
-use Prim.Native.Nat.{◌-◌}
-use mathlib.Core.Path.{◌≡◌}
-use lib.ListN.{length}
+use Rattle.std.proofs.Common.{◌-◌, ◌≡◌, length}
 use Rattle.turn.specs.Turns.{Wrote, Grows}
 use Rattle.turn.proofs.turn.texts.Given as goal
 

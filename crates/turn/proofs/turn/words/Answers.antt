@@ -1,5 +1,5 @@
 -- `turn::turn::words` meets its contract. Assumes nothing.
-use mathlib.Core.Path.{sym, ◌∙◌}
+use Rattle.std.proofs.Common.{sym, ◌∙◌}
 use Rattle.turn.proofs.ways.SimpleBytes.{words-none, words-all, words-but}
 use Rattle.turn.proofs.turn.words.Goals as goal
 

@@ -1,27 +1,18 @@
 -- `values::elements::only_literal` meets its contract. Assumes nothing.
-use Prim.Native.Nat.{◌+◌}
-use mathlib.Core.Path.{sym, ap, ap₂, ◌∙◌}
-use lib.ListN.{drop}
-use Rattle.row.specs.Numbers.{rows_of}
+use mathlib.Core.Path.{◌≡◌, refl, sym, ap₂, ◌∙◌}
+use mathlib.Core.Bool.{false}
+use Rattle.std.specs.Prelude.{Option, Some, None}
+use Rattle.std.specs.Option.{is_some}
 use Rattle.values.specs.declared.elements.Element.{Element}
-use Rattle.values.specs.Uses.{first_element, only_of}
+use Rattle.values.specs.Uses.{only_of}
+use Rattle.values.proofs.naming.OpenWays.{has}
 use Rattle.values.proofs.elements.only_literal.Goals as goal
 
-pub returns-in-Nothing-element_at : goal.returns-in-Nothing-element_at
-returns-in-Nothing-element_at c = ap₂ only_of (sym c.in-Literal.is ∙ c.element_at.ensures) (sym c.in-Nothing-element_at.is ∙ c.element_at-in-Literal.ensures)
+none-of : (x : Option Element) → false ≡ is_some x → None ≡ x
+none-of None e = refl
+none-of (Some a) e = cc
 
-pub returns-in-Literal-element_at : goal.returns-in-Literal-element_at
-returns-in-Literal-element_at c = ap₂ only_of (sym c.in-Literal.is ∙ c.element_at.ensures) (sym c.in-Literal-element_at.is ∙ c.element_at-in-Literal.ensures)
-
-pub returns-in-Name-element_at : goal.returns-in-Name-element_at
-returns-in-Name-element_at c = ap₂ only_of (sym c.in-Literal.is ∙ c.element_at.ensures) (sym c.in-Name-element_at.is ∙ c.element_at-in-Literal.ensures)
-
-pub returns-in-Name : goal.returns-in-Name
-returns-in-Name c =
-    let a = c.args in
-    ap (λ (v : Element). only_of v (first_element (rows_of (drop (a.i + 4) a.rows.now)))) (sym c.in-Name.is ∙ c.element_at.ensures)
-
-pub returns-in-Nothing : goal.returns-in-Nothing
-returns-in-Nothing c =
-    let a = c.args in
-    ap (λ (v : Element). only_of v (first_element (rows_of (drop (a.i + 4) a.rows.now)))) (sym c.in-Nothing.is ∙ c.element_at.ensures)
+pub returns : goal.returns
+returns c =
+    ap₂ only_of (sym (has c.in-Some-Literal.is c.in-Some-Literal.field-0-is) ∙ c.element_at.ensures)
+    (none-of c.element_at-2.result (sym c.if-is_some.false ∙ c.is_some.ensures) ∙ c.element_at-2.ensures)

@@ -1,14 +1,13 @@
 -- The invariants of `whole::bound::most_of`.
 use Prim.Native.Nat.{◌+◌, ◌-◌, ◌*◌, ◌≤◌}
-use mathlib.Core.Path.{◌≡◌}
 use lib.ListN.{length}
 use Rattle.literal.specs.Rows.{most_number}
 use Rattle.whole.proofs.counting.AtMost.{Summed}
 use Rattle.whole.proofs.bound.most_of.Given as goal
 
 -- the elements before number `at` are summed up
-abbrev pub invariant-loop-k : goal.invariant-loop-k
-invariant-loop-k l = (l.name ≡ l.initial.name) × Summed l.initial.name l.rows (l.i * 4 + 4) l.n l.m l.at × (l.n ≤ most_number) × (l.m ≤ most_number) × (l.at ≤ length l.rows + 4)
+abbrev pub invariant-loop-e : goal.invariant-loop-e
+invariant-loop-e l = Summed l.name l.rows (l.i * 4 + 4) l.n l.m l.at × (l.n ≤ most_number) × (l.m ≤ most_number) × (l.at ≤ length l.rows + 4)
 
-abbrev pub decreases-loop-k : goal.decreases-loop-k
-decreases-loop-k l = length l.rows - l.at
+abbrev pub decreases-loop-e : goal.decreases-loop-e
+decreases-loop-e l = length l.rows - l.at

@@ -1,11 +1,11 @@
 -- `whole::bound::most_of_months` meets its contract. Assumes nothing.
+use Rattle.std.specs.Prelude.{Some}
 use native.Mathlib.Omega.{arith}
-use Rattle.whole.specs.declared.bound.Most.TheVariants as most
 use Rattle.whole.proofs.counting.NamesMost.{months-start, months-on}
 use Rattle.whole.proofs.bound.most_of_months.Goals as goal
 
 pub loop-i-init : goal.loop-i-init
-loop-i-init c = (months-start c.args.months.now (most.Literals 0 0), (omega arith, omega arith), omega arith)
+loop-i-init c = (months-start c.args.months.now (Some (record { rows = 0; bytes = 0 })), (omega arith, omega arith), omega arith)
 
 pub loop-i-preserved : goal.loop-i-preserved
 loop-i-preserved c =

@@ -8,6 +8,3 @@ use Rattle.whole.proofs.bound.most_of_months.Given as goal
 -- the texts of the first i months are within the bound
 abbrev pub invariant-loop-i : goal.invariant-loop-i
 invariant-loop-i l = MonthsTo l.months l.i l.most × SmallMost l.most × (l.i ≤ length l.months / 4)
-
-abbrev pub decreases-loop-i : goal.decreases-loop-i
-decreases-loop-i l = length l.months / 4 - l.i

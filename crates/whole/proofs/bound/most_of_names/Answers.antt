@@ -12,8 +12,8 @@ loop-i-init c =
 pub most_of-requires : goal.most_of-requires
 most_of-requires c = (omega (arith, c.loop-i-test.true), tt)
 
-pub loop-i-preserved-in-Literals : goal.loop-i-preserved-in-Literals
-loop-i-preserved-in-Literals c =
+pub loop-i-preserved : goal.loop-i-preserved
+loop-i-preserved c =
     let l = c.loop-i in
     let a = c.args in
     let r = c.either-most.result in
@@ -23,12 +23,12 @@ loop-i-preserved-in-Literals c =
       e.small l.invariant.2 c.most_of.ensures.1,
     )
 
-pub loop-i-preserved : goal.loop-i-preserved
-loop-i-preserved c =
+pub loop-i-preserved-then-rows-i-ne-DEFINITION_NAME : goal.loop-i-preserved-then-rows-i-ne-DEFINITION_NAME
+loop-i-preserved-then-rows-i-ne-DEFINITION_NAME c =
     let l = c.loop-i in
     let a = c.args in (
       l.invariant.0,
-      defined-other a.rows.now l.i l.most l.invariant.1 c.loop-i-test.true c.if-rows-at-eq-DEFINITION_NAME.false,
+      defined-other a.rows.now l.i l.most l.invariant.1 c.loop-i-test.true c.if-rows-i-ne-DEFINITION_NAME.true,
       l.invariant.2,
     )
 
@@ -38,5 +38,5 @@ returns c =
     let a = c.args in
     λ file words. names-end file a.rows.now a.months.now words l.i l.most l.invariant.0 c.loop-i-test.false l.invariant.1 l.invariant.2
 
-pub returns-in-Unknown : goal.returns-in-Unknown
-returns-in-Unknown c = λ file words. (tt, λ _ _ _. tt)
+pub returns-then-is_none : goal.returns-then-is_none
+returns-then-is_none c = λ file words. (tt, λ _ _ _. tt)

@@ -1,9 +1,11 @@
 -- `whole::file::answer_row` meets its contract. Assumes nothing.
+use Rattle.std.specs.Prelude.{Result}
+use Rattle.row.specs.declared.fault.Fault.{Fault}
+use Rattle.resolve.specs.declared.answer.Chunks.{Chunks}
 use Prim.Native.Nat.{◌*◌}
 use native.Mathlib.Omega.{arith}
 use mathlib.Core.Path.{sym, ap, subst, ◌∙◌}
 use lib.Seq.{sets}
-use Rattle.resolve.specs.declared.answer.Answer.{Answer}
 use Rattle.resolve.specs.Progress.{BoundedAnswer}
 use Rattle.whole.specs.Filing.{AddsAnswer, FitsBehind}
 use Rattle.whole.proofs.ways.ValueWays.{six-refused, six-chunks}
@@ -11,59 +13,59 @@ use Rattle.whole.proofs.file.answer_row.Goals as goal
 
 pub narrow-requires : goal.narrow-requires
 narrow-requires c =
-    let bound = subst BoundedAnswer c.in-Refused.is c.requires.1 in
+    let bound = subst BoundedAnswer c.in-Err.is c.requires.1 in
     bound.0
 
-pub narrow-requires-in-Refused : goal.narrow-requires-in-Refused
-narrow-requires-in-Refused c =
-    let bound = subst BoundedAnswer c.in-Refused.is c.requires.1 in
+pub narrow-requires-in-Err : goal.narrow-requires-in-Err
+narrow-requires-in-Err c =
+    let bound = subst BoundedAnswer c.in-Err.is c.requires.1 in
     bound.1
 
-pub narrow-requires-in-Chunks : goal.narrow-requires-in-Chunks
-narrow-requires-in-Chunks c =
-    let bound = subst BoundedAnswer c.in-Chunks.is c.requires.1 in
+pub narrow-requires-in-Ok : goal.narrow-requires-in-Ok
+narrow-requires-in-Ok c =
+    let bound = subst BoundedAnswer c.in-Ok.is c.requires.1 in
     omega (arith, bound.2)
 
 pub overflow_add-t : goal.overflow_add-t
 overflow_add-t c =
-    let behind = subst (FitsBehind c.args.t) c.in-Chunks.is c.requires.2 in
+    let behind = subst (FitsBehind c.args.t) c.in-Ok.is c.requires.2 in
     omega (arith, behind.0)
 
-pub narrow-requires-in-Chunks-3 : goal.narrow-requires-in-Chunks-3
-narrow-requires-in-Chunks-3 c =
-    let behind = subst (FitsBehind c.args.t) c.in-Chunks.is c.requires.2 in
+pub narrow-requires-in-Ok-3 : goal.narrow-requires-in-Ok-3
+narrow-requires-in-Ok-3 c =
+    let behind = subst (FitsBehind c.args.t) c.in-Ok.is c.requires.2 in
     omega (arith, behind.0)
 
-pub overflow_add-t-in-Chunks : goal.overflow_add-t-in-Chunks
-overflow_add-t-in-Chunks c =
-    let behind = subst (FitsBehind c.args.t) c.in-Chunks.is c.requires.2 in
+pub overflow_add-t-in-Ok : goal.overflow_add-t-in-Ok
+overflow_add-t-in-Ok c =
+    let behind = subst (FitsBehind c.args.t) c.in-Ok.is c.requires.2 in
     omega (arith, behind.1)
 
-pub narrow-requires-in-Chunks-5 : goal.narrow-requires-in-Chunks-5
-narrow-requires-in-Chunks-5 c =
-    let behind = subst (FitsBehind c.args.t) c.in-Chunks.is c.requires.2 in
+pub narrow-requires-in-Ok-5 : goal.narrow-requires-in-Ok-5
+narrow-requires-in-Ok-5 c =
+    let behind = subst (FitsBehind c.args.t) c.in-Ok.is c.requires.2 in
     omega (arith, behind.1)
 
-pub add-requires-in-Chunks : goal.add-requires-in-Chunks
-add-requires-in-Chunks c =
-    let bound = subst BoundedAnswer c.in-Chunks.is c.requires.1 in
+pub add-requires-in-Ok : goal.add-requires-in-Ok
+add-requires-in-Ok c =
+    let bound = subst BoundedAnswer c.in-Ok.is c.requires.1 in
     (c.requires.0, bound.0, bound.1, c.requires.4)
 
-pub returns-in-Refused : goal.returns-in-Refused
-returns-in-Refused c =
+pub returns-in-Err : goal.returns-in-Err
+returns-in-Err c =
     let t = c.args.t in record {
       answers_after = c.put_answer.ensures
           ∙ ap (sets c.args.answers.now (t.values * 6))
-          (six-refused t c.args.a c.in-Refused.f c.in-Refused.is _ _ _ c.number.ensures c.narrow.ensures c.narrow-in-Refused.ensures);
-      adds_answer = (subst (λ (u : Answer). AddsAnswer t u c.add.result) (sym c.in-Refused.is) c.add.ensures.0, c.add.ensures.1);
+          (six-refused t c.args.a c.in-Err.f c.in-Err.is _ _ _ c.number.ensures c.narrow.ensures c.narrow-in-Err.ensures);
+      adds_answer = (subst (λ (u : Result Chunks Fault). AddsAnswer t u c.add.result) (sym c.in-Err.is) c.add.ensures.0, c.add.ensures.1);
     }
 
-pub returns-in-Chunks : goal.returns-in-Chunks
-returns-in-Chunks c =
+pub returns-in-Ok : goal.returns-in-Ok
+returns-in-Ok c =
     let t = c.args.t in record {
-      answers_after = c.put_answer-in-Chunks.ensures
+      answers_after = c.put_answer-in-Ok.ensures
           ∙ ap (sets c.args.answers.now (t.values * 6))
-          (six-chunks t c.args.a c.in-Chunks.rows c.in-Chunks.bytes c.in-Chunks.names c.in-Chunks.is _ _ _ _ _ c.narrow-in-Chunks.ensures
-          c.narrow-in-Chunks-2.ensures c.narrow-in-Chunks-3.ensures c.narrow-in-Chunks-4.ensures c.narrow-in-Chunks-5.ensures);
-      adds_answer = (subst (λ (u : Answer). AddsAnswer t u c.add-in-Chunks.result) (sym c.in-Chunks.is) c.add-in-Chunks.ensures.0, c.add-in-Chunks.ensures.1);
+          (six-chunks t c.args.a c.in-Ok.chunks.rows c.in-Ok.chunks.bytes c.in-Ok.chunks.names c.in-Ok.is _ _ _ _ _ c.narrow-in-Ok.ensures
+          c.narrow-in-Ok-2.ensures c.narrow-in-Ok-3.ensures c.narrow-in-Ok-4.ensures c.narrow-in-Ok-5.ensures);
+      adds_answer = (subst (λ (u : Result Chunks Fault). AddsAnswer t u c.add-in-Ok.result) (sym c.in-Ok.is) c.add-in-Ok.ensures.0, c.add-in-Ok.ensures.1);
     }

@@ -4,7 +4,7 @@ use native.Mathlib.Omega.{arith}
 use mathlib.Core.Path.{subst}
 use lib.ListN.{drop}
 use Rattle.row.specs.Numbers.{rows_of}
-use Rattle.resolve.specs.Checks.{lent_of}
+use Rattle.values.specs.Uses.{lent_in}
 use Rattle.whole.specs.Bounds.{MostOf, SmallMost}
 use Rattle.whole.proofs.counting.RowKinds.{inside}
 use Rattle.whole.proofs.counting.Covering.{cover-few, cover-flag, cover-other, cover-most, cover-count}
@@ -14,8 +14,8 @@ pub returns-then-not-is_value : goal.returns-then-not-is_value
 returns-then-not-is_value c =
     let a = c.args in
     let p = c.requires in
-    let lent = lent_of a.file.now a.rows.now a.months.now a.words.now in
-    let below = inside a.rows.now a.i p.1 in (
+    let lent = lent_in a.resolver.now in
+    let below = inside a.resolver.now.rows.now a.i p.1 in (
       cover-other lent a.flags.now a.i a.t p.3 below c.is_value.result c.is_value.ensures
           c.if-not-is_value.true,
       p.2,
@@ -30,8 +30,8 @@ pub add-requires : goal.add-requires
 add-requires c =
     let a = c.args in
     let p = c.requires in
-    let lent = lent_of a.file.now a.rows.now a.months.now a.words.now in
-    let most = subst SmallMost c.in-Literals.is c.most_of.ensures.1 in
+    let lent = lent_in a.resolver.now in
+    let most = subst SmallMost c.in-Some.is c.most_of.ensures.1 in
     let few = cover-few lent a.flags.now a.i a.t p.3 in
     (p.2, omega (arith, most.0), most.1, omega (arith, few, p.1))
 
@@ -39,8 +39,8 @@ pub flag_at-flag-requires : goal.flag_at-flag-requires
 flag_at-flag-requires c =
     let a = c.args in
     let p = c.requires in
-    let lent = lent_of a.file.now a.rows.now a.months.now a.words.now in
-    let below = inside a.rows.now a.i p.1 in
+    let lent = lent_in a.resolver.now in
+    let below = inside a.resolver.now.rows.now a.i p.1 in
     cover-flag lent a.flags.now a.i a.t p.3 below c.is_value.result c.is_value.ensures
     c.if-not-is_value.false p.0.flagged
 
@@ -48,28 +48,28 @@ pub add_counted-requires : goal.add_counted-requires
 add_counted-requires c =
     let a = c.args in
     let p = c.requires in
-    let lent = lent_of a.file.now a.rows.now a.months.now a.words.now in
+    let lent = lent_in a.resolver.now in
     let few = cover-few lent a.flags.now a.i a.t p.3 in
     (p.2, c.count-w.ensures.bounded_went, omega (arith, few, p.1))
 
-pub returns-in-Literals : goal.returns-in-Literals
-returns-in-Literals c =
+pub returns-in-Some : goal.returns-in-Some
+returns-in-Some c =
     let a = c.args in
     let p = c.requires in
-    let lent = lent_of a.file.now a.rows.now a.months.now a.words.now in
-    let most = subst (MostOf a.name (drop (a.i + 1) (rows_of a.rows.now))) c.in-Literals.is c.most_of.ensures.0 in
-    let below = inside a.rows.now a.i p.1 in (
+    let lent = lent_in a.resolver.now in
+    let most = subst (MostOf a.name (drop (a.i + 1) (rows_of a.resolver.now.rows.now))) c.in-Some.is c.most_of.ensures.0 in
+    let below = inside a.resolver.now.rows.now a.i p.1 in (
       cover-most lent a.flags.now a.i a.t p.3 below c.is_value.result c.is_value.ensures
-          c.if-not-is_value.false a.name p.4 c.in-Literals.n c.in-Literals.m most c.add.result c.add.ensures.2,
+          c.if-not-is_value.false a.name p.4 c.in-Some.most.rows c.in-Some.most.bytes most c.add.result c.add.ensures.2,
       c.add.ensures.1,
     )
 
-pub returns-in-Unknown : goal.returns-in-Unknown
-returns-in-Unknown c =
+pub returns-in-None : goal.returns-in-None
+returns-in-None c =
     let a = c.args in
     let p = c.requires in
-    let lent = lent_of a.file.now a.rows.now a.months.now a.words.now in
-    let below = inside a.rows.now a.i p.1 in (
+    let lent = lent_in a.resolver.now in
+    let below = inside a.resolver.now.rows.now a.i p.1 in (
       cover-count lent a.flags.now a.i a.t p.3 below c.is_value.result c.is_value.ensures
           c.if-not-is_value.false c.flag_at-flag.result c.flag_at-flag.ensures c.count-w.result
           c.count-w.ensures.counted c.add_counted.result c.add_counted.ensures.2,

@@ -9,5 +9,5 @@ returns-then-surely_has_room c = sym (c.surely_has_room.ensures c.if-surely_has_
 pub counted_fits-requires : goal.counted_fits-requires
 counted_fits-requires c =
     let a = c.args in
-    filing-on a.file.now a.rows.now a.flags.now a.months.now a.words.now a.heads.now a.next.now a.scratch.now
-    a.known.now a.marks.now _ c.requires c.surely_has_room.auto.scratch
+    filing-on a.resolver.now a.flags.now a.scratch.now
+    _ c.requires c.surely_has_room.auto.scratch

@@ -10,10 +10,8 @@ pub has_room-requires : goal.has_room-requires
 has_room-requires c =
     let p = c.requires in
     record {
-      short = p.0;
-      lent = p.1;
       index = p.2;
-      ready = record { scratch = p.4; names = c.names-known.ensures; marks = c.table-marks.ensures };
+      scratch = p.4;
       flagged = p.3;
     }
 
@@ -21,16 +19,14 @@ pub returns-then-not-has_room : goal.returns-then-not-has_room
 returns-then-not-has_room c =
     let a = c.args in
     let vs = results (lent_of a.file.now a.rows.now a.months.now a.words.now) a.flags.now in
-    file-full vs a.answers.now a.chunks.now a.text.now (sym c.has_room.ensures ∙ c.if-not-has_room.true)
+    rw c.nowhere.ensures (file-full vs a.answers.now a.chunks.now a.text.now (sym c.has_room.ensures ∙ c.if-not-has_room.true))
 
 pub write-t-requires : goal.write-t-requires
 write-t-requires c =
     let p = c.requires in record {
       filing = record {
-        short = p.0;
-        lent = p.1;
         index = p.2;
-        ready = record { scratch = omega (arith, p.4, c.has_room.auto.scratch); names = c.names-known.ensures; marks = c.table-marks.ensures };
+        scratch = omega (arith, p.4, c.has_room.auto.scratch);
         flagged = p.3;
       };
       text_value = sym c.has_room.ensures ∙ c.if-not-has_room.false;

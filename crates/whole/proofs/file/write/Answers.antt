@@ -1,7 +1,7 @@
 -- `whole::file::write` meets its contract. Assumes nothing.
 use native.Mathlib.Omega.{arith}
 use mathlib.Core.Path.{refl, ◌∙◌}
-use Rattle.resolve.specs.Checks.{lent_of}
+use Rattle.values.specs.Uses.{lent_in}
 use Rattle.whole.specs.WholeFile.{results}
 use Rattle.whole.proofs.values.Fitting.{fits-as}
 use Rattle.whole.proofs.ways.ValueWays as ways
@@ -10,7 +10,7 @@ use Rattle.whole.proofs.file.write.Goals as goal
 pub loop-i-init : goal.loop-i-init
 loop-i-init c =
     let a = c.args in (
-      ways.wrote-start (lent_of a.file.now a.rows.now a.months.now a.words.now) a.flags.now c.none-t.result
+      ways.wrote-start (lent_in a.resolver.now) a.flags.now c.none-t.result
           a.answers.now a.chunks.now a.text.now c.none-t.ensures.0,
       omega arith,
       refl,
@@ -23,19 +23,13 @@ pub write_row-t-requires : goal.write_row-t-requires
 write_row-t-requires c =
     let so = c.loop-i.invariant in
     let a = c.args in (
-      ways.filing-on a.file.now a.rows.now a.flags.now a.months.now a.words.now a.heads.now a.next.now a.scratch.now
-          a.known.now a.marks.now c.loop-i.scratch c.requires.filing so.2,
+      ways.filing-on a.resolver.now a.flags.now a.scratch.now
+          c.loop-i.scratch c.requires.filing so.2,
       c.loop-i-test.true,
       record { vs = so.0.vs; so = so.0.so },
-      fits-as (results (lent_of a.file.now a.rows.now a.months.now a.words.now) a.flags.now) a.answers.now a.chunks.now
+      fits-as (results (lent_in a.resolver.now) a.flags.now) a.answers.now a.chunks.now
           a.text.now c.loop-i.answers c.loop-i.chunks c.loop-i.text so.3 so.4 so.5 c.requires.text_value,
     )
-
-pub overflow_add-i : goal.overflow_add-i
-overflow_add-i c = omega (arith, c.loop-i-test.true, c.well_formed)
-
-pub loop-i-smaller : goal.loop-i-smaller
-loop-i-smaller c = omega arith
 
 pub loop-i-preserved : goal.loop-i-preserved
 loop-i-preserved c =
@@ -52,7 +46,7 @@ loop-i-preserved c =
 pub returns : goal.returns
 returns c =
     let a = c.args in
-    ways.wrote-end a.file.now a.rows.now a.flags.now a.months.now a.words.now c.loop-i.i c.loop-i.t
+    ways.wrote-end a.resolver.now.file.now a.resolver.now.rows.now a.flags.now a.resolver.now.months.now a.resolver.now.words.now c.loop-i.i c.loop-i.t
     a.answers.now a.chunks.now a.text.now c.loop-i.answers c.loop-i.chunks c.loop-i.text c.loop-i-test.false
     c.loop-i.invariant.0
 

@@ -1,5 +1,0 @@
--- The measure of `lookup::order::sort`: each half is sorted with a smaller depth.
-use Rattle.lookup.proofs.order.+sort.Given as goal
-
-abbrev pub decreases-sort : goal.decreases-sort
-decreases-sort l = l.depth
