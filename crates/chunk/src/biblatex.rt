@@ -48,11 +48,9 @@ fn escaped(t: &[u8], from: usize, to: usize, verb: bool, out: &mut [u8], at: usi
     ensures puts { Puts out.old at (escaped_of verb (part t.now from to)) result out.new }
     ensures upper_bound { result ≤ at + 2 * to }
 {
-    let mut i = from;
     let mut j = at;
-    while i < to {
-        j = escape(t[i], verb, out, j);
-        i += 1;
+    for b in &t[from..to] {
+        j = escape(*b, verb, out, j);
     }
     j
 }
@@ -135,9 +133,8 @@ fn write_all(t: &[u8], rows: &[u32], verb: bool, room: usize, out: &mut [u8]) ->
 {
     let mut extra = false;
     let mut at = put::put(out, 0, 0x7b);
-    let mut i = 0;
-    while i < rows.len() {
-        let row = form::row_at(rows, i);
+    for i in 0..rows.len() / 5 {
+        let row = form::row_at(rows, i * 5);
         let kind = form::kind_from(row.kind);
         let next = put_opening(extra, kind, out, at);
         at = put_body(verb, kind, t, row.from, row.to, out, next);
@@ -145,7 +142,6 @@ fn write_all(t: &[u8], rows: &[u32], verb: bool, room: usize, out: &mut [u8]) ->
             return at;
         }
         extra = extra_after(extra, kind);
-        i += 5;
     }
     put_closing(extra, out, at)
 }

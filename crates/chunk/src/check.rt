@@ -12,6 +12,7 @@ use text::utf8;
 fn is_chunk(t: &[u8], kind: u32, from: usize, to: usize) -> bool
     ensures { result ≡ is_chunk t.now (chunk_row kind from to 0 0) }
 {
+    // The numbers of a lent row are judged here, so there is no `Kind` yet.
     (kind <= 2) & ((from <= to) & (utf8::is_boundary(t, from) & utf8::is_boundary(t, to)))
 }
 
@@ -21,12 +22,9 @@ fn are_chunks(t: &[u8], rows: &[u32]) -> bool
     if rows.len() % 5 != 0 {
         return false;
     }
-    let mut i = 0;
-    while i < rows.len() {
-        let row = form::row_at(rows, i);
-        if is_chunk(t, row.kind, row.from, row.to) {
-            i += 5;
-        } else {
+    for i in 0..rows.len() / 5 {
+        let row = form::row_at(rows, i * 5);
+        if !is_chunk(t, row.kind, row.from, row.to) {
             return false;
         }
     }

@@ -12,14 +12,12 @@ pub fn last_at(t: &[u8], from: usize, to: usize) -> usize
     requires { (from ≤ to) × (to ≤ length t.now) }
     ensures { result ≡ from + last_at (part t.now from to) }
 {
-    let mut i = to;
-    while from < i {
-        i -= 1;
+    for i in (from..to).rev() {
         if utf8::is_boundary(t, i) {
             return i;
         }
     }
-    i
+    from
 }
 
 // The code point of the character at a place, in the text that ends at `to`.
@@ -50,10 +48,11 @@ pub fn ends_white(t: &[u8], from: usize, to: usize) -> bool
     class::is_whitespace(c)
 }
 
-fn is_line_end(b: u8) -> bool
-    ensures { result ≡ is_line_end b }
+// Whether a character, or an octet, ends a line.
+pub(crate) fn is_line_end(c: u32) -> bool
+    ensures { result ≡ is_line_end c }
 {
-    (b == 0x0a) | (b == 0x0d)
+    (c == 0x0a) | (c == 0x0d)
 }
 
 // The first line end from a place on, or the end.
@@ -61,12 +60,10 @@ pub fn line_end(t: &[u8], from: usize, to: usize) -> usize
     requires { (from ≤ to) × (to ≤ length t.now) }
     ensures { (plain (part t.now from result) ≡ true) × (stops (part t.now result to) ≡ true) × (from ≤ result) × (result ≤ to) }
 {
-    let mut i = block::past_lines(&t[..to], from);
-    while i < to {
-        if is_line_end(t[i]) {
+    for i in block::past_lines(&t[..to], from)..to {
+        if is_line_end(u32::from(t[i])) {
             return i;
         }
-        i += 1;
     }
-    i
+    to
 }

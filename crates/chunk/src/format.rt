@@ -12,7 +12,7 @@ use crate::{check, ending, form, put};
 use row::fault;
 use row::fault::{Fault, Reason};
 
-// The place after what was put, and whether white space came last.
+// The place after what was put, and whether white space came last: each tells something by itself, so this is no `Option`.
 #[derive(Clone, Copy)]
 pub struct Formatted {
     pub at: usize,
@@ -28,6 +28,7 @@ fn lines(t: &[u8], from: usize, to: usize, white: bool, out: &mut [u8], at: usiz
     let mut w = white;
     let mut i = from;
     let mut j = at;
+    // No `for`: a turn goes on by a run of any length.
     while i < to {
         let n = ending::line_end(t, i, to);
         if i < n {
@@ -45,7 +46,8 @@ fn lines(t: &[u8], from: usize, to: usize, white: bool, out: &mut [u8], at: usiz
     Formatted { at: j, white: w }
 }
 
-// A chunk, whose text stands from one place to another.
+// A chunk, whose text stands from one place to another. A text is lent with its two places and not as a slice, as `put::copy` and the functions of
+// `ending` take it, whose signatures other crates use.
 pub fn format_one(
     kind: Kind,
     t: &[u8],
@@ -85,9 +87,8 @@ fn format_all(t: &[u8], rows: &[u32], room: usize, out: &mut [u8]) -> usize
 {
     let mut white = false;
     let mut at = 0;
-    let mut i = 0;
-    while i < rows.len() {
-        let row = form::row_at(rows, i);
+    for i in 0..rows.len() / 5 {
+        let row = form::row_at(rows, i * 5);
         let kind = form::kind_from(row.kind);
         let next = format_one(kind, t, row.from, row.to, white, out, at);
         if room < next.at {
@@ -95,7 +96,6 @@ fn format_all(t: &[u8], rows: &[u32], room: usize, out: &mut [u8]) -> usize
         }
         at = next.at;
         white = next.white;
-        i += 5;
     }
     at
 }
@@ -106,14 +106,12 @@ pub fn surely_fits(rows: &[u32], room: usize, times: usize) -> bool
     ensures { result ≡ leb (most_of times (chunk_rows rows.now)) room }
 {
     let mut n = 0;
-    let mut i = 0;
-    while i < rows.len() {
-        let row = form::row_at(rows, i);
+    for i in 0..rows.len() / 5 {
+        let row = form::row_at(rows, i * 5);
         n += times * (row.to - row.from) + 2;
         if room < n {
             return false;
         }
-        i += 5;
     }
     true
 }

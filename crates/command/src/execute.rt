@@ -85,7 +85,8 @@ fn last_char_combine(marks: &[u32], out: &mut [u8], from: usize, to: usize, mark
     }
 }
 
-// What a command writes before its argument.
+// What a command writes before its argument. Here and below, a command's name is lent as a text and two places, and not as a slice: `literal` and
+// `turn` call these functions so.
 pub fn execute_before(m: Meaning, s: &[u8], a: usize, e: usize, out: &mut [u8], at: usize) -> usize
     requires { (a < e) × (e ≤ length s.now) × (at + e + 2 ≤ length out.old + a) }
     ensures lays { Lays at (leading (part s.now a e) m) out.old result out.new }

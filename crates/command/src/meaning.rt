@@ -20,7 +20,7 @@ pub enum Meaning {
     Copyright,
     // Nothing is written.
     Hyphenation,
-    // The command is written as it was read.
+    // The command is written as it was read: a meaning like the others, which `executed` says the text of, so this is no `Option`.
     Unknown,
 }
 
@@ -110,6 +110,7 @@ pub fn meaning_of(tables: Tables, s: &[u8], a: usize, e: usize) -> Meaning
     let span = span_of(n);
     let mut i = span.0;
     let to = span.1;
+    // No `for`: the rows are of different lengths.
     while i < to {
         let m = usize::from(names[i]);
         if names[i + 4..i + 4 + m] == s[a..e] {

@@ -1,4 +1,5 @@
-// The list of commands as bytes, in the form of specs/Names.antt. The proof of `names` holds it to the list of specs/Commands.antt.
+// The list of commands as bytes, in the form of specs/Names.antt. The proof of `names` holds it to the list of specs/Commands.antt. It is no map,
+// which a heap would have to hold.
 ghost use Rattle.std.specs.Prelude.{◌≡◌};
 ghost use Rattle.command.specs.Names.{names as all_names};
 

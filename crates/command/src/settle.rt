@@ -17,15 +17,11 @@ fn shift(t: &mut [u8], from: usize, to: usize, at: usize) -> usize
     if at == from {
         return to;
     }
-    let mut i = from;
-    let mut j = at;
-    while i < to {
-        let b = t[i];
-        t[j] = b;
-        i += 1;
-        j += 1;
+    let n = to - from;
+    for k in 0..n {
+        t[at + k] = t[from + k];
     }
-    j
+    at + n
 }
 
 // A Normal text, run by run between its line ends.
@@ -37,6 +33,7 @@ fn lines(t: &mut [u8], from: usize, to: usize, white: bool) -> Formatted
     let mut w = white;
     let mut i = from;
     let mut j = from;
+    // No `for`: a turn goes on by a run of any length.
     while i < to {
         let n = ending::line_end(t, i, to);
         if i < n {

@@ -3,6 +3,7 @@
 --     pack_row, packing          the bytes of a row, and of rows
 --     unpack_row, unpacking      the row of seven bytes, and bytes taken as rows, seven by seven
 --     three_at, unpack_at        the number, and the row, from a byte on
+--     numbers_in                 the four numbers of a row
 --     end_fits, span_fits        the tests of spans
 --     InSeven                    a row that seven bytes hold
 -- Assumes nothing.
@@ -37,6 +38,10 @@ three_at s p = of_bytes (get_or s p 0 ∷ get_or s (p + 1) 0 ∷ get_or s (p + 2
 
 abbrev pub unpack_at : List ℕ → ℕ → Row
 unpack_at s p = row_of (get_or s p 0 / 16) (get_or s p 0 % 16) (three_at s (p + 1)) (three_at s (p + 1) + three_at s (p + 4))
+
+-- the four numbers of a row
+abbrev pub numbers_in : Row → List ℕ
+numbers_in r = r.kind ∷ r.detail ∷ r.start ∷ r.end ∷ []
 
 -- ---- spans
 

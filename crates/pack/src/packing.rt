@@ -9,7 +9,8 @@ use row::fault::{Fault, Reason};
 use row::limits::LAST_PLACE;
 use row::{fault, mask};
 
-// Whether the rows pass the row check, and each span is a span of a file.
+// Whether the rows pass the row check, and each span is a span of a file. `is_unpackable` goes by the same masks over bytes, without a test that a
+// span is not reversed; a common function would take the chunks' length, the reading of a row and the test of its span.
 fn is_packable(rows: &[u32]) -> bool
     ensures { result ≡ is_packable rows.now }
 {
@@ -48,12 +49,9 @@ fn put_all(rows: &[u32], bytes: &mut [u8])
     requires { (is_packable rows.now ≡ true) × (length rows.now / 4 * 7 ≤ length bytes.old) }
     ensures { bytes.new ≡ packing (rows_of rows.now) ++ drop (length rows.now / 4 * 7) bytes.old }
 {
-    let mut i = 0;
-    let mut p = 0;
-    while i < rows.len() {
-        put_packed(bytes, p, rows[i], rows[i + 1], rows[i + 2], rows[i + 3]);
-        i += 4;
-        p += 7;
+    let (all, _) = rows.as_chunks::<4>();
+    for (k, &[kind, detail, start, end]) in all.iter().enumerate() {
+        put_packed(bytes, k * 7, kind, detail, start, end);
     }
 }
 
@@ -63,6 +61,7 @@ pub fn pack(rows: &[u32], bytes: &mut [u8]) -> Result<usize, Fault>
 {
     if is_packable(rows) {
         let n = rows.len() / 4;
+        // `unpack` asks the like of numbers: one comparison each, which a function for both would not shorten.
         if bytes.len() / 7 < n {
             return Err(fault::nowhere(Reason::NoRoom));
         }

@@ -1,20 +1,30 @@
 // Bytes into rows: checked first, written second.
-ghost use Rattle.std.specs.Prelude.{◌≡◌, ◌++◌, ◌+◌, ◌*◌, ◌/◌, ◌≤◌, length, drop};
+ghost use Rattle.std.specs.Prelude.{◌≡◌, [], ◌∷◌, ◌++◌, ◌*◌, ◌/◌, ◌≤◌, length, drop};
 ghost use Rattle.row.specs.Limits.{most_bytes};
 ghost use Rattle.row.specs.Row.{flat};
-ghost use Rattle.pack.specs.Seven.{unpacking, three_at};
+ghost use Rattle.pack.specs.Digits.{of_bytes};
+ghost use Rattle.pack.specs.Seven.{unpacking, unpack_at, numbers_in};
 ghost use Rattle.pack.specs.Unpack.{is_unpackable, Unpack};
 
 use row::fault::{Fault, Reason};
 use row::limits::LAST_PLACE;
 use row::{fault, form, mask};
 
-// The number of the three bytes from p on, most significant first.
-fn three(bytes: &[u8], p: usize) -> u32
-    requires { p + 3 ≤ length bytes.now }
-    ensures { (result ≡ three_at bytes.now p) × (result ≤ most_bytes) }
+// The number of three bytes, most significant first.
+fn three(a: u8, b: u8, c: u8) -> u32
+    ensures { (result ≡ of_bytes (a ∷ b ∷ c ∷ [])) × (result ≤ most_bytes) }
 {
-    u32::from_be_bytes([0, bytes[p], bytes[p + 1], bytes[p + 2]])
+    u32::from_be_bytes([0, a, b, c])
+}
+
+// The row of seven bytes, as its kind, detail, start and end.
+fn unpacked(seven: [u8; 7]) -> [u32; 4]
+    ensures { result ≡ numbers_in (unpack_at seven 0) }
+{
+    let [head, a, b, c, d, e, f] = seven;
+    let head = u32::from(head);
+    let start = three(a, b, c);
+    [head / 16, head % 16, start, start + three(d, e, f)]
 }
 
 // Whether the bytes are whole rows that pass the row check, with ends inside a file.
@@ -25,15 +35,11 @@ fn is_unpackable(bytes: &[u8]) -> bool
         return false;
     }
     let mut masks = mask::first();
-    let mut p = 0;
-    while p < bytes.len() {
-        let head = u32::from(bytes[p]);
-        masks = mask::step(masks, head / 16, head % 16);
-        let start = three(bytes, p + 1);
-        let size = three(bytes, p + 4);
-        if start + size <= LAST_PLACE {
-            p += 7;
-        } else {
+    let (all, _) = bytes.as_chunks::<7>();
+    for seven in all {
+        let [kind, detail, _, end] = unpacked(*seven);
+        masks = mask::step(masks, kind, detail);
+        if LAST_PLACE < end {
             return false;
         }
     }
@@ -45,16 +51,10 @@ fn put_all(bytes: &[u8], rows: &mut [u32])
     requires { length bytes.now / 7 * 4 ≤ length rows.old }
     ensures { rows.new ≡ flat (unpacking bytes.now) ++ drop (length bytes.now / 7 * 4) rows.old }
 {
-    let end = bytes.len() / 7 * 7;
-    let mut p = 0;
-    let mut n = 0;
-    while p < end {
-        let head = u32::from(bytes[p]);
-        let start = three(bytes, p + 1);
-        let size = three(bytes, p + 4);
-        form::write_numbers(rows, n, head / 16, head % 16, start, start + size);
-        p += 7;
-        n += 1;
+    let (all, _) = bytes.as_chunks::<7>();
+    for (n, seven) in all.iter().enumerate() {
+        let [kind, detail, start, end] = unpacked(*seven);
+        form::write_numbers(rows, n, kind, detail, start, end);
     }
 }
 

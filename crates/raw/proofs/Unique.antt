@@ -104,11 +104,11 @@ same_read o {base} {n} {b₀} {b} {c} {x} {y} p q =
 pub one-parse : Both 2 parse-kinds.ps parse-kinds.r parse.Post (λ κs x s y t. (x ≡ y) × SameLeft x s.1.1.0.now t.1.1.0.now)
 one-parse κs a x y s t p q = same_read _ p.0 q.0
 
-pub one_entry : Both 2 entry-kinds.ps entry-kinds.r entry.Post (λ κs x s y t. (x ≡ y) × SameLeft x s.1.1.1.0.now t.1.1.1.0.now)
+pub one_entry : Both 2 entry-kinds.ps entry-kinds.r entry.Post (λ κs x s y t. (x ≡ y) × SameLeft x s.1.1.0.now t.1.1.0.now)
 one_entry κs a x y s t p q = same_read _ p.0 q.0
 
-pub one-fields : Both 2 fields-kinds.ps fields-kinds.r fields.Post (λ κs x s y t. (x ≡ y) × SameLeft x s.1.1.1.0.now t.1.1.1.0.now)
+pub one-fields : Both 2 fields-kinds.ps fields-kinds.r fields.Post (λ κs x s y t. (x ≡ y) × SameLeft x s.1.1.0.now t.1.1.0.now)
 one-fields κs a x y s t p q = same_read _ p.0 q.0
 
-pub one-abbr-field : Both 2 abbr-field-kinds.ps abbr-field-kinds.r abbr-field.Post (λ κs x s y t. (x ≡ y) × SameLeft x s.1.1.1.0.now t.1.1.1.0.now)
+pub one-abbr-field : Both 2 abbr-field-kinds.ps abbr-field-kinds.r abbr-field.Post (λ κs x s y t. (x ≡ y) × SameLeft x s.1.1.0.now t.1.1.0.now)
 one-abbr-field κs a x y s t p q = same_read _ p.0 q.0

@@ -2,9 +2,9 @@
 -- Nothing is said of the numbers after a refusal: `read` counts first, over no numbers, and writes second.
 -- Assumes nothing.
 use Rattle.row.specs.declared.fault.Fault.{Fault}
-use Rattle.raw.specs.declared.answer.Turn.{Turn}
 use Rattle.std.specs.Prelude.{ℕ, ◌+◌, ◌*◌, ◌≤◌, ◌<◌, max, ◌≡◌, List, length, get_or, Result, Ok, Err}
-use Rattle.raw.specs.declared.answer.Turn.TheVariants as turn
+use Rattle.std.specs.declared.ops.ControlFlow.{ControlFlow}
+use Rattle.std.specs.declared.ops.ControlFlow.TheVariants.{Continue, Break}
 use Rattle.row.specs.Limits.{most_bytes}
 use Rattle.row.specs.Row.{moved, overlay}
 use Rattle.raw.specs.Reader.{Out, ok, again, bad}
@@ -21,10 +21,13 @@ answer_of (ok q rs) n = Ok (q, n + length rs)
 answer_of (again q rs a) n = Ok (q, n + length rs)
 answer_of (bad f) n = Err f
 
--- the answer of one turn of a loop
+-- the answer of one turn of a loop: the place, and the number of the next row
+abbrev pub Turn : Type 0
+Turn = ControlFlow (ℕ × ℕ) (ℕ × ℕ)
+
 abbrev pub turn_of : Out → ℕ → Result Turn Fault
-turn_of (ok q rs) n = Ok (turn.Done q (n + length rs))
-turn_of (again q rs a) n = Ok (turn.Again q (n + length rs))
+turn_of (ok q rs) n = Ok (Break (q, n + length rs))
+turn_of (again q rs a) n = Ok (Continue (q, n + length rs))
 turn_of (bad f) n = Err f
 
 -- the rows of o, moved on by `base` places, are laid over the numbers b from row n on
@@ -53,13 +56,18 @@ Within len w p n (Err f) = Unit {0}
 
 -- these bounds for one turn of a loop: a turn after which the loop goes on has eaten v bytes at least
 abbrev pub WithinTurn : ℕ → ℕ → ℕ → ℕ → ℕ → Result Turn Fault → Type 0
-WithinTurn len v w p n (Ok (turn.Again q m)) = (p + v ≤ q) × (q ≤ max p len) × (m + 8 * p ≤ n + 8 * q)
-WithinTurn len v w p n (Ok (turn.Done q m)) = (p + w ≤ q) × (q ≤ max p len) × (m + 8 * p ≤ n + 8 * q)
+WithinTurn len v w p n (Ok (Continue (q, m))) = (p + v ≤ q) × (q ≤ max p len) × (m + 8 * p ≤ n + 8 * q)
+WithinTurn len v w p n (Ok (Break (q, m))) = (p + w ≤ q) × (q ≤ max p len) × (m + 8 * p ≤ n + 8 * q)
 WithinTurn len v w p n (Err f) = Unit {0}
 
 -- what a reader requires that puts rows: a text of a file inside 01's limit, a place in it, and no more rows so far than that allows
 pub record Ready (base len p n : ℕ) : Type 0 where
   pub file : base + len ≤ most_bytes
+  pub place : p ≤ len
+  pub rows : n ≤ 8 * (base + p) + 8
+
+-- the same of a reader of a `Piece`, which keeps the file's limit itself: the place that is reached, and the rows so far
+pub record ReadyAt (base len p n : ℕ) : Type 0 where
   pub place : p ≤ len
   pub rows : n ≤ 8 * (base + p) + 8
 

@@ -1,8 +1,9 @@
 // Entries, after src/raw.rs: `entry`, `strings`, `preamble`, `body`.
 ghost use Rattle.std.specs.Prelude.{◌≡◌, ◌+◌, ◌≤◌, ◌<◌, length};
 ghost use Rattle.raw.specs.Grammar.{lower, spells, form_of, preamble, body, lead, rest, entry};
-ghost use Rattle.raw.specs.Says.{step_of, Onward, Says, Within, Ready, Ascii};
+ghost use Rattle.raw.specs.Says.{step_of, Onward, Says, Within, ReadyAt, Ascii};
 
+use crate::answer::Piece;
 use crate::{field, token, value};
 use reader;
 use row::fault::Fault;
@@ -66,33 +67,28 @@ fn form_of(s: &[u8], at: usize, end: usize) -> Form
 
 // Eat the body of a preamble entry: a row over the string with its quotes.
 fn preamble(
-    s: &[u8],
-    base: usize,
+    piece: Piece<'_>,
     at: usize,
     rows: &mut [u32],
     n: usize,
 ) -> Result<(usize, usize), Fault>
-    requires { Ready base (length s.now) at n }
-    ensures says { Says base (preamble s.now at) n rows.old result rows.new }
-    ensures within { Within (length s.now) 2 at n result }
+    requires { ReadyAt piece.base (length piece.text.now) at n }
+    ensures says { Says piece.entry.base (preamble piece.entry.text.now at) n rows.old result rows.new }
+    ensures within { Within (length piece.entry.text.now) 2 at n result }
 {
+    let s = piece.text;
     let p1 = value::string(s, at)?;
-    form::put_row(rows, n, Kind::Preamble, base, at, p1);
+    form::put_row(rows, n, Kind::Preamble, piece.base, at, p1);
     Ok((p1, n + 1))
 }
 
 // Eat the body of an entry: a row over its key, and its fields' rows.
-fn body(
-    s: &[u8],
-    base: usize,
-    at: usize,
-    rows: &mut [u32],
-    n: usize,
-) -> Result<(usize, usize), Fault>
-    requires { Ready base (length s.now) at n }
-    ensures says { Says base (body s.now at) n rows.old result rows.new }
-    ensures within { Within (length s.now) 1 at n result }
+fn body(piece: Piece<'_>, at: usize, rows: &mut [u32], n: usize) -> Result<(usize, usize), Fault>
+    requires { ReadyAt piece.base (length piece.text.now) at n }
+    ensures says { Says piece.entry.base (body piece.entry.text.now at) n rows.old result rows.new }
+    ensures within { Within (length piece.entry.text.now) 1 at n result }
 {
+    let s = piece.text;
     let p1 = token::key(s, at);
     let p2 = scanner::eat_whitespace(s, p1);
     let p3 = token::comma(s, p2)?;
@@ -100,8 +96,8 @@ fn body(
     let p4 = scanner::eat_whitespace(s, p3);
     let p5 = token::comment(s, p4);
     let p6 = scanner::eat_whitespace(s, p5);
-    form::put_row(rows, n, Kind::Key, base, at, p1);
-    field::fields(s, base, p6, rows, n + 1, Kind::FieldName)
+    form::put_row(rows, n, Kind::Key, piece.base, at, p1);
+    field::fields(piece, p6, rows, n + 1, Kind::FieldName)
 }
 
 // Eat the delimiter that opens, with the white space around it.
@@ -115,8 +111,7 @@ fn lead(s: &[u8], at: usize) -> Result<usize, Fault>
 
 // Eat an entry that begins at start, after its type from a place to its end.
 fn rest(
-    s: &[u8],
-    base: usize,
+    piece: Piece<'_>,
     start: usize,
     at: usize,
     end: usize,
@@ -124,19 +119,20 @@ fn rest(
     n: usize,
     form: Form,
 ) -> Result<(usize, usize), Fault>
-    requires { Ready base (length s.now) end (n + 1) × (start ≤ at) × (at ≤ end) }
-    ensures says { Says base (rest form start at end s.now end) n rows.old result rows.new }
-    ensures within { Within (length s.now) 1 end (n + 1) result }
+    requires { ReadyAt piece.base (length piece.text.now) end (n + 1) × (start ≤ at) × (at ≤ end) }
+    ensures says { Says piece.entry.base (rest form start at end piece.entry.text.now end) n rows.old result rows.new }
+    ensures within { Within (length piece.entry.text.now) 1 end (n + 1) result }
 {
+    let s = piece.text;
     let p1 = lead(s, end)?;
     match form {
-        Form::Strings => field::fields(s, base, p1, rows, n, Kind::DefinitionName),
-        Form::Preambles => preamble(s, base, p1, rows, n),
+        Form::Strings => field::fields(piece, p1, rows, n, Kind::DefinitionName),
+        Form::Preambles => preamble(piece, p1, rows, n),
         Form::Comments => Ok((reader::until(s, p1, Test::ClosingBrace), n)),
         Form::Other => {
-            form::put_row(rows, n + 1, Kind::EntryType, base, at, end);
-            let (p2, n2) = body(s, base, p1, rows, n + 2)?;
-            form::put_row(rows, n, Kind::Entry, base, start, p2);
+            form::put_row(rows, n + 1, Kind::EntryType, piece.base, at, end);
+            let (p2, n2) = body(piece, p1, rows, n + 2)?;
+            form::put_row(rows, n, Kind::Entry, piece.base, start, p2);
             Ok((p2, n2))
         }
     }
@@ -144,20 +140,20 @@ fn rest(
 
 // Eat an entry.
 pub fn entry(
-    s: &[u8],
-    base: usize,
+    piece: Piece<'_>,
     at: usize,
     rows: &mut [u32],
     n: usize,
 ) -> Result<(usize, usize), Fault>
-    requires { Ready base (length s.now) at n }
-    ensures says { Says base (entry s.now at) n rows.old result rows.new }
-    ensures within { Within (length s.now) 1 at n result }
+    requires { ReadyAt piece.base (length piece.text.now) at n }
+    ensures says { Says piece.entry.base (entry piece.entry.text.now at) n rows.old result rows.new }
+    ensures within { Within (length piece.entry.text.now) 1 at n result }
 {
+    let s = piece.text;
     let p1 = token::at_sign(s, at)?;
     let p2 = token::name(s, p1, 0x7b)?;
     let form = form_of(s, p1, p2);
-    let (p3, n3) = rest(s, base, at, p1, p2, rows, n, form)?;
+    let (p3, n3) = rest(piece, at, p1, p2, rows, n, form)?;
     let p4 = scanner::eat_whitespace(s, p3);
     let p5 = token::closing(s, p4)?;
     Ok((p5, n3))

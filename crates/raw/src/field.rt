@@ -1,34 +1,35 @@
 // Fields, after src/raw.rs: `field`, `fields`.
 ghost use Rattle.std.specs.Prelude.{List, ℕ, length};
 ghost use Rattle.raw.specs.Grammar.{field, field_end, fields_turn, fields};
-ghost use Rattle.raw.specs.Says.{Says, Within, SaysTurn, WithinTurn, Ready};
+ghost use Rattle.raw.specs.Says.{Says, Within, SaysTurn, WithinTurn, ReadyAt};
 
-use crate::answer::Turn;
-use crate::{token, value};
+use crate::answer::{Loop, Piece, Turn};
+use crate::{answer, token, value};
 use row::fault::{Fault, Reason};
 use row::form::Kind;
 use row::{fault, form};
+use std::ops::ControlFlow;
 use text::scanner;
 
 // Eat a field: a row over its name, of the kind given, and its value's rows.
 fn field(
-    s: &[u8],
-    base: usize,
+    piece: Piece<'_>,
     at: usize,
     rows: &mut [u32],
     n: usize,
     kind: Kind,
 ) -> Result<(usize, usize), Fault>
-    requires { Ready base (length s.now) at n }
-    ensures says { Says base (field kind s.now at) n rows.old result rows.new }
-    ensures within { Within (length s.now) 3 at n result }
+    requires { ReadyAt piece.base (length piece.text.now) at n }
+    ensures says { Says piece.entry.base (field kind piece.entry.text.now at) n rows.old result rows.new }
+    ensures within { Within (length piece.entry.text.now) 3 at n result }
 {
+    let s = piece.text;
     let p1 = token::name(s, at, 0x3d)?;
     let p2 = scanner::eat_whitespace(s, p1);
     let p3 = token::equals(s, p2)?;
     let p4 = scanner::eat_whitespace(s, p3);
-    form::put_row(rows, n, kind, base, at, p1);
-    let (p5, n5) = value::abbr_field(s, base, p4, rows, n + 1)?;
+    form::put_row(rows, n, kind, piece.base, at, p1);
+    let (p5, n5) = value::abbr_field(piece, p4, rows, n + 1)?;
     // Mostly a comma stands right behind the value.
     if p5 < s.len() {
         if s[p5] == 0x2c {
@@ -50,7 +51,7 @@ fn field_end(s: &[u8], at: usize, n: usize) -> Result<Turn, Fault>
         if s[at] == 0x2c {
             let p2 = scanner::eat_whitespace(s, at + 1);
             let p3 = token::comment(s, p2);
-            return Ok(Turn::Again { at: p3, n });
+            return Ok(ControlFlow::Continue((p3, n)));
         }
     }
     let p1 = scanner::eat_whitespace(s, at);
@@ -59,65 +60,54 @@ fn field_end(s: &[u8], at: usize, n: usize) -> Result<Turn, Fault>
         if b == 0x2c {
             let p2 = scanner::eat_whitespace(s, p1 + 1);
             let p3 = token::comment(s, p2);
-            return Ok(Turn::Again { at: p3, n });
+            return Ok(ControlFlow::Continue((p3, n)));
         }
         if b == 0x7d {
-            return Ok(Turn::Done { at: p1, n });
+            return Ok(ControlFlow::Break((p1, n)));
         }
     }
     Err(fault::fault_at(Reason::ExpectedComma, p1))
 }
 
-// Eat a field, if another one stands before the closing brace.
-fn fields_turn(
-    s: &[u8],
-    base: usize,
-    at: usize,
-    rows: &mut [u32],
-    n: usize,
+// The fields of an entry: rows of this kind are over their names.
+#[derive(Drop)]
+struct FieldTurns {
     kind: Kind,
-) -> Result<Turn, Fault>
-    requires { Ready base (length s.now) at n }
-    ensures says { SaysTurn base (fields_turn kind 0 s.now at) n rows.old result rows.new }
-    ensures within { WithinTurn (length s.now) 1 0 at n result }
-{
-    if s.len() <= at {
-        return Err(fault::fault_at(Reason::UnexpectedEof, at));
-    }
-    let p1 = scanner::eat_whitespace(s, at);
-    if p1 < s.len() {
-        if s[p1] == 0x7d {
-            return Ok(Turn::Done { at: p1, n });
+}
+
+impl Loop for FieldTurns {
+    ghost reader = { λ x. fields_turn x.kind 0 };
+
+    ghost least = { 0 };
+
+    // Eat a field, if another one stands before the closing brace.
+    fn turn(&self, piece: Piece<'_>, at: usize, rows: &mut [u32], n: usize) -> Result<Turn, Fault> {
+        let s = piece.text;
+        if s.len() <= at {
+            return Err(fault::fault_at(Reason::UnexpectedEof, at));
         }
+        let p1 = scanner::eat_whitespace(s, at);
+        if p1 < s.len() {
+            if s[p1] == 0x7d {
+                return Ok(ControlFlow::Break((p1, n)));
+            }
+        }
+        let (p2, n2) = field(piece, p1, rows, n, self.kind)?;
+        field_end(s, p2, n2)
     }
-    let (p2, n2) = field(s, base, p1, rows, n, kind)?;
-    field_end(s, p2, n2)
 }
 
 // Eat fields, to the brace that closes the entry, which is not eaten.
 pub fn fields(
-    s: &[u8],
-    base: usize,
+    piece: Piece<'_>,
     at: usize,
     rows: &mut [u32],
     n: usize,
     kind: Kind,
 ) -> Result<(usize, usize), Fault>
-    requires { Ready base (length s.now) at n }
-    ensures says { Says base (fields kind s.now at) n rows.old result rows.new }
-    ensures within { Within (length s.now) 0 at n result }
+    requires { ReadyAt piece.base (length piece.text.now) at n }
+    ensures says { Says piece.entry.base (fields kind piece.entry.text.now at) n rows.old result rows.new }
+    ensures within { Within (length piece.entry.text.now) 0 at n result }
 {
-    let mut p = at;
-    let mut m = n;
-    loop {
-        match fields_turn(s, base, p, rows, m, kind)? {
-            Turn::Again { at: q, n: k } => {
-                p = q;
-                m = k;
-            }
-            Turn::Done { at: q, n: k } => {
-                return Ok((q, k));
-            }
-        }
-    }
+    answer::turns(&FieldTurns { kind }, piece, at, rows, n)
 }

@@ -2,42 +2,44 @@
 ghost use Rattle.std.specs.Prelude.{◌≡◌, ◌≤◌, length};
 ghost use Rattle.row.specs.Limits.{most_bytes};
 ghost use Rattle.raw.specs.Grammar.{file_turn, file};
-ghost use Rattle.raw.specs.Says.{Says, Within, SaysTurn, WithinTurn, Ready};
+ghost use Rattle.raw.specs.Says.{Says, Within, Ready};
 ghost use Rattle.raw.specs.Read.{culprit, strict, Read};
 
-use crate::answer::Turn;
-use crate::{entry, token};
+use crate::answer::{Loop, Piece, Turn};
+use crate::{answer, entry, token};
 use reader;
 use row::fault::{Fault, Reason};
 use row::limits::MOST_BYTES;
 use row::{fault, form};
+use std::ops::ControlFlow;
 use text::{scanner, utf8};
 
-// Eat an entry, a comment or any other character, after white space.
-fn file_turn(s: &[u8], base: usize, at: usize, rows: &mut [u32], n: usize) -> Result<Turn, Fault>
-    requires { Ready base (length s.now) at n }
-    ensures says { SaysTurn base (file_turn 0 s.now at) n rows.old result rows.new }
-    ensures within { WithinTurn (length s.now) 1 0 at n result }
-{
-    let p1 = scanner::eat_gap(s, at);
-    if s.len() <= p1 {
-        return Ok(Turn::Done { at: p1, n });
+// The items of a file.
+#[derive(Drop)]
+struct FileTurns;
+
+impl Loop for FileTurns {
+    ghost reader = { λ x. file_turn 0 };
+
+    ghost least = { 0 };
+
+    // Eat an entry, a comment or any other character, after white space.
+    fn turn(&self, piece: Piece<'_>, at: usize, rows: &mut [u32], n: usize) -> Result<Turn, Fault> {
+        let s = piece.text;
+        let p1 = scanner::eat_gap(s, at);
+        if s.len() <= p1 {
+            return Ok(ControlFlow::Break((p1, n)));
+        }
+        let b = s[p1];
+        if b == 0x40 {
+            let (p2, n2) = entry::entry(piece, p1, rows, n)?;
+            return Ok(ControlFlow::Continue((p2, n2)));
+        }
+        if b == 0x25 {
+            return Ok(ControlFlow::Continue((token::comment(s, p1), n)));
+        }
+        Ok(ControlFlow::Continue((reader::after(s, p1), n)))
     }
-    let b = s[p1];
-    if b == 0x40 {
-        let (p2, n2) = entry::entry(s, base, p1, rows, n)?;
-        return Ok(Turn::Again { at: p2, n: n2 });
-    }
-    if b == 0x25 {
-        return Ok(Turn::Again {
-            at: token::comment(s, p1),
-            n,
-        });
-    }
-    Ok(Turn::Again {
-        at: reader::after(s, p1),
-        n,
-    })
 }
 
 // Reads a text that stands base bytes into a file: its rows from row n on. A refusal is where the reader stood; who hands it out widens it.
@@ -46,19 +48,7 @@ pub fn parse(s: &[u8], base: usize, rows: &mut [u32], n: usize) -> Result<(usize
     ensures says { Says base (file s.now 0) n rows.old result rows.new }
     ensures within { Within (length s.now) 0 0 n result }
 {
-    let mut p = 0;
-    let mut m = n;
-    loop {
-        match file_turn(s, base, p, rows, m)? {
-            Turn::Again { at: q, n: k } => {
-                p = q;
-                m = k;
-            }
-            Turn::Done { at: q, n: k } => {
-                return Ok((q, k));
-            }
-        }
-    }
+    answer::turns(&FileTurns, Piece { text: s, base }, 0, rows, n)
 }
 
 // A refusal of a text, over the whole character where the reader stood; at the end of the text its place stays empty.

@@ -2,13 +2,14 @@
 ghost use Rattle.std.specs.Prelude.{◌≡◌, ◌+◌, ◌≤◌, length};
 ghost use Rattle.raw.specs.Inner.{Undelimited, literal_of};
 ghost use Rattle.raw.specs.Grammar.{quoted, string, string_literal, number, in_braces, braced, abbr_element, abbr_turn, abbr_field};
-ghost use Rattle.raw.specs.Says.{step_of, Onward, Says, Within, SaysTurn, WithinTurn, Ready};
+ghost use Rattle.raw.specs.Says.{step_of, Onward, Says, Within, ReadyAt, Ready};
 
-use crate::answer::Turn;
-use crate::token;
+use crate::answer::{Loop, Piece, Turn};
+use crate::{answer, token};
 use row::fault::{Fault, Reason};
 use row::form::Kind;
 use row::{fault, form};
+use std::ops::ControlFlow;
 use text::class::Test;
 use text::{block, scanner};
 
@@ -154,60 +155,55 @@ fn literal(
 
 // Eat a string whose inside is a literal: row n, at its place in the file.
 fn string_literal(
-    s: &[u8],
-    base: usize,
+    piece: Piece<'_>,
     at: usize,
     rows: &mut [u32],
     n: usize,
 ) -> Result<(usize, usize), Fault>
-    requires { Ready base (length s.now) at n }
-    ensures says { Says base (string_literal s.now at) n rows.old result rows.new }
-    ensures within { Within (length s.now) 2 at n result }
+    requires { ReadyAt piece.base (length piece.text.now) at n }
+    ensures says { Says piece.entry.base (string_literal piece.entry.text.now at) n rows.old result rows.new }
+    ensures within { Within (length piece.entry.text.now) 2 at n result }
 {
+    let s = piece.text;
     let p1 = token::quote(s, at)?;
     let p2 = quoted(s, p1)?;
-    literal(base, p1, p2, token::quote(s, p2), rows, n)
+    literal(piece.base, p1, p2, token::quote(s, p2), rows, n)
 }
 
 // Eat a braced value.
-fn braced(
-    s: &[u8],
-    base: usize,
-    at: usize,
-    rows: &mut [u32],
-    n: usize,
-) -> Result<(usize, usize), Fault>
-    requires { Ready base (length s.now) at n }
-    ensures says { Says base (braced s.now at) n rows.old result rows.new }
-    ensures within { Within (length s.now) 2 at n result }
+fn braced(piece: Piece<'_>, at: usize, rows: &mut [u32], n: usize) -> Result<(usize, usize), Fault>
+    requires { ReadyAt piece.base (length piece.text.now) at n }
+    ensures says { Says piece.entry.base (braced piece.entry.text.now at) n rows.old result rows.new }
+    ensures within { Within (length piece.entry.text.now) 2 at n result }
 {
+    let s = piece.text;
     let p1 = token::opening(s, at)?;
     let p2 = in_braces(s, p1)?;
-    literal(base, p1, p2, token::closing(s, p2), rows, n)
+    literal(piece.base, p1, p2, token::closing(s, p2), rows, n)
 }
 
 // Eat an element of an abbreviation that begins with neither a brace nor a quote.
 fn bare_element(
-    s: &[u8],
-    base: usize,
+    piece: Piece<'_>,
     at: usize,
     rows: &mut [u32],
     n: usize,
 ) -> Result<(usize, usize), Fault>
-    requires { Ready base (length s.now) at n × Undelimited s.now at }
-    ensures says { Says base (abbr_element s.now at) n rows.old result rows.new }
-    ensures within { Within (length s.now) 1 at n result }
+    requires { ReadyAt piece.base (length piece.text.now) at n × Undelimited piece.text.now at }
+    ensures says { Says piece.entry.base (abbr_element piece.entry.text.now at) n rows.old result rows.new }
+    ensures within { Within (length piece.entry.text.now) 1 at n result }
 {
+    let s = piece.text;
     let digit = scanner::eat_if(s, at, Test::Digit);
     if digit != at {
         let p1 = number(s, at)?;
-        form::put_row(rows, n, Kind::Literal, base, at, p1);
+        form::put_row(rows, n, Kind::Literal, piece.base, at, p1);
         return Ok((p1, n + 1));
     }
     let start = scanner::eat_if(s, at, Test::IdStart);
     if start != at {
         let p2 = token::ident(s, at)?;
-        form::put_row(rows, n, Kind::Name, base, at, p2);
+        form::put_row(rows, n, Kind::Name, piece.base, at, p2);
         return Ok((p2, n + 1));
     }
     Err(fault::fault_at(Reason::UnexpectedEof, at))
@@ -215,78 +211,73 @@ fn bare_element(
 
 // Eat an element of an abbreviation: most are in braces or quotes.
 fn abbr_element(
-    s: &[u8],
-    base: usize,
+    piece: Piece<'_>,
     at: usize,
     rows: &mut [u32],
     n: usize,
 ) -> Result<(usize, usize), Fault>
-    requires { Ready base (length s.now) at n }
-    ensures says { Says base (abbr_element s.now at) n rows.old result rows.new }
-    ensures within { Within (length s.now) 1 at n result }
+    requires { ReadyAt piece.base (length piece.text.now) at n }
+    ensures says { Says piece.entry.base (abbr_element piece.entry.text.now at) n rows.old result rows.new }
+    ensures within { Within (length piece.entry.text.now) 1 at n result }
 {
+    let s = piece.text;
     if at < s.len() {
         let b = s[at];
         if b == 0x7b {
-            return braced(s, base, at, rows, n);
+            return braced(piece, at, rows, n);
         }
         if b == 0x22 {
-            return string_literal(s, base, at, rows, n);
+            return string_literal(piece, at, rows, n);
         }
     }
-    bare_element(s, base, at, rows, n)
+    bare_element(piece, at, rows, n)
 }
 
-// Eat an element, and a number sign after it if another follows. Mostly a comma or a number sign stands right behind it.
-fn abbr_turn(s: &[u8], base: usize, at: usize, rows: &mut [u32], n: usize) -> Result<Turn, Fault>
-    requires { Ready base (length s.now) at n }
-    ensures says { SaysTurn base (abbr_turn 0 s.now at) n rows.old result rows.new }
-    ensures within { WithinTurn (length s.now) 1 1 at n result }
-{
-    let (p1, n1) = abbr_element(s, base, at, rows, n)?;
-    if p1 < s.len() {
-        let b = s[p1];
-        if b == 0x2c {
-            return Ok(Turn::Done { at: p1, n: n1 });
+// The elements of an abbreviation.
+#[derive(Drop)]
+struct ElementTurns;
+
+impl Loop for ElementTurns {
+    ghost reader = { λ x. abbr_turn 0 };
+
+    ghost least = { 1 };
+
+    // Eat an element, and a number sign after it if another follows. Mostly a comma or a number sign stands right behind it.
+    fn turn(&self, piece: Piece<'_>, at: usize, rows: &mut [u32], n: usize) -> Result<Turn, Fault> {
+        let s = piece.text;
+        let (p1, n1) = abbr_element(piece, at, rows, n)?;
+        if p1 < s.len() {
+            let b = s[p1];
+            if b == 0x2c {
+                return Ok(ControlFlow::Break((p1, n1)));
+            }
+            if b == 0x23 {
+                let next = scanner::eat_whitespace(s, p1 + 1);
+                return Ok(ControlFlow::Continue((next, n1)));
+            }
         }
-        if b == 0x23 {
-            let next = scanner::eat_whitespace(s, p1 + 1);
-            return Ok(Turn::Again { at: next, n: n1 });
+        let p2 = scanner::eat_whitespace(s, p1);
+        let p3 = scanner::eat_byte(s, p2, 0x23);
+        if p3 == p2 {
+            return Ok(ControlFlow::Break((p2, n1)));
         }
+        let p4 = scanner::eat_whitespace(s, p3);
+        Ok(ControlFlow::Continue((p4, n1)))
     }
-    let p2 = scanner::eat_whitespace(s, p1);
-    let p3 = scanner::eat_byte(s, p2, 0x23);
-    if p3 == p2 {
-        return Ok(Turn::Done { at: p2, n: n1 });
-    }
-    let p4 = scanner::eat_whitespace(s, p3);
-    Ok(Turn::Again { at: p4, n: n1 })
 }
 
 // Eat an abbreviation field: a row over its elements and the white space after them.
 pub fn abbr_field(
-    s: &[u8],
-    base: usize,
+    piece: Piece<'_>,
     at: usize,
     rows: &mut [u32],
     n: usize,
 ) -> Result<(usize, usize), Fault>
-    requires { Ready base (length s.now) at (n + 1) }
-    ensures says { Says base (abbr_field s.now at) n rows.old result rows.new }
-    ensures within { Within (length s.now) 1 at (n + 1) result }
+    requires { ReadyAt piece.base (length piece.text.now) at (n + 1) }
+    ensures says { Says piece.entry.base (abbr_field piece.entry.text.now at) n rows.old result rows.new }
+    ensures within { Within (length piece.entry.text.now) 1 at (n + 1) result }
 {
-    let mut p = at;
-    let mut m = n + 1;
-    loop {
-        match abbr_turn(s, base, p, rows, m)? {
-            Turn::Again { at: q, n: k } => {
-                p = q;
-                m = k;
-            }
-            Turn::Done { at: q, n: k } => {
-                form::put_row(rows, n, Kind::Value, base, at, q);
-                return Ok((q, k));
-            }
-        }
-    }
+    let (q, k) = answer::turns(&ElementTurns, piece, at, rows, n + 1)?;
+    form::put_row(rows, n, Kind::Value, piece.base, at, q);
+    Ok((q, k))
 }

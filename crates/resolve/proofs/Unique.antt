@@ -1,6 +1,6 @@
 -- What the public contracts settle: any two outcomes that one allows are the same. Stated of each contract as the check reads it off the
 -- source, so that a contract which said less would fail here.
---     the same answer                                         `check_file`, `is_span`, `are_lent`, `is_value`, `place`, `progress::answer`
+--     the same answer                                         `check_file`, `is_span`, `are_lent`, `is_value`, `progress::answer`
 --     the same answer, chunk rows and text                    `single`
 --     the same chunk rows and text                            `copy_out`
 --     the same answer, scratch, chunk rows and text           `resolve_literal`
@@ -19,8 +19,6 @@ use Rattle.resolve.proofs.one_literal.single.Kinds as single-kinds
 use Rattle.resolve.proofs.one_literal.single.Reads as single
 use Rattle.resolve.proofs.one_literal.resolve_literal.Kinds as resolve-literal-kinds
 use Rattle.resolve.proofs.one_literal.resolve_literal.Reads as resolve-literal
-use Rattle.resolve.proofs.lent.place.Kinds as place-kinds
-use Rattle.resolve.proofs.lent.place.Reads as place
 use Rattle.resolve.proofs.progress.copy_out.Kinds as copy-out-kinds
 use Rattle.resolve.proofs.progress.copy_out.Reads as copy-out
 use Rattle.resolve.proofs.progress.answer.Kinds as answer-kinds
@@ -53,9 +51,6 @@ one-resolve-literal κs a x y s t p q = (
   p.writes.rows ∙ sym q.writes.rows,
   p.writes.text ∙ sym q.writes.text,
 )
-
-pub one_place : One 0 place-kinds.ps place-kinds.r place.Post
-one_place κs a x y s t p q = p ∙ sym q
 
 pub one_answer : One 0 answer-kinds.ps answer-kinds.r answer.Post
 one_answer κs a x y s t p q = p ∙ sym q

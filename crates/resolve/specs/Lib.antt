@@ -3,6 +3,7 @@ pub mod OneLiteral
 pub mod Runs
 pub mod Checks
 pub mod StrictRows
+pub mod Fours
 pub mod Progress
 pub mod Asking
 pub mod Refusals

@@ -8,22 +8,15 @@ use row::check;
 use row::form::VALUE;
 use text::utf8;
 
-pub fn place(n: u32) -> usize
-    ensures { result ≡ n }
-{
-    n as usize
-}
-
 // Whether every row's span lies in the file and cuts no character.
 fn every_span(file: &[u8], rows: &[u32]) -> bool
     ensures { result ≡ every_span file.now (rows_of rows.now) }
 {
-    let mut i = 0;
-    while rows.len() - i >= 4 {
-        if !one_literal::is_span(file, place(rows[i + 2]), place(rows[i + 3])) {
+    let (all, _) = rows.as_chunks::<4>();
+    for &[_, _, start, end] in all {
+        if !one_literal::is_span(file, start as usize, end as usize) {
             return false;
         }
-        i += 4;
     }
     true
 }
@@ -45,14 +38,13 @@ fn are_months(months: &[u32], words: &[u8]) -> bool
     if months.len() % 4 != 0 {
         return false;
     }
-    let mut i = 0;
-    while i < months.len() {
-        let word = is_text(words, place(months[i]), place(months[i + 1]));
-        let text = is_text(words, place(months[i + 2]), place(months[i + 3]));
+    let (all, _) = months.as_chunks::<4>();
+    for &[from, to, start, end] in all {
+        let word = is_text(words, from as usize, to as usize);
+        let text = is_text(words, start as usize, end as usize);
         if !(word & text) {
             return false;
         }
-        i += 4;
     }
     true
 }

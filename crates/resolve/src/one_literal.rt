@@ -32,7 +32,8 @@ pub fn is_span(file: &[u8], start: usize, end: usize) -> bool
 
 // Resolves the literal over a small room for rows first, past whose end rows are only counted. If all rows are in the small room they are copied
 // from there; else the literal is resolved again. Its content is read up to `at`: it has only written text, which has `len` bytes and stands in
-// the scratch.
+// the scratch. Here and below `verbatim` is the flag of the C interface, with no value beside it, and what C lends is handed on piece by piece: a
+// function gets only what it may write.
 fn write(
     s: &[u8],
     base: usize,
@@ -54,6 +55,7 @@ fn write(
         from: 0,
         start: 0,
     };
+    // Room that is lent to the writer as C's is: no heap. How much of it holds rows is `rows.n`.
     let mut few = [0u32; 160];
     let (rows, len) = parse::rest(
         s, base, verbatim, 0, none, at, len, scratch, &mut few, tables,

@@ -21,7 +21,8 @@ use literal::{making, parse, rows};
 use row::fault::Fault;
 use row::form;
 
-// The rows, bytes of text and names so far; or that there is more of them than can be written.
+// The rows, bytes of text and names so far; or that there is more of them than can be written. That is a flag and no variant, since the names are
+// counted on where it is set.
 #[derive(Clone, Copy)]
 pub struct Progress {
     pub rows: Rows,
@@ -87,7 +88,8 @@ fn append(
     }
 }
 
-// Appends the chunks of a literal, which stands at `base` in the file.
+// Appends the chunks of a literal, which stands at `base` in the file. `verb` is the flag of the C interface, with no value beside it, and what C
+// lends comes piece by piece, as in `one_literal`.
 pub fn literal(
     s: &[u8],
     base: usize,

@@ -1,6 +1,6 @@
 // The elements of a value and its names, after `parse_field` and `resolve_abbreviation` of resolve.rs: `value` and `name` call each other, with
 // the depth of names falling.
-ghost use Rattle.std.specs.Prelude.{◌≡◌, true, ◌+◌, ◌-◌, ◌/◌, ◌%◌, ◌≤◌, length, take, drop};
+ghost use Rattle.std.specs.Prelude.{◌≡◌, ◌+◌, ◌-◌, ◌/◌, ◌%◌, ◌≤◌, length, take, drop};
 ghost use Rattle.row.specs.declared.form.Kind.TheVariants as kind;
 ghost use Rattle.row.specs.Row.{row};
 ghost use Rattle.row.specs.Numbers.{rows_of};
@@ -13,8 +13,8 @@ ghost use Rattle.values.specs.Uses.{Means, RowInside, limits as limits_of, allow
 use crate::months;
 use crate::resolver::Resolver;
 use lookup::index;
+use resolve::progress;
 use resolve::progress::Progress;
-use resolve::{lent, progress};
 use row::fault::{Fault, Reason};
 use row::form::{LITERAL, NAME};
 use row::limits::{MOST_NAMES, MOST_OPEN};
@@ -39,14 +39,7 @@ fn on_path(path: &[usize], used: usize, i: usize) -> bool
     requires { used ≤ length path.now }
     ensures { result ≡ on_path i (take used path.now) }
 {
-    let mut k = 0;
-    while k < used {
-        if path[k] == i {
-            return true;
-        }
-        k += 1;
-    }
-    false
+    path[..used].contains(&i)
 }
 
 // Whether one more name may be opened: there is one left to open, and the number of names is below 01's limit.
@@ -87,9 +80,10 @@ pub fn element_at(rows: &[u32], i: usize) -> Option<Element>
     if rows.len() < i + 4 {
         return None;
     }
+    // This is of any numbers, and not of rows that were checked, so the kind is compared as a number.
     let kind = rows[i];
-    let start = lent::place(rows[i + 2]);
-    let end = lent::place(rows[i + 3]);
+    let start = rows[i + 2] as usize;
+    let end = rows[i + 3] as usize;
     if kind == LITERAL {
         return Some(Element::Literal { start, end });
     }
@@ -154,14 +148,11 @@ impl<'a, 'b> Resolver<'a, 'b> {
     {
         let mut st = first;
         let mut i = at;
-        loop {
-            let e = element_at(self.rows, i);
+        // A `for` over the rows behind would have to leave off at the first that is no element, which `element_at` says.
+        while let Some(e) = element_at(self.rows, i) {
             i += 4;
             match e {
-                None => {
-                    return Ok(st);
-                }
-                Some(Element::Literal { start, end }) => {
+                Element::Literal { start, end } => {
                     st = progress::literal(
                         &self.file[start..end],
                         start,
@@ -173,11 +164,12 @@ impl<'a, 'b> Resolver<'a, 'b> {
                         self.tables,
                     )?;
                 }
-                Some(Element::Name { start, end }) => {
+                Element::Name { start, end } => {
                     st = self.name(verb, left, path, start, end, st, scratch, chunks, text)?;
                 }
             }
         }
+        Ok(st)
     }
 
     // A name that is used in the file from `start` to `end`.

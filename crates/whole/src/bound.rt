@@ -6,7 +6,6 @@ ghost use Rattle.resolve.specs.Checks.{lent_of};
 ghost use Rattle.whole.specs.Bounds.{ElementMost, FewMost, MostOf, SmallMost, Either, TextMost, MonthsMost, UseAtMost};
 
 use literal::rows::MOST_NUMBER;
-use resolve::lent;
 use row::form::DEFINITION_NAME;
 use values::elements;
 use values::elements::Element;
@@ -48,10 +47,8 @@ pub fn most_of(rows: &[u32], i: usize, name: Option<Most>) -> Option<Most>
     let mut n = 0;
     let mut m = 0;
     let mut at = i * 4 + 4;
-    loop {
-        let Some(e) = elements::element_at(rows, at) else {
-            return Some(Most { rows: n, bytes: m });
-        };
+    // A `for` over the rows behind would have to leave off at the first that is no element, which `element_at` says.
+    while let Some(e) = elements::element_at(rows, at) {
         at += 4;
         let one = most_of_element(e, name)?;
         n += one.rows;
@@ -60,6 +57,7 @@ pub fn most_of(rows: &[u32], i: usize, name: Option<Most>) -> Option<Most>
             return None;
         }
     }
+    Some(Most { rows: n, bytes: m })
 }
 
 // A bound for what comes to no more than `a` or no more than `b`.
@@ -92,10 +90,9 @@ fn most_of_months(months: &[u32]) -> Option<Most>
     ensures { MonthsMost months.now result × SmallMost result }
 {
     let mut most = Some(Most { rows: 0, bytes: 0 });
-    for i in 0..months.len() / 4 {
-        let from = lent::place(months[i * 4 + 2]);
-        let to = lent::place(months[i * 4 + 3]);
-        most = either(most, most_of_text(from, to));
+    let (all, _) = months.as_chunks::<4>();
+    for month in all {
+        most = either(most, most_of_text(month[2] as usize, month[3] as usize));
     }
     most
 }

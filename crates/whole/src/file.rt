@@ -42,20 +42,14 @@ pub struct Filed {
     pub bytes: usize,
 }
 
-// The values so far, and the chunk rows and bytes of text that they have together; or that there is more of these than can be written.
+// The values so far, and the chunk rows and bytes of text that they have together; or that there is more of these than can be written. That is a
+// flag and no variant, since the values are counted on where it is set.
 #[derive(Clone, Copy)]
 pub struct Totals {
     pub values: usize,
     pub rows: usize,
     pub bytes: usize,
     pub over: bool,
-}
-
-fn narrow(n: usize) -> u32
-    requires { n ≤ most_number }
-    ensures { result ≡ n }
-{
-    n as u32
 }
 
 fn is_value(rows: &[u32], i: usize) -> bool
@@ -146,6 +140,9 @@ fn fits(t: Totals, answers: &[u32], chunks: &[u32], text: &[u8]) -> bool
         & (t.bytes <= text.len())
 }
 
+// What C lends is handed on piece by piece, here and below: a function gets only what it may read or write, so that the rest stays as it is by its
+// type.
+
 // Whether there is room for all values. They are counted over no room, and no further than to where there is more than is lent.
 fn counted_fits(
     resolver: &Resolver,
@@ -175,7 +172,7 @@ fn counted_fits(
 }
 
 // Adds what row i comes to at most, if it is a value, to what the rows before it come to at most. A use of a name comes to at most `name`. A value
-// of which nothing is known is counted.
+// of which nothing is known is counted. Like `write_row` it passes by what is no value, and has nothing else in common with it.
 fn bound_row(
     resolver: &Resolver,
     flags: &[u8],
@@ -308,8 +305,8 @@ fn answer_row(answers: &mut [u32], t: Totals, a: Result<Chunks, Fault>) -> Total
                 t.values,
                 fault::number(reason),
                 0,
-                narrow(f.start),
-                narrow(f.end),
+                f.start as u32,
+                f.end as u32,
                 0,
                 0,
             );
@@ -320,11 +317,11 @@ fn answer_row(answers: &mut [u32], t: Totals, a: Result<Chunks, Fault>) -> Total
                 answers,
                 t.values,
                 0,
-                narrow(chunks.names),
-                narrow(t.rows),
-                narrow(t.rows + chunks.rows),
-                narrow(t.bytes),
-                narrow(t.bytes + chunks.bytes),
+                chunks.names as u32,
+                t.rows as u32,
+                (t.rows + chunks.rows) as u32,
+                t.bytes as u32,
+                (t.bytes + chunks.bytes) as u32,
             );
             add(t, chunks.rows, chunks.bytes, false)
         }

@@ -1,10 +1,9 @@
 -- How many octets chunks are formatted as, at most.
 --     format-most, surely                         two for each chunk, and its text; so they fit where these do
---     times-small                                 products that have room
 --     Fitting, fit-start, fit-turn                the loop of `surely_fits`: its invariant, where it begins, and its turn
 --     fit-stop, fit-done                          what it answers where the octets are more than the room, and at its end
 -- Assumes nothing.
-use Rattle.std.proofs.Common.{ℕ, ◌+◌, ◌-◌, ◌*◌, ◌≤◌, ◌<◌, arith, mul-le-mul, ◌≡◌, sym, ap, ap₂, Bool}
+use Rattle.std.proofs.Common.{ℕ, ◌+◌, ◌-◌, ◌*◌, ◌/◌, ◌≤◌, ◌<◌, arith, ◌≡◌, sym, ap, ap₂, Bool}
 use Rattle.std.proofs.Common.{true, false, cond, List, [], ◌∷◌, ◌++◌, map, length, drop, length-append, leb, leb-true, le-leb}
 use borrow.Author.Tests.{lt-leb}
 use Rattle.text.proofs.general.Parts.{part-size}
@@ -13,7 +12,7 @@ use Rattle.chunk.specs.declared.form.Kind.TheVariants.{Normal, Verbatim, Math}
 use Rattle.chunk.specs.Chunk.{ChunkRow, chunk_rows, chunk_of, chunks_of, are_chunks, Stores}
 use Rattle.chunk.specs.Format.{is_line_end, white, before, lines, format_one, format_from, format_verbatim}
 use Rattle.chunk.specs.Inner.{most_of}
-use Rattle.chunk.proofs.rows.RowCheck.{rows-open, rows_end, Checking, starts, five, check-turn}
+use Rattle.chunk.proofs.rows.RowCheck.{rows-next, rows_end, Checking, starts, check-turn}
 use Rattle.chunk.proofs.passes.Passes.{row-passes}
 
 lines-most : (w : Bool) (u t : List ℕ) → length (lines w u t).text ≤ length t
@@ -50,28 +49,24 @@ surely t l {room} e = omega (arith, format-most t (chunk_rows l) false, leb-true
 
 -- ---- the loop of `surely_fits`
 
--- three times the length of a text have room in a number
-pub times-small : (m n : ℕ) → m ≤ 3 → n ≤ 4294967295 → m * n ≤ 3 * 4294967295
-times-small m n h k = mul-le-mul h k
-
--- the rows before number i come to n octets at most, m times their text. The rows passed the check over some text
+-- the rows before row i come to n octets at most, m times their text. The rows passed the check over some text
 pub record Fitting (m : ℕ) (l : List ℕ) (n i : ℕ) : Type 0 where
   pub over : List ℕ
   pub chunks : are_chunks over l ≡ true
   pub checks : Checking over l i
-  pub same : n + most_of m (chunk_rows (drop i l)) ≡ most_of m (chunk_rows l)
+  pub same : n + most_of m (chunk_rows (drop (i * 5) l)) ≡ most_of m (chunk_rows l)
 
 pub fit-start : (m : ℕ) (t l : List ℕ) → are_chunks t l ≡ true → Fitting m l 0 0
 fit-start m t l e = record { over = t; chunks = e; checks = starts t l e; same = omega arith }
 
 module _ {m : ℕ} {l : List ℕ} {n i : ℕ} (g : Fitting m l n i) where
-  pub fit-turn : i < length l → {k f e : ℕ} → Stores l i k f e → Fitting m l (n + (m * (e - f) + 2)) (i + 5)
+  pub fit-turn : i < length l / 5 → {k f e : ℕ} → Stores l (i * 5) k f e → Fitting m l (n + (m * (e - f) + 2)) (i + 1)
   unfolding most_of
   fit-turn h {k} {f} {e} s = record {
     over = g.over;
     chunks = g.chunks;
     checks = check-turn g.checks h (row-passes g.checks g.chunks h);
-    same = sum (most_of m (chunk_rows (drop (i + 5) l))) (ap₂ (λ (x y : ℕ). m * (y - x)) s.from s.to) (ap (most_of m) (rows-open l i (five g.checks h))) g.same;
+    same = sum (most_of m (chunk_rows (drop ((i + 1) * 5) l))) (ap₂ (λ (x y : ℕ). m * (y - x)) s.from s.to) (ap (most_of m) (rows-next l i h)) g.same;
   }
     where
       sum : (k : ℕ) {a b x all : ℕ} → a ≡ b → x ≡ b + 2 + k → n + x ≡ all → n + (a + 2) + k ≡ all
@@ -80,8 +75,8 @@ module _ {m : ℕ} {l : List ℕ} {n i : ℕ} (g : Fitting m l n i) where
   pub fit-stop : {room : ℕ} → room < n → false ≡ leb (most_of m (chunk_rows l)) room
   fit-stop {room} h = sym (lt-leb (most_of m (chunk_rows l)) room (omega (arith, g.same)))
 
-  pub fit-done : length l ≤ i → {room : ℕ} → n ≤ room → true ≡ leb (most_of m (chunk_rows l)) room
+  pub fit-done : length l / 5 ≤ i → {room : ℕ} → n ≤ room → true ≡ leb (most_of m (chunk_rows l)) room
   unfolding most_of
   fit-done h {room} k =
-      let none : most_of m (chunk_rows (drop i l)) ≡ 0 = ap (most_of m) (rows_end l i h) in
+      let none : most_of m (chunk_rows (drop (i * 5) l)) ≡ 0 = ap (most_of m) (rows_end l i g.checks.whole h) in
       sym (le-leb (most_of m (chunk_rows l)) room (omega (arith, g.same, none)))

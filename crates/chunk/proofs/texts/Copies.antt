@@ -1,14 +1,14 @@
 -- Bytes of a text copied over lent bytes, as far as they fit.
 --     copied, lowered              as many as there is room for, as they are or lowered
 --     copy-past, lower-past        past the end of the lent bytes this changes nothing
---     lower-none, lower-more       the loop that lowers them: where it begins, and its turn
+--     lower-more                   the turn of the loop that lowers them
 -- Assumes nothing.
 use Rattle.std.proofs.Common.{ℕ, ◌+◌, ◌-◌, ◌≤◌, ◌<◌, arith, ◌≡◌, refl, sym, ap, ap₂, ◌∙◌, false, List, [], ◌∷◌, ◌++◌, map, length, get_or, set}
 use mathlib.Core.List.{map-append}
 use lib.Seq.{sets}
 use Rattle.text.specs.Scan.{part}
 use Rattle.text.proofs.general.Lists.{sets-append}
-use Rattle.text.proofs.general.Parts.{part_none, part-more, part_join, length_part}
+use Rattle.text.proofs.general.Parts.{part-more, part_join, length_part}
 use Rattle.casing.specs.Casing.{ascii_cased}
 use Rattle.chunk.specs.Put.{Puts}
 use Rattle.chunk.proofs.texts.Puts.{puts-past, puts-as, puts-most}
@@ -54,12 +54,6 @@ module _ (s : List ℕ) (a e : ℕ) (h : a ≤ e) (l : e ≤ length s) (m : ℕ)
 -- ---- the loop that lowers
 
 module _ (s o : List ℕ) (a n : ℕ) where
-  pub lower-none : o ≡ sets o n (low (part s a (a + 0)))
-  lower-none = ap (λ (u : List ℕ). sets o n (low u)) (sym (part_none s a) ∙ ap (part s a) same)
-    where
-      same : a ≡ a + 0
-      same = omega arith
-
   pub lower-more : (i : ℕ) {o₁ : List ℕ} {x : ℕ} → a + i < length s → o₁ ≡ sets o n (low (part s a (a + i))) → x ≡ ascii_cased false (get_or s (a + i) 0) →
       set o₁ (n + i) x ≡ sets o n (low (part s a (a + (i + 1))))
   lower-more i h q r =

@@ -2,15 +2,15 @@
 --     in_a_row                     the code's tests, joined as `mark` joins them
 --     escape-some, escape-none     a character that is escaped, and one that is not
 --     escaped-append               escaping two texts, one after the other
---     escaped-start, escaped-on, escaped-all      the loop: where it begins, its turn, and its end
+--     escaped-on                   the turn of the loop
 -- Assumes nothing.
-use Rattle.std.proofs.Common.{ℕ, ◌+◌, ◌≤◌, ◌<◌, ◌≡◌, refl, sym, ap, ◌∙◌, Bool, true, false, cond, not, ◌&&◌, ◌||◌, List, [], ◌∷◌, ◌++◌, length, get_or}
+use Rattle.std.proofs.Common.{ℕ, ◌+◌, ◌<◌, ◌≡◌, refl, sym, ap, ◌∙◌, Bool, true, false, cond, not, ◌&&◌, ◌||◌, List, [], ◌∷◌, ◌++◌}
+use Rattle.std.proofs.Common.{length, get_or, take}
+use Rattle.std.proofs.lemmas.List.{take_more}
 use mathlib.Core.Bool.{or_assoc, or-false}
-use Rattle.text.specs.Scan.{part}
 use Rattle.chunk.specs.Format.{is_escapable, escaped}
 use Rattle.chunk.specs.Put.{Puts}
-use Rattle.text.proofs.general.Parts.{part_none, part-more}
-use Rattle.chunk.proofs.texts.Puts.{puts_none, puts-on, puts-as}
+use Rattle.chunk.proofs.texts.Puts.{puts-on, puts-as}
 
 pub in_a_row : (a b c d e f g h i j k v r : Bool) →
     (a || b || c || ((d || e || f || g || h || i || j) && not v) || (k && r))
@@ -39,17 +39,9 @@ escaped-append verb (b ∷ s) t =
     by true v w = refl
     by false v w = refl
 
--- ---- the loop
+-- ---- the loop over the octets xs
 
-module _ (verb : Bool) (t : List ℕ) (a : ℕ) where
-  pub escaped-start : (o : List ℕ) (n : ℕ) → Puts o n (escaped verb (part t a a)) n o
-  unfolding escaped
-  escaped-start o n = puts-as (sym (ap (escaped verb) (part_none t a))) (puts_none o n)
-
-  pub escaped-on : {o₀ o o' : List ℕ} {n i j r : ℕ} → a ≤ i → i < length t → Puts o₀ n (escaped verb (part t a i)) j o →
-      Puts o j (escaped verb (get_or t i 0 ∷ [])) r o' → Puts o₀ n (escaped verb (part t a (i + 1))) r o'
-  escaped-on {i = i} h l p q =
-      puts-as (sym (ap (escaped verb) (part-more t a i h l) ∙ escaped-append verb (part t a i) (get_or t i 0 ∷ []))) (puts-on p q)
-
-  pub escaped-all : {o₀ o : List ℕ} {e n i j : ℕ} → i ≡ e → Puts o₀ n (escaped verb (part t a i)) j o → Puts o₀ n (escaped verb (part t a e)) j o
-  escaped-all q p = puts-as (ap (λ (k : ℕ). escaped verb (part t a k)) q) p
+module _ (verb : Bool) (xs : List ℕ) where
+  pub escaped-on : {o₀ o o' : List ℕ} {n i j r : ℕ} → i < length xs → Puts o₀ n (escaped verb (take i xs)) j o →
+      Puts o j (escaped verb (get_or xs i 0 ∷ [])) r o' → Puts o₀ n (escaped verb (take (i + 1) xs)) r o'
+  escaped-on {i = i} l p q = puts-as (sym (ap (escaped verb) (take_more xs i 0 l) ∙ escaped-append verb (take i xs) (get_or xs i 0 ∷ []))) (puts-on p q)

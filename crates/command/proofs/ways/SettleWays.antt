@@ -1,10 +1,10 @@
 -- A chunk's text formatted in place: for src/settle.rt.
---     Moving, moving, moved, moved_all         `shift`: what is moved down, and what still stands behind it
+--     Moving, moved, stays_at                  `shift`: what is moved down, and what still stands behind it
 --     Lining, lining, runs, passes, blanks     the loop of `lines`: its invariant, where it begins, and its three turns
 --     finished, finished-white                 where the loop ends
 --     settle-normal, settle-verbatim           the two ways through `settle`
 -- Assumes nothing.
-use Rattle.std.proofs.Common.{ℕ, zero, suc, ◌+◌, ◌-◌, ◌≤◌, ◌<◌, min, arith, add-one, ◌≡◌, refl, sym, ap, ap₂, subst, ◌∙◌, Bool}
+use Rattle.std.proofs.Common.{ℕ, zero, suc, ◌+◌, ◌-◌, ◌≤◌, ◌<◌, min, arith, ◌≡◌, refl, sym, ap, ap₂, subst, ◌∙◌, Bool}
 use Rattle.std.proofs.Common.{true, false, List, [], ◌∷◌, ◌++◌, append_assoc, append-nil, length}
 use Rattle.std.proofs.Common.{get_or, take, drop, set, length-set, take-suc-set, drop-set-lt, get_or-drop, drop-drop}
 use Rattle.text.specs.Scan.{part}
@@ -29,53 +29,40 @@ drop_more o o₀ i k h d = ap (λ (n : ℕ). drop n o) (sum i k h) ∙ sym (drop
 
 -- ---- `shift`
 
--- of the bytes from a on, those before i are moved down to `at`
+-- of the bytes from a on, the first k are moved down to `at`
 
-pub record Moving (o₀ : List ℕ) (a at : ℕ) (o : List ℕ) (i j : ℕ) : Type 0 where
-  pub text : take j o ≡ take at o₀ ++ part o₀ a i
-  pub rest : drop i o ≡ drop i o₀
+pub record Moving (o₀ : List ℕ) (a at : ℕ) (o : List ℕ) (k : ℕ) : Type 0 where
+  pub text : take (at + k) o ≡ take at o₀ ++ part o₀ a (a + k)
+  pub rest : drop (a + k) o ≡ drop (a + k) o₀
   pub long : length o ≡ length o₀
-  pub step : j + a ≡ at + i
-  pub first : a ≤ i
 
-pub moving : (o : List ℕ) (a at : ℕ) → Moving o a at o a at
-moving o a at = record {
-  text = sym (ap (λ (t : List ℕ). take at o ++ t) (part_none o a) ∙ append-nil (take at o));
-  rest = refl;
-  long = refl;
-  step = refl;
-  first = omega arith;
-}
-
-pub moved : (o₀ : List ℕ) (a at : ℕ) (o : List ℕ) (i j : ℕ) → Moving o₀ a at o i j → at ≤ a → i < length o₀
-    → Moving o₀ a at (set o j (get_or o i 0)) (i + 1) (j + 1)
-moved o₀ a at o i j g h l = record {
-  text = ap (λ (n : ℕ). take n (set o j (get_or o i 0))) (add-one j) ∙ take-suc-set o j (get_or o i 0) (omega (arith, g.step, g.long, h, l))
-      ∙ ap (λ (t : List ℕ). t ++ (get_or o i 0 ∷ [])) g.text
-      ∙ append_assoc (take at o₀) (part o₀ a i) (get_or o i 0 ∷ []) ∙ ap (λ (b : ℕ). take at o₀ ++ (part o₀ a i ++ (b ∷ []))) byte
-      ∙ ap (λ (t : List ℕ). take at o₀ ++ t) (sym (part-more o₀ a i g.first l));
-  rest = drop-set-lt (i + 1) o j (get_or o i 0) (omega (arith, g.step, h)) ∙ drop_more o o₀ i (i + 1) (omega arith) g.rest;
-  long = length-set o j (get_or o i 0) ∙ g.long;
-  step = omega (arith, g.step);
-  first = omega (arith, g.first);
-}
+pub moved : (o₀ : List ℕ) (a at : ℕ) (o : List ℕ) (k : ℕ) → Moving o₀ a at o k → at ≤ a → a + k < length o₀
+    → Moving o₀ a at (set o (at + k) (get_or o (a + k) 0)) (k + 1)
+moved o₀ a at o k g h l =
+    let b = get_or o (a + k) 0 in record {
+      text =
+          ap (λ (n : ℕ). take n (set o (at + k) b)) (sym (next at)) ∙ take-suc-set o (at + k) b (omega (arith, g.long, h, l))
+          ∙ ap (λ (t : List ℕ). t ++ (b ∷ [])) g.text
+          ∙ append_assoc (take at o₀) (part o₀ a (a + k)) (b ∷ []) ∙ ap (λ (c : ℕ). take at o₀ ++ (part o₀ a (a + k) ++ (c ∷ []))) byte
+          ∙ ap (λ (t : List ℕ). take at o₀ ++ t) (sym (part-more o₀ a (a + k) (omega arith) l) ∙ ap (part o₀ a) (sym (over a)));
+      rest = drop-set-lt (a + (k + 1)) o (at + k) b (omega (arith, h)) ∙ drop_more o o₀ (a + k) (a + (k + 1)) (omega arith) g.rest;
+      long = length-set o (at + k) b ∙ g.long;
+    }
   where
+    next : (i : ℕ) → suc (i + k) ≡ i + (k + 1)
+    next i = omega arith
+
+    over : (i : ℕ) → i + (k + 1) ≡ i + k + 1
+    over i = omega arith
+
     zeroed : (i : ℕ) → i ≡ i + 0
     zeroed i = omega arith
 
-    byte : get_or o i 0 ≡ get_or o₀ i 0
-    byte = ap (λ (n : ℕ). get_or o n 0) (zeroed i) ∙ sym (get_or-drop i o 0 0) ∙ ap (λ (t : List ℕ). get_or t 0 0) g.rest ∙ get_or-drop i o₀ 0 0
+    byte : get_or o (a + k) 0 ≡ get_or o₀ (a + k) 0
+    byte =
+        let i = a + k in
+        ap (λ (n : ℕ). get_or o n 0) (zeroed i) ∙ sym (get_or-drop i o 0 0) ∙ ap (λ (t : List ℕ). get_or t 0 0) g.rest ∙ get_or-drop i o₀ 0 0
         ∙ ap (λ (n : ℕ). get_or o₀ n 0) (sym (zeroed i))
-
-pub moved_all : (o₀ : List ℕ) (a e at : ℕ) (o : List ℕ) (i j : ℕ) → Moving o₀ a at o i j → i ≡ e → a ≤ e → e ≤ length o₀
-    → Lays at (part o₀ a e) o₀ j o × (drop e o ≡ drop e o₀)
-moved_all o₀ a e at o i j g q h l = (
-  record {
-    end = omega (arith, g.step, q, h, length_part o₀ a e h l);
-    text = g.text ∙ ap (λ (n : ℕ). take at o₀ ++ part o₀ a n) q;
-  },
-  ap (λ (n : ℕ). drop n o) (sym q) ∙ g.rest ∙ ap (λ (n : ℕ). drop n o₀) q,
-)
 
 pub stays_at : (o : List ℕ) (a e at : ℕ) → at ≡ a → a ≤ e → e ≤ length o → Lays at (part o a e) o e o
 stays_at o a e at q h l = subst (λ (n : ℕ). Lays n (part o a e) o e o) (sym q) (lays-still o a e h l)

@@ -1,14 +1,14 @@
 -- What is accepted: packable numbers and unpackable bytes.
 --     Packable, packable                what is known of packable numbers
 --     AllInSeven, packable-seven        seven bytes hold each row of packable numbers
---     seven-next                        where seven bytes hold each row, they hold the next row and the rows behind it
+--     first-seven                       where seven bytes hold each row, they hold the next row and the rows behind it
 --     Unpackable, unpackable            what is known of unpackable bytes
 --     spans_fit                         spans that lie in a file pass the test of packing
 --     ends-of-spans                     rows that pass the test of packing pass that of unpacking
 --     spans-of-ends                     rows that were unpacked, and pass the test of unpacking, pass that of packing
 --     flat-packable                     the numbers of rows that keep the rules, with spans of a file, are packable
 -- Assumes nothing.
-use Rattle.std.proofs.Common.{ℕ, ◌+◌, ◌%◌, ◌≤◌, arith, ◌≡◌, refl, true, ◌&&◌, List, [], ◌∷◌, length, drop, eqb, leb, leb-true, le-leb, eqb-true}
+use Rattle.std.proofs.Common.{ℕ, ◌%◌, ◌≤◌, arith, ◌≡◌, refl, true, ◌&&◌, List, [], ◌∷◌, length, eqb, leb, leb-true, le-leb, eqb-true}
 use Rattle.text.proofs.general.Tests.{both_true}
 use Rattle.text.specs.Every.{every}
 use Rattle.row.specs.Row.{Row, flat}
@@ -17,7 +17,6 @@ use Rattle.row.specs.Limits.{most_bytes}
 use Rattle.row.specs.Rules.{is_rows}
 use Rattle.row.specs.Numbers.{rows_of, are_rows}
 use Rattle.row.proofs.Laid.{laid}
-use Rattle.row.specs.Laid.{row_at}
 use Rattle.row.specs.Ruled.{AllSmall}
 use Rattle.row.proofs.Ruled.{ruled}
 use Rattle.pack.specs.Seven.{unpack_row, unpacking, end_fits, span_fits, InSeven}
@@ -55,9 +54,9 @@ all-seven (r ∷ rs) a e =
 pub packable-seven : (l : List ℕ) → Packable l → AllInSeven (rows_of l)
 packable-seven l p = all-seven (rows_of l) (ruled.rules-small (rows_of l) p.rules) p.spans
 
-pub seven-next : (l : List ℕ) (i : ℕ) → i + 4 ≤ length l → AllInSeven (rows_of (drop i l)) → InSeven (row_at l i) × AllInSeven (rows_of (drop (i + 4) l))
+pub first-seven : {r : Row} {ss rs : List Row} → rs ≡ r ∷ ss → AllInSeven rs → InSeven r × AllInSeven ss
 unfolding AllInSeven
-seven-next l i h a = rw (laid.rows_next l i h) at a
+first-seven e a = rw e at a
 
 -- ---- unpackable bytes
 

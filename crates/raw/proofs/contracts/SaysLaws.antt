@@ -10,15 +10,13 @@
 --     turn-of, turn_at, turn-done, turn-again, turn-off, turn-exit, turn_more, turn-then
 --                               these laws for one turn of a loop
 -- Assumes nothing.
-use Rattle.std.proofs.Common.{Result, Ok, Err, IsErrAnd, ℕ, suc, ◌+◌, ◌≡◌, refl, sym, ap, ◌∙◌, subst, List, [], ◌∷◌, ◌++◌, arith, add-one, length, length-append}
+use Rattle.std.proofs.Common.{Result, Ok, Err, Continue, Break, IsErrAnd, ℕ, suc, ◌+◌, ◌≡◌, refl, sym, ap, ◌∙◌, subst, List, [], ◌∷◌, ◌++◌, arith, add-one, length, length-append}
 use Rattle.std.proofs.lemmas.Result.{err_from_is_err_and}
-use Rattle.raw.specs.declared.answer.Turn.{Turn}
 use Rattle.row.specs.declared.form.Kind.{Kind}
 use Rattle.row.specs.declared.fault.Fault.{Fault}
-use Rattle.raw.specs.declared.answer.Turn.TheVariants as turn
 use Rattle.row.specs.Row.{Row, row, row_up, moved, put_row, overlay}
 use Rattle.raw.specs.Reader.{Out, ok, again, bad, more, and_then, under}
-use Rattle.raw.specs.Says.{answer_of, turn_of, RowsLaid, Says, SaysTurn}
+use Rattle.raw.specs.Says.{answer_of, Turn, turn_of, RowsLaid, Says, SaysTurn}
 use Rattle.text.proofs.general.Answers.{ok_pair_parts}
 use Rattle.row.proofs.Laid.{laid}
 
@@ -36,8 +34,8 @@ module _ (base : ℕ) (rs : List Row) (n : ℕ) where
   answer-more (bad f) = refl
 
   turned_more : (o : Out) → turn_of o (n + length rs) ≡ turn_of (more rs o) n
-  turned_more (ok q ss) = ap (λ (n' : ℕ). Ok (turn.Done q n')) (omega (arith, length-append rs ss))
-  turned_more (again q ss a) = ap (λ (n' : ℕ). Ok (turn.Again q n')) (omega (arith, length-append rs ss))
+  turned_more (ok q ss) = ap (λ (n' : ℕ). Ok (Break (q, n'))) (omega (arith, length-append rs ss))
+  turned_more (again q ss a) = ap (λ (n' : ℕ). Ok (Continue (q, n'))) (omega (arith, length-append rs ss))
   turned_more (bad f) = refl
 
   over-more : (ss : List Row) (b : List ℕ) →
@@ -133,13 +131,13 @@ module _ {base n : ℕ} {b : List ℕ} {o : Out} {p : ℕ} where
   unfolding overlay moved
   says_on e = says_of e (record { told = ap (λ (n' : ℕ). Ok (p, n')) (omega arith); rows = refl })
 
-  pub turn-done : o ≡ ok p [] → SaysTurn base o n b (Ok (turn.Done p n)) b
+  pub turn-done : o ≡ ok p [] → SaysTurn base o n b (Ok (Break (p, n))) b
   unfolding overlay moved
-  turn-done e = turn-of e (record { told = ap (λ (n' : ℕ). Ok (turn.Done p n')) (omega arith); rows = refl })
+  turn-done e = turn-of e (record { told = ap (λ (n' : ℕ). Ok (Break (p, n'))) (omega arith); rows = refl })
 
-  pub turn-again : {a : ℕ} → o ≡ again p [] a → SaysTurn base o n b (Ok (turn.Again p n)) b
+  pub turn-again : {a : ℕ} → o ≡ again p [] a → SaysTurn base o n b (Ok (Continue (p, n))) b
   unfolding overlay moved
-  turn-again e = turn-of e (record { told = ap (λ (n' : ℕ). Ok (turn.Again p n')) (omega arith); rows = refl })
+  turn-again e = turn-of e (record { told = ap (λ (n' : ℕ). Ok (Continue (p, n'))) (omega arith); rows = refl })
 
 -- ---- one reader after another
 

@@ -5,8 +5,8 @@
 --     element-off, turn_last, turn-hash            `abbr_turn`: the element is refused, is the last, or is followed by a hash sign
 --     turn-comma, turn-joined                      a comma or a hash sign stands right behind the element
 -- Assumes nothing.
-use Rattle.std.proofs.Common.{Ok, Err, ℕ, ◌+◌, ◌≤◌, ◌<◌, ◌≡◌, refl, sym, ap, ◌∙◌, subst, Bool, true, false, List, [], arith, length, get_or, ltb, eq-eqb, ne_eqb, ltb-true}
-use Rattle.std.proofs.Common.{ltb-false}
+use Rattle.std.proofs.Common.{Ok, Err, Continue, Break, ℕ, ◌+◌, ◌≤◌, ◌<◌, ◌≡◌, refl, sym, ap, ◌∙◌, subst, Bool, true, false, List, [], arith, length, get_or, ltb, eq-eqb, ne_eqb}
+use Rattle.std.proofs.Common.{ltb-true, ltb-false}
 use Rattle.text.specs.Class.{is_whitespace, white_space, is_id_start, holds_of}
 use Rattle.text.specs.Scan.{see, skip, past_one}
 use Rattle.text.specs.declared.class.Test.TheVariants as test
@@ -14,7 +14,6 @@ use Rattle.row.specs.declared.form.Kind.TheVariants as kind
 use Rattle.row.specs.declared.fault.Fault.{Fault}
 use Rattle.row.specs.declared.fault.Reason.TheVariants.{UnexpectedEof}
 use Rattle.row.specs.Fault.{fault_at}
-use Rattle.raw.specs.declared.answer.Turn.TheVariants as turned
 use Rattle.row.specs.Row.{plain, row}
 use Rattle.raw.specs.Reader.{Out, ok, again, bad, under, after, many, sees, turn, refuse, over, ◌then◌}
 use Rattle.raw.specs.Inner.{Undelimited}
@@ -106,22 +105,22 @@ module _ (s : List ℕ) (i : ℕ) {base n : ℕ} {b b' : List ℕ} where
 
   module _ {p m : ℕ} (h : Says base (abbr_element s i) n b (Ok (p, m)) b') {p₂ p₃ : ℕ} (w : p₂ ≡ skip is_whitespace s p)
       (e : p₃ ≡ past_one (holds_of test.Hash) p₂ (see s p₂)) where
-    pub turn_last : p₃ ≡ p₂ → SaysTurn base (abbr_turn 0 s i) n b (Ok (turned.Done p₂ m)) b'
+    pub turn_last : p₃ ≡ p₂ → SaysTurn base (abbr_turn 0 s i) n b (Ok (Break (p₂, m))) b'
     unfolding abbr_turn
     turn_last k = turn-then _ h (turn-of (then-on _ (white-on s p w)) (turn-done (eaten-off (holds_of test.Hash) s p₂ ((white then turn 0) s) (ok p₂ []) e k)))
 
-    pub turn-hash : {p₄ : ℕ} → (p₃ ≡ p₂ → ⊥) → p₄ ≡ skip is_whitespace s p₃ → SaysTurn base (abbr_turn 0 s i) n b (Ok (turned.Again p₄ m)) b'
+    pub turn-hash : {p₄ : ℕ} → (p₃ ≡ p₂ → ⊥) → p₄ ≡ skip is_whitespace s p₃ → SaysTurn base (abbr_turn 0 s i) n b (Ok (Continue (p₄, m))) b'
     unfolding abbr_turn
     turn-hash k v =
         turn-then _ h (turn-of (then-on _ (white-on s p w) ∙ eaten-on (holds_of test.Hash) s p₂ ((white then turn 0) s) (ok p₂ []) e k) (turn-again (then-on _ (white-on s p₃ v))))
 
   module _ {p m : ℕ} (h : Says base (abbr_element s i) n b (Ok (p, m)) b') (l : p < length s) where
-    pub turn-comma : get_or s p 0 ≡ 0x2C → SaysTurn base (abbr_turn 0 s i) n b (Ok (turned.Done p m)) b'
+    pub turn-comma : get_or s p 0 ≡ 0x2C → SaysTurn base (abbr_turn 0 s i) n b (Ok (Break (p, m))) b'
     unfolding is_whitespace holds_of white_space
     turn-comma e =
         turn_last h (no-white s p 0x2C l e (omega arith) refl) (past-byte s p 0x2C l e (omega arith) (holds_of test.Hash)) refl
 
-    pub turn-joined : {q : ℕ} → get_or s p 0 ≡ 0x23 → q ≡ skip is_whitespace s (p + 1) → SaysTurn base (abbr_turn 0 s i) n b (Ok (turned.Again q m)) b'
+    pub turn-joined : {q : ℕ} → get_or s p 0 ≡ 0x23 → q ≡ skip is_whitespace s (p + 1) → SaysTurn base (abbr_turn 0 s i) n b (Ok (Continue (q, m))) b'
     unfolding is_whitespace holds_of white_space
     turn-joined e v =
         turn-hash h (no-white s p 0x23 l e (omega arith) refl) (past-byte s p 0x23 l e (omega arith) (holds_of test.Hash)) (λ z. omega arith) v

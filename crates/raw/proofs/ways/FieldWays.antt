@@ -9,7 +9,6 @@
 --     fields-off, fields-on                        and the field is refused, or read
 -- Assumes nothing.
 use Rattle.std.proofs.Common.{Result, Ok, Err, ℕ, ◌+◌, ◌*◌, ◌≤◌, ◌<◌, ◌≡◌, refl, ap, ◌∙◌, List, [], arith, max, length, get_or, eq-eqb, ne_eqb}
-use Rattle.raw.specs.declared.answer.Turn.{Turn}
 use Rattle.text.specs.Class.{is_whitespace, white_space, holds_of}
 use Rattle.text.specs.Scan.{see, skip, Ahead}
 use Rattle.text.proofs.Seeing.{seeing}
@@ -20,7 +19,7 @@ use Rattle.row.specs.Fault.{fault_at}
 use Rattle.row.specs.Row.{row, put_row}
 use Rattle.raw.specs.Reader.{Out, ok, again, bad, under, eaten, sees, stop, turn, refuse, ◌then◌}
 use Rattle.raw.specs.Grammar.{is, any, white, comma, ident, equals, abbr_field, comment, field, field_end, fields_turn}
-use Rattle.raw.specs.Says.{step_of, Within, Says, SaysTurn}
+use Rattle.raw.specs.Says.{step_of, Within, Turn, Says, SaysTurn}
 use Rattle.raw.proofs.grammar.Rowless.{rowless-at, rowless-off, ident-rowless, equals-rowless}
 use Rattle.raw.proofs.readers.Then.{then-on, then-off}
 use Rattle.raw.proofs.ways.OneCharacter.{byte-end, byte-on, byte-off}

@@ -1,7 +1,7 @@
 -- The checks of src/lent.rt.
---     span-pass, span-not, span-end        `every_span`: one row more, and the end
+--     every-pass, every-not, every-end     a test of each row: one row more, and the end
 --     text-not, text-inside, text-there    `is_text`
---     month-pass, month-not, month-end, count-not, count-whole      `are_months`
+--     count-not, count-whole               `are_months`
 --     value_none, value_there              `is_value`
 --     lent-told                            `are_lent`
 -- Assumes nothing.
@@ -9,11 +9,12 @@ use Rattle.text.specs.declared.utf8.IllFormed.{IllFormed}
 use Rattle.std.specs.Prelude.{Ok, Err, Result, ⊤, is_ok}
 use Rattle.row.specs.declared.fault.Reason.{Reason}
 use Rattle.row.specs.declared.fault.Reason.TheVariants.{BadRows}
-use Prim.Native.Nat.{ℕ, ◌+◌, ◌-◌, ◌*◌, ◌/◌, ◌%◌, ◌≤◌, ◌<◌}
+use Prim.Native.Nat.{ℕ, ◌-◌, ◌*◌, ◌/◌, ◌%◌, ◌≤◌, ◌<◌}
 use native.Mathlib.Omega.{arith}
-use mathlib.Core.Path.{◌≡◌, refl, sym, ◌∙◌}
+use mathlib.Core.Path.{◌≡◌, refl}
 use mathlib.Core.Bool.{Bool, true, false, cond, ◌&&◌, ◌||◌, and-false}
-use mathlib.Core.List.{List}
+use mathlib.Core.List.{List, [], ◌∷◌}
+use Rattle.row.specs.Row.{Row}
 use lib.ListN.{length, get_or, take, drop, drop_of_length-le}
 use lib.Dec.{eqb, ltb}
 use borrow.Author.Tests.{ltb-true, ltb-false, lt-leb, le-leb, eq-eqb, ne_eqb}
@@ -21,26 +22,24 @@ use Rattle.text.specs.Utf8.{validity_of}
 use Rattle.text.proofs.general.Places.{part-clamped}
 use Rattle.text.specs.Every.{every}
 use Rattle.row.specs.Numbers.{rows_of, are_rows, check_of}
-use Rattle.row.specs.Laid.{row_at}
 use Rattle.row.proofs.Laid.{laid}
-use Rattle.resolve.specs.OneLiteral.{is_span}
-use Rattle.resolve.specs.Checks.{every_span, is_value, is_valid, is_text, is_month, every_month, are_months, are_lent}
+use Rattle.resolve.specs.Checks.{every_span, is_value, is_valid, is_text, every_month, are_months, are_lent}
 
--- ---- rows
+-- ---- a test of each row
 
-module _ (file rows : List ℕ) (i : ℕ) where
-  module _ (a e : ℕ) (p : a ≡ get_or rows (i + 2) 0) (q : e ≡ get_or rows (i + 3) 0) (h : i + 4 ≤ length rows) where
-    pub span-pass : is_span file a e ≡ true → every_span file (rows_of (drop i rows)) ≡ every_span file (rows_of (drop (i + 4) rows))
+module _ (t : Row → Bool) {l : List Row} where
+  module _ {r : Row} {rs : List Row} (e : l ≡ r ∷ rs) where
+    pub every-pass : t r ≡ true → every t l ≡ every t rs
     unfolding every
-    span-pass t = rw (laid.rows_next rows i h, ← p, ← q, t)
+    every-pass h = rw (e, h)
 
-    pub span-not : is_span file a e ≡ false → every_span file (rows_of (drop i rows)) ≡ false
+    pub every-not : t r ≡ false → every t l ≡ false
     unfolding every
-    span-not t = rw (laid.rows_next rows i h, ← p, ← q, t)
+    every-not h = rw (e, h)
 
-  pub span-end : length rows < i + 4 → every_span file (rows_of (drop i rows)) ≡ true
+  pub every-end : l ≡ [] → every t l ≡ true
   unfolding every
-  span-end h = rw (laid.rows_end rows i h)
+  every-end e = rw e
 
 -- ---- a month word, or its text
 
@@ -74,24 +73,6 @@ valid-told (Ok x) = refl
 valid-told (Err e) = refl
 
 -- ---- months
-
-module _ (months words : List ℕ) (i : ℕ) where
-  module _ (a e b f : ℕ) (p : a ≡ get_or months i 0) (q : e ≡ get_or months (i + 1) 0) (r : b ≡ get_or months (i + 2) 0) (s : f ≡ get_or months (i + 3) 0)
-      (v w : Bool) (x : v ≡ is_text words a e) (y : w ≡ is_text words b f) (h : i + 4 ≤ length months) where
-    whole : (v && w) ≡ is_month words (row_at months i)
-    whole = rw (x, y, p, q, r, s)
-
-    pub month-pass : (v && w) ≡ true → every_month words (rows_of (drop i months)) ≡ every_month words (rows_of (drop (i + 4) months))
-    unfolding every
-    month-pass t = rw (laid.rows_next months i h, sym whole ∙ t)
-
-    pub month-not : (v && w) ≡ false → every_month words (rows_of (drop i months)) ≡ false
-    unfolding every
-    month-not t = rw (laid.rows_next months i h, sym whole ∙ t)
-
-  pub month-end : length months ≤ i → every_month words (rows_of (drop i months)) ≡ true
-  unfolding every
-  month-end h = rw (laid.rows_end months i (omega arith))
 
 module _ (months words : List ℕ) where
   pub count-not : (length months % 4 ≡ 0 → ⊥) → false ≡ are_months months words

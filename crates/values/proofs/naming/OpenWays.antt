@@ -1,21 +1,21 @@
 -- Whether the use of a name is allowed.
---     path-hit, path-on, path-end           `on_path`: one definition more, and the end
+--     path-any                              `on_path` is the library's search of a list for an item
 --     limit-deep, limit-many, limit-none    `limits`
 --     open-cyclic, open-definition, open-month, open_unknown        `may_open`
---     has                                   what an option has, where what is in it is known
+--     has, none-of                          what an option has, where what is in it is known; and that it is empty
 -- Assumes nothing.
 use Rattle.std.specs.Prelude.{Option, Some, None, Result, Ok, Err, ⊤}
 use Rattle.row.specs.declared.fault.Reason.{Reason}
 use Rattle.values.specs.declared.elements.Meaning.{Meaning}
-use Prim.Native.Nat.{ℕ, zero, suc, ◌+◌, ◌≤◌, ◌<◌}
+use Prim.Native.Nat.{ℕ, zero, suc, ◌≤◌, ◌<◌}
 use native.Mathlib.Omega.{arith}
-use mathlib.Core.Path.{◌≡◌, refl, sym, ap, ◌∙◌}
+use mathlib.Core.Path.{◌≡◌, refl, ap, ◌∙◌}
 use mathlib.Core.Bool.{true, false}
-use mathlib.Core.List.{List, ◌∷◌}
-use lib.ListN.{length, get_or, take, drop, length-take, drop_of_length-le}
-use lib.Seq.{get_or-take}
-use borrow.Author.Tests.{eq-eqb, ne_eqb, lt-ltb, le-ltb}
-use Rattle.text.proofs.general.Places.{drop-next}
+use mathlib.Core.List.{List, [], ◌∷◌}
+use lib.Dec.{eqb}
+use borrow.Author.Tests.{lt-ltb, le-ltb}
+use Rattle.std.specs.List.{list_any}
+use Rattle.std.proofs.lemmas.Bool.Decides.{nat_tests}
 use Rattle.row.specs.declared.fault.Reason.TheVariants.{UnknownAbbreviation, Cyclic, TooDeep, TooManyNames}
 use Rattle.row.specs.Limits.{most_names}
 use Rattle.values.specs.declared.elements.Meaning.TheVariants as meaning
@@ -24,24 +24,13 @@ use Rattle.values.specs.Uses.{limits, allowed_of}
 
 -- ---- definitions that are being resolved
 
-module _ (path : List ℕ) (used i k : ℕ) where
-  module _ (h : used ≤ length path) (l : k < used) where
-    next : drop k (take used path) ≡ get_or path k 0 ∷ drop (k + 1) (take used path)
-    next =
-        drop-next (take used path) k (omega (arith, length-take used path))
-        ∙ ap (λ (j : ℕ). j ∷ drop (k + 1) (take used path)) (get_or-take used path k 0 l)
+same : (i j : ℕ) → eqb j i ≡ eqb i j
+same i j = search (arith, nat_tests)
 
-    pub path-hit : get_or path k 0 ≡ i → on_path i (drop k (take used path)) ≡ true
-    unfolding on_path
-    path-hit e = rw (next, eq-eqb i (get_or path k 0) (sym e))
-
-    pub path-on : (get_or path k 0 ≡ i → ⊥) → on_path i (drop k (take used path)) ≡ on_path i (drop (k + 1) (take used path))
-    unfolding on_path
-    path-on e = rw (next, ne_eqb i (get_or path k 0) (λ x. e (sym x)))
-
-  pub path-end : used ≤ k → on_path i (drop k (take used path)) ≡ false
-  unfolding on_path
-  path-end h = rw (drop_of_length-le (take used path) {i = k} (omega (arith, length-take used path)))
+pub path-any : (i : ℕ) (path : List ℕ) → list_any (λ j. eqb j i) path ≡ on_path i path
+unfolding on_path
+path-any i [] = refl
+path-any i (j ∷ path) = rw (same i j, path-any i path)
 
 -- ---- depth and number
 
@@ -75,3 +64,7 @@ module _ (m : Option Meaning) (path : List ℕ) (left names : ℕ) where
 -- what an option has, where what is in it is known
 pub has : {A : Type 0} {x : Option A} {a b : A} → x ≡ Some a → a ≡ b → x ≡ Some b
 has p q = p ∙ ap Some q
+
+pub none-of : {A : Type 0} (x : Option A) → ((a : A) → x ≡ Some a → ⊥) → x ≡ None
+none-of None h = refl
+none-of (Some a) h = absurd (h a refl)

@@ -1,5 +1,6 @@
 -- The elements of a value, row by row.
 --     element-end, element-literal, element-name, element-other      the ways through `element_at` of src/elements.rt
+--     only-one                                                       the way through `only_literal` at a literal alone
 --     ElementPlaced, placed, spans-from                              where an element stands
 --     from-none, from-literal                                        the elements from a row on
 --     value-end                                                      the way through `value` where no element is left
@@ -7,7 +8,7 @@
 --     ready-value-on                                                 what `value` requires holds further on
 -- Assumes nothing.
 use Rattle.values.specs.declared.resolver.Resolver.{Resolver}
-use Rattle.std.specs.Prelude.{Option, Some, None, Result, Ok, Err}
+use Rattle.std.specs.Prelude.{Option, Some, None, is_some, Result, Ok, Err}
 use Rattle.values.specs.declared.elements.Element.{Element}
 use Prim.Native.Nat.{ℕ, zero, suc, ◌+◌, ◌*◌, ◌/◌, ◌%◌, ◌≤◌, ◌<◌}
 use native.Mathlib.Omega.{arith}
@@ -18,7 +19,7 @@ use lib.ListN.{length, get_or, drop}
 use lib.Dec.{leb, ltb}
 use borrow.Author.Tests.{leb-true, leb-false, eq-eqb, ne_eqb}
 use Rattle.text.specs.Scan.{part}
-use Rattle.text.proofs.general.Tests.{both_true}
+use Rattle.text.proofs.general.Tests.{both_true, true-not-false}
 use Rattle.text.specs.Every.{every}
 use Rattle.text.proofs.general.Lists.{every_drop}
 use Rattle.row.specs.declared.fault.Fault.{Fault}
@@ -41,7 +42,7 @@ use Rattle.values.specs.declared.elements.Element.TheVariants as element
 use Rattle.values.specs.Field.{onward, walk, elements, Meaning, definition}
 use Rattle.values.specs.Field.{month, unknown, meaning_of, known, opened, at_use, elements_of, parse_field, name}
 use Rattle.values.specs.Field as field
-use Rattle.values.specs.Uses.{first_element, value_from, ReadyValue}
+use Rattle.values.specs.Uses.{first_element, only_of, value_from, ReadyValue}
 use Rattle.values.proofs.ways.RunWays.{says-end, says_on, says-stopped}
 
 -- ---- `element_at`
@@ -50,15 +51,22 @@ module _ (rows : List ℕ) (i : ℕ) where
   pub element-end : length rows < i + 4 → None ≡ first_element (rows_of (drop i rows))
   element-end h = rw (laid.rows_end rows i h)
 
-  module _ (h : i + 4 ≤ length rows) (a e : ℕ) (p : a ≡ get_or rows (i + 2) 0) (q : e ≡ get_or rows (i + 3) 0) where
-    pub element-literal : get_or rows i 0 ≡ 6 → Some (element.Literal a e) ≡ first_element (rows_of (drop i rows))
-    element-literal k = rw (laid.rows_next rows i h, eq-eqb (get_or rows i 0) 6 k, p, q)
+  module _ (h : i + 4 ≤ length rows) where
+    pub element-literal : get_or rows i 0 ≡ 6 → Some (element.Literal (get_or rows (i + 2) 0) (get_or rows (i + 3) 0)) ≡ first_element (rows_of (drop i rows))
+    element-literal k = rw (laid.rows_next rows i h, eq-eqb (get_or rows i 0) 6 k)
 
-    pub element-name : (get_or rows i 0 ≡ 6 → ⊥) → get_or rows i 0 ≡ 7 → Some (element.Name a e) ≡ first_element (rows_of (drop i rows))
-    element-name n k = rw (laid.rows_next rows i h, ne_eqb (get_or rows i 0) 6 n, eq-eqb (get_or rows i 0) 7 k, p, q)
+    pub element-name : (get_or rows i 0 ≡ 6 → ⊥) → get_or rows i 0 ≡ 7
+        → Some (element.Name (get_or rows (i + 2) 0) (get_or rows (i + 3) 0)) ≡ first_element (rows_of (drop i rows))
+    element-name n k = rw (laid.rows_next rows i h, ne_eqb (get_or rows i 0) 6 n, eq-eqb (get_or rows i 0) 7 k)
 
-  pub element-other : i + 4 ≤ length rows → (get_or rows i 0 ≡ 6 → ⊥) → (get_or rows i 0 ≡ 7 → ⊥) → None ≡ first_element (rows_of (drop i rows))
-  element-other h n m = rw (laid.rows_next rows i h, ne_eqb (get_or rows i 0) 6 n, ne_eqb (get_or rows i 0) 7 m)
+    pub element-other : (get_or rows i 0 ≡ 6 → ⊥) → (get_or rows i 0 ≡ 7 → ⊥) → None ≡ first_element (rows_of (drop i rows))
+    element-other n m = rw (laid.rows_next rows i h, ne_eqb (get_or rows i 0) 6 n, ne_eqb (get_or rows i 0) 7 m)
+
+-- ---- `only_literal`
+
+pub only-one : (v w : Option Element) (a e : ℕ) → v ≡ Some (element.Literal a e) → is_some w ≡ false → Some (a, e) ≡ only_of v w
+only-one v None a e p q = rw p
+only-one v (Some d) a e p q = true-not-false true refl q
 
 -- ---- where elements stand
 

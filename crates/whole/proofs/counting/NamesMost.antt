@@ -67,11 +67,11 @@ MonthsTo months i u = (j : ℕ) → j < i → TextMost (get_or months (j * 4 + 3
 pub months-start : (months : List ℕ) (u : Option Most) → MonthsTo months 0 u
 months-start months u j h = absurd (omega arith)
 
-pub months-on : (months : List ℕ) (i : ℕ) (a b r : Option Most) → MonthsTo months i a → (from to : ℕ) → from ≡ get_or months (i * 4 + 2) 0
-    → to ≡ get_or months (i * 4 + 3) 0 → TextMost (to - from) b → Either a b r → MonthsTo months (i + 1) r
-months-on months i a b r s from to p q t e =
+pub months-on : (months : List ℕ) (i : ℕ) (a b r : Option Most) → MonthsTo months i a
+    → TextMost (get_or months (i * 4 + 3) 0 - get_or months (i * 4 + 2) 0) b → Either a b r → MonthsTo months (i + 1) r
+months-on months i a b r s t e =
     below_more (λ (j : ℕ). TextMost (size j) r) i (λ j h. text-wider (size j) r a e.one (s j h))
-    (text-wider (size i) r b e.other (rw (p, q) at t))
+    (text-wider (size i) r b e.other t)
   where
     size : ℕ → ℕ
     size j = get_or months (j * 4 + 3) 0 - get_or months (j * 4 + 2) 0

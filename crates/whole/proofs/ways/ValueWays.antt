@@ -230,13 +230,12 @@ row_other l flags i t below n q b x q₀ b₀ x₀ o = record { vs = o.vs; so = 
 -- ---- the answer row
 
 module _ (t : Totals) (a : Result Chunks Fault) where
-  pub six-refused : (f : Fault) → a ≡ Err f → (n s e : ℕ) → n ≡ number_of f.reason → s ≡ f.start → e ≡ f.end
-      → (n ∷ 0 ∷ s ∷ e ∷ 0 ∷ 0 ∷ []) ≡ six_of t a
-  six-refused f k n s e hn hs he = rw (k, hn, hs, he)
+  pub six-refused : (f : Fault) → a ≡ Err f → (n : ℕ) → n ≡ number_of f.reason → (n ∷ 0 ∷ f.start ∷ f.end ∷ 0 ∷ 0 ∷ []) ≡ six_of t a
+  six-refused f k n hn = rw (k, hn)
 
-  pub six-chunks : (n m names : ℕ) → a ≡ Ok (record { rows = n; bytes = m; names = names }) → (k u v x y : ℕ) → k ≡ names → u ≡ t.rows → v ≡ t.rows + n → x ≡ t.bytes
-      → y ≡ t.bytes + m → (0 ∷ k ∷ u ∷ v ∷ x ∷ y ∷ []) ≡ six_of t a
-  six-chunks n m names e k u v x y hk hu hv hx hy = rw (e, hk, hu, hv, hx, hy)
+  pub six-chunks : (n m names : ℕ) → a ≡ Ok (record { rows = n; bytes = m; names = names })
+      → (0 ∷ names ∷ t.rows ∷ (t.rows + n) ∷ t.bytes ∷ (t.bytes + m) ∷ []) ≡ six_of t a
+  six-chunks n m names e = rw e
 
 -- ---- the rows in lent numbers
 

@@ -1,6 +1,5 @@
 -- `chunk::biblatex::write_all` meets its contract. Assumes nothing.
 use Rattle.std.proofs.Common.{arith, refl, ◌∙◌}
-use Rattle.chunk.proofs.rows.RowCheck.{five}
 use Rattle.chunk.proofs.passes.Passes.{row_here}
 use Rattle.chunk.proofs.passes.PassTurns as laws
 use Rattle.chunk.proofs.biblatex.write_all.Goals as goal
@@ -10,9 +9,6 @@ loop-i-init c =
     let a = c.args in
     (laws.write-start a.verb a.t.now a.rows.now _ c.put-at.result c.requires.0, omega (arith, c.put-at.ensures.value))
 
-pub row_at-row-requires : goal.row_at-row-requires
-row_at-row-requires c = five c.loop-i.invariant.0.checks c.loop-i-test.true
-
 pub put_body-at-requires : goal.put_body-at-requires
 put_body-at-requires c =
     let p = c.requires in
@@ -20,11 +16,6 @@ put_body-at-requires c =
     let row = c.row_at-row.ensures in
     let fit = row_here g.0.checks p.0 c.loop-i-test.true row in
     (fit.0, fit.1, omega (arith, row.small, g.1, p.1, c.put_opening-next.ensures.upper_bound))
-
-pub shape_of-out-then-room-at : goal.shape_of-out-then-room-at
-shape_of-out-then-room-at c =
-    let before = c.put_opening-next.auto.out ∙ (c.loop-i.invariant.0.long ∙ c.put-at.auto.out) in
-    c.put_body-at.auto.out ∙ before
 
 pub returns-then-room-at : goal.returns-then-room-at
 returns-then-room-at c =

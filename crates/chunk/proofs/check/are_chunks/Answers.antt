@@ -9,19 +9,16 @@ returns-then-rows-ne0 c = let a = c.args in laws.check-count a.t.now a.rows.now 
 pub loop-i-init : goal.loop-i-init
 loop-i-init c = let a = c.args in laws.checking a.t.now a.rows.now c.if-rows-ne0.false
 
-pub row_at-row-requires : goal.row_at-row-requires
-row_at-row-requires c = laws.five c.loop-i.invariant c.loop-i-test.true
-
 pub loop-i-preserved : goal.loop-i-preserved
 loop-i-preserved c =
     let a = c.args in
-    let e = laws.told a.t.now a.rows.now c.row_at-row.ensures (sym c.is_chunk.ensures ∙ c.if-is_chunk.true) in
+    let e = laws.told a.t.now a.rows.now c.row_at-row.ensures (sym c.is_chunk.ensures ∙ c.if-not-is_chunk.false) in
     laws.check-turn c.loop-i.invariant c.loop-i-test.true e
 
-pub returns-else-is_chunk : goal.returns-else-is_chunk
-returns-else-is_chunk c =
+pub returns-then-not-is_chunk : goal.returns-then-not-is_chunk
+returns-then-not-is_chunk c =
     let a = c.args in
-    let e = laws.told a.t.now a.rows.now c.row_at-row.ensures (sym c.is_chunk.ensures ∙ c.if-is_chunk.false) in
+    let e = laws.told a.t.now a.rows.now c.row_at-row.ensures (sym c.is_chunk.ensures ∙ c.if-not-is_chunk.true) in
     laws.check-stop c.loop-i.invariant c.loop-i-test.true e
 
 pub returns : goal.returns

@@ -5,7 +5,4 @@ use Rattle.chunk.specs.Format.{last_at}
 use Rattle.chunk.proofs.ending.last_at.Given as goal
 
 abbrev pub invariant-loop-i : goal.invariant-loop-i
-invariant-loop-i l = (l.from ≤ l.i) × (l.i ≤ l.to) × (last_at (part l.t l.from l.i) ≡ last_at (part l.t l.from l.to))
-
-abbrev pub decreases-loop-i : goal.decreases-loop-i
-decreases-loop-i l = l.i
+invariant-loop-i l = (l.from ≤ l.i) × (last_at (part l.t l.from l.i) ≡ last_at (part l.t l.from l.to))

@@ -1,10 +1,10 @@
 -- `chunk::ending::line_end` meets its contract. Assumes nothing.
-use Rattle.std.proofs.Common.{◌<◌, arith, sym, ◌∙◌, length, length-take-le}
+use Rattle.std.proofs.Common.{ℕ, ◌<◌, arith, ◌≡◌, refl, sym, ap, subst, ◌∙◌, true, length}
+use Rattle.text.specs.Scan.{part}
+use Rattle.chunk.specs.Format.{is_line_end}
+use Rattle.chunk.specs.Inner.{plain}
 use Rattle.chunk.proofs.texts.LineEnds as laws
 use Rattle.chunk.proofs.ending.line_end.Goals as goal
-
-pub slice_bounds-past_lines-end : goal.slice_bounds-past_lines-end
-slice_bounds-past_lines-end c = sym (length-take-le c.args.to c.args.t.now c.requires.1)
 
 pub loop-i-init : goal.loop-i-init
 loop-i-init c =
@@ -15,7 +15,7 @@ pub returns-then-is_line_end : goal.returns-then-is_line_end
 returns-then-is_line_end c =
     let a = c.args in
     let b = c.loop-i in
-    let end = sym c.is_line_end.ensures ∙ c.if-is_line_end.true in
+    let end = sym (c.is_line_end.ensures ∙ ap is_line_end c.from.ensures) ∙ c.if-is_line_end.true in
     (b.invariant.2, laws.stops_at a.t.now b.i a.to c.loop-i-test.true c.requires.1 end, b.invariant.0, b.invariant.1)
 
 pub loop-i-preserved : goal.loop-i-preserved
@@ -24,11 +24,12 @@ loop-i-preserved c =
     let b = c.loop-i in
     let l = c.loop-i-test.true in
     let h : b.i < length a.t.now = omega (arith, l, c.requires.1) in
-    let other = sym c.is_line_end.ensures ∙ c.if-is_line_end.false in
+    let other = sym (c.is_line_end.ensures ∙ ap is_line_end c.from.ensures) ∙ c.if-is_line_end.false in
     (omega (arith, b.invariant.0), omega (arith, l), laws.plain-on a.t.now a.from b.i b.invariant.0 h b.invariant.2 other)
 
 pub returns : goal.returns
 returns c =
     let a = c.args in
     let b = c.loop-i in
-    (b.invariant.2, laws.stops_end a.t.now b.i a.to (omega (arith, c.loop-i-test.false, b.invariant.1)), b.invariant.0, b.invariant.1)
+    let i : b.i ≡ a.to = omega (arith, c.loop-i-test.false, b.invariant.1) in
+    (subst (λ (k : ℕ). plain (part a.t.now a.from k) ≡ true) i b.invariant.2, laws.stops_end a.t.now a.to a.to refl, c.requires.0, omega arith)

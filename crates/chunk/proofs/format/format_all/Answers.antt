@@ -1,6 +1,5 @@
 -- `chunk::format::format_all` meets its contract. Assumes nothing.
 use Rattle.std.proofs.Common.{arith}
-use Rattle.chunk.proofs.rows.RowCheck.{five}
 use Rattle.chunk.proofs.passes.Passes.{row_here}
 use Rattle.chunk.proofs.passes.PassTurns as laws
 use Rattle.chunk.proofs.format.format_all.Goals as goal
@@ -9,9 +8,6 @@ pub loop-i-init : goal.loop-i-init
 loop-i-init c =
     let a = c.args in
     (laws.format-start a.t.now a.rows.now a.out.now c.requires.0, omega arith)
-
-pub row_at-row-requires : goal.row_at-row-requires
-row_at-row-requires c = five c.loop-i.invariant.0.checks c.loop-i-test.true
 
 pub format_one-next-requires : goal.format_one-next-requires
 format_one-next-requires c =

@@ -1,6 +1,5 @@
 -- `chunk::format::surely_fits` meets its contract. Assumes nothing.
-use Rattle.std.proofs.Common.{◌-◌, arith}
-use Rattle.chunk.proofs.rows.RowCheck.{five}
+use Rattle.std.proofs.Common.{arith}
 use Rattle.chunk.proofs.passes.Passes.{row_here}
 use Rattle.chunk.proofs.passes.Bounds as laws
 use Rattle.chunk.proofs.format.surely_fits.Goals as goal
@@ -10,28 +9,10 @@ loop-i-init c =
     let p = c.requires.0 in
     (laws.fit-start c.args.times p.0 c.args.rows.now p.1, omega arith)
 
-pub row_at-row-requires : goal.row_at-row-requires
-row_at-row-requires c = five c.loop-i.invariant.0.checks c.loop-i-test.true
-
 pub overflow_sub-n : goal.overflow_sub-n
 overflow_sub-n c =
     let g = c.loop-i.invariant.0 in
     (row_here g.checks g.chunks c.loop-i-test.true c.row_at-row.ensures).0
-
-pub overflow_mul-n : goal.overflow_mul-n
-overflow_mul-n c = record {
-  fits = omega (arith, laws.times-small c.args.times (c.row_at-row.result.to - c.row_at-row.result.from) c.requires.2 (omega (arith, c.row_at-row.ensures.small)));
-}
-
-pub overflow_add-n : goal.overflow_add-n
-overflow_add-n c = record {
-  fits = omega (arith, laws.times-small c.args.times (c.row_at-row.result.to - c.row_at-row.result.from) c.requires.2 (omega (arith, c.row_at-row.ensures.small)));
-}
-
-pub overflow_add-n-in-loop-i : goal.overflow_add-n-in-loop-i
-overflow_add-n-in-loop-i c =
-    let small = laws.times-small c.args.times (c.row_at-row.result.to - c.row_at-row.result.from) c.requires.2 (omega (arith, c.row_at-row.ensures.small)) in
-    record { fits = omega (arith, small, c.loop-i.invariant.1, c.requires.1) }
 
 pub returns-then-room-n : goal.returns-then-room-n
 returns-then-room-n c = laws.fit-stop (laws.fit-turn c.loop-i.invariant.0 c.loop-i-test.true c.row_at-row.ensures) c.if-room-n.true

@@ -1,13 +1,9 @@
 -- The invariants of `chunk::sentence::put_lowered`.
-use Rattle.std.proofs.Common.{◌+◌, ◌-◌, ◌≤◌, ◌≡◌, false, map, length}
+use Rattle.std.proofs.Common.{◌+◌, ◌≡◌, false, map}
 use lib.Seq.{sets}
 use Rattle.text.specs.Scan.{part}
 use Rattle.casing.specs.Casing.{ascii_cased}
 use Rattle.chunk.proofs.sentence.put_lowered.Given as goal
 
 abbrev pub invariant-loop-k : goal.invariant-loop-k
-invariant-loop-k l = (l.k ≤ l.fitting) × (l.fitting ≤ l.to - l.from) × (l.at + l.fitting ≤ length l.initial.out) × (length l.out ≡ length l.initial.out) ×
-    (l.out ≡ sets l.initial.out l.at (map (ascii_cased false) (part l.t l.from (l.from + l.k))))
-
-abbrev pub decreases-loop-k : goal.decreases-loop-k
-decreases-loop-k l = l.fitting - l.k
+invariant-loop-k l = l.out ≡ sets l.initial.out l.at (map (ascii_cased false) (part l.t l.from (l.from + l.k)))

@@ -1,7 +1,5 @@
 -- `pack::packing::is_packable` meets its contract: each turn of the loop judges a row. Assumes nothing.
-use Rattle.std.proofs.Common.{◌*◌, arith}
-use Rattle.row.proofs.Laid.{laid}
-use Rattle.pack.proofs.loops.Chunks.{row_in, chunk-next, outside-off, inside-on}
+use Rattle.pack.proofs.loops.Chunks.{row_in, chunk-next, chunk_end, outside-off, inside-on}
 use Rattle.pack.proofs.loops.Judging.{judge-row, judge-off, judge-end, four-count, four-start}
 use Rattle.pack.proofs.packing.is_packable.Goals as goal
 
@@ -14,19 +12,16 @@ loop-kind-init c = four-start c.args.rows.now c.if-rows-ne0.false c.first-masks.
 pub returns-then-end-start : goal.returns-then-end-start
 returns-then-end-start c =
     let l = c.loop-kind in
-    let all = c.as_chunks in
-    let e = chunk-next c.args.rows.now all.result.0.now all.ensures.front l.kind-index (omega (arith, all.ensures.front_len, c.loop-kind-test.true)) in
-    judge-off l.invariant e (outside-off (row_in all.result.0.now l.kind-index) c.if-end-start.true)
+    let e = chunk-next c.args.rows.now c.as_chunks.ensures.front l.kind-index c.loop-kind-test.true in
+    judge-off l.invariant e (outside-off (row_in c.as_chunks.result.0.now l.kind-index) c.if-end-start.true)
 
 pub loop-kind-preserved : goal.loop-kind-preserved
 loop-kind-preserved c =
     let l = c.loop-kind in
-    let all = c.as_chunks in
-    let e = chunk-next c.args.rows.now all.result.0.now all.ensures.front l.kind-index (omega (arith, all.ensures.front_len, c.loop-kind-test.true)) in
-    judge-row l.invariant e c.step-masks.ensures (inside-on (row_in all.result.0.now l.kind-index) c.if-end-start.false)
+    let e = chunk-next c.args.rows.now c.as_chunks.ensures.front l.kind-index c.loop-kind-test.true in
+    judge-row l.invariant e c.step-masks.ensures (inside-on (row_in c.as_chunks.result.0.now l.kind-index) c.if-end-start.false)
 
 pub returns : goal.returns
 returns c =
     let l = c.loop-kind in
-    judge-end l.invariant (laid.rows_end c.args.rows.now (l.kind-index * 4) (omega (arith, c.as_chunks.ensures.front_len, c.loop-kind-test.false)))
-    c.is_whole.ensures
+    judge-end l.invariant (chunk_end c.args.rows.now c.as_chunks.ensures.front l.kind-index c.loop-kind-test.false) c.is_whole.ensures

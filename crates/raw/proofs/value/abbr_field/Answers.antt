@@ -1,39 +1,17 @@
--- `raw::value::abbr_field` meets its contract: each turn of the loop is one of `many`. Assumes nothing.
-use Rattle.std.proofs.Common.{◌+◌, ◌≤◌, refl, ap, rules, length, arith}
+-- `raw::value::abbr_field` meets its contract: its elements are a loop of turns. Assumes nothing.
+use Rattle.std.proofs.Common.{ap}
 use Rattle.row.specs.declared.form.Kind.TheVariants as kind
 use Rattle.row.specs.Row.{row}
 use Rattle.raw.specs.Reader.{under}
 use Rattle.raw.specs.Grammar.{abbr_turn, abbr_field}
-use Rattle.raw.proofs.contracts.SaysLaws.{says-exit, says-under}
-use Rattle.raw.proofs.contracts.LoopSays.{leads, loop-on, loop-done, loop-off}
+use Rattle.raw.proofs.contracts.SaysLaws.{said-off, says-exit, says-under}
 use Rattle.raw.proofs.value.abbr_field.Goals as goal
 
-pub loop-q-init : goal.loop-q-init
-loop-q-init c = let a = c.args in record { from = search rules; to = search rules; few = search rules; leads = leads abbr_turn a.s.now a.base a.at (a.n + 1) a.rows.now }
-
-pub loop-q-preserved : goal.loop-q-preserved
-unfolding abbr_turn
-loop-q-preserved c =
-    let l = c.loop-q in
-    let told = rw c.in-Again.is at c.in_ok-q.ensures in
-    let place = told.within in
-    let to : c.in-Again.q ≤ length c.args.s.now = omega arith in record {
-      from = omega arith;
-      to = to;
-      few = omega arith;
-      leads = loop-on abbr_turn c.args.s.now l.p (λ a s p. refl) l.invariant.leads (omega arith) to told.says;
-    }
-
 pub returns-in_err-q-clause-says : goal.returns-in_err-q-clause-says
-unfolding abbr_field
+unfolding abbr_field abbr_turn
 returns-in_err-q-clause-says c =
-    let l = c.loop-q in
-    says-exit (ap (under (row kind.Value c.args.at)) (loop-off abbr_turn c.args.s.now l.p l.invariant.leads c.in_err-q.ensures.says)) c.from_residual.result
-    c.from_residual.ensures.1
+    says-exit (ap (under (row kind.Value c.args.at)) (said-off c.in_err-q.ensures.says)) c.from_residual.result c.from_residual.ensures.1
 
-pub returns-in-Done-clause-says : goal.returns-in-Done-clause-says
-unfolding abbr_field
-returns-in-Done-clause-says c =
-    let l = c.loop-q in
-    let t = loop-done abbr_turn c.args.s.now l.p l.invariant.leads (rw c.in-Done.is at c.in_ok-q.ensures.says) in
-    rw c.put_row.ensures (says-under kind.Value c.args.at t)
+pub returns-clause-says : goal.returns-clause-says
+unfolding abbr_field abbr_turn
+returns-clause-says c = rw c.put_row.ensures (says-under kind.Value c.args.at c.in_ok-q.ensures.says)

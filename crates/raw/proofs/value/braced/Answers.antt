@@ -10,7 +10,7 @@ unfolding braced
 returns-in_err-p1-clause-says c =
     let a = c.args in
     says-exit
-    (opens-off opening in_braces closing a.s.now a.at (opening-rowless a.s.now a.at) (in-braces-rowless a.s.now) (closing-rowless a.s.now)
+    (opens-off opening in_braces closing a.piece.text.now a.at (opening-rowless a.piece.text.now a.at) (in-braces-rowless a.piece.text.now) (closing-rowless a.piece.text.now)
     c.in_err-p1.ensures.0)
     c.from_residual.result c.from_residual.ensures.1
 
@@ -20,7 +20,7 @@ returns-in_err-p2-clause-says c =
     let a = c.args in
     let r = c.from_residual-in_err-p2 in
     says-exit
-    (inside-off opening in_braces closing a.s.now a.at (opening-rowless a.s.now a.at) (in-braces-rowless a.s.now) (closing-rowless a.s.now)
+    (inside-off opening in_braces closing a.piece.text.now a.at (opening-rowless a.piece.text.now a.at) (in-braces-rowless a.piece.text.now) (closing-rowless a.piece.text.now)
     c.in_ok-p1.ensures.0 c.in_err-p2.ensures.0)
     r.result r.ensures.1
 
@@ -29,6 +29,6 @@ unfolding braced
 returns-clause-says c =
     let a = c.args in
     says_of
-    (closes opening in_braces closing a.s.now a.at (opening-rowless a.s.now a.at) (in-braces-rowless a.s.now) (closing-rowless a.s.now)
+    (closes opening in_braces closing a.piece.text.now a.at (opening-rowless a.piece.text.now a.at) (in-braces-rowless a.piece.text.now) (closing-rowless a.piece.text.now)
     c.in_ok-p1.ensures.0 c.in_ok-p2.ensures.0 c.closing.ensures.0)
     c.literal.ensures

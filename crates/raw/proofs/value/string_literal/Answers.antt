@@ -10,7 +10,7 @@ unfolding string_literal
 returns-in_err-p1-clause-says c =
     let a = c.args in
     says-exit
-    (opens-off quote quoted quote a.s.now a.at (quote-rowless a.s.now a.at) (quoted-rowless a.s.now) (quote-rowless a.s.now)
+    (opens-off quote quoted quote a.piece.text.now a.at (quote-rowless a.piece.text.now a.at) (quoted-rowless a.piece.text.now) (quote-rowless a.piece.text.now)
     c.in_err-p1.ensures.0)
     c.from_residual.result c.from_residual.ensures.1
 
@@ -20,7 +20,7 @@ returns-in_err-p2-clause-says c =
     let a = c.args in
     let r = c.from_residual-in_err-p2 in
     says-exit
-    (inside-off quote quoted quote a.s.now a.at (quote-rowless a.s.now a.at) (quoted-rowless a.s.now) (quote-rowless a.s.now)
+    (inside-off quote quoted quote a.piece.text.now a.at (quote-rowless a.piece.text.now a.at) (quoted-rowless a.piece.text.now) (quote-rowless a.piece.text.now)
     c.in_ok-p1.ensures.0 c.in_err-p2.ensures.0)
     r.result r.ensures.1
 
@@ -29,6 +29,6 @@ unfolding string_literal
 returns-clause-says c =
     let a = c.args in
     says_of
-    (closes quote quoted quote a.s.now a.at (quote-rowless a.s.now a.at) (quoted-rowless a.s.now) (quote-rowless a.s.now)
+    (closes quote quoted quote a.piece.text.now a.at (quote-rowless a.piece.text.now a.at) (quoted-rowless a.piece.text.now) (quote-rowless a.piece.text.now)
     c.in_ok-p1.ensures.0 c.in_ok-p2.ensures.0 c.quote-2.ensures.0)
     c.literal.ensures

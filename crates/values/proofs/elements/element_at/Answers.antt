@@ -8,12 +8,12 @@ returns-then-rows-i c = let a = c.args in element-end a.rows.now a.i c.if-rows-i
 pub returns-then-kind-eq-LITERAL : goal.returns-then-kind-eq-LITERAL
 returns-then-kind-eq-LITERAL c =
     let a = c.args in
-    element-literal a.rows.now a.i c.if-rows-i.false _ _ c.place-start.ensures c.place-end.ensures c.if-kind-eq-LITERAL.true
+    element-literal a.rows.now a.i c.if-rows-i.false c.if-kind-eq-LITERAL.true
 
 pub returns-then-kind-eq-NAME : goal.returns-then-kind-eq-NAME
 returns-then-kind-eq-NAME c =
     let a = c.args in
-    element-name a.rows.now a.i c.if-rows-i.false _ _ c.place-start.ensures c.place-end.ensures c.if-kind-eq-LITERAL.false c.if-kind-eq-NAME.true
+    element-name a.rows.now a.i c.if-rows-i.false c.if-kind-eq-LITERAL.false c.if-kind-eq-NAME.true
 
 pub returns : goal.returns
 returns c =

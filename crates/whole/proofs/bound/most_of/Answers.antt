@@ -3,8 +3,8 @@ use Rattle.std.proofs.Common.{◌+◌, ◌*◌, arith}
 use Rattle.whole.proofs.counting.AtMost.{summed_one, summed-end, none-of, sums}
 use Rattle.whole.proofs.bound.most_of.Goals as goal
 
-pub returns-in_default : goal.returns-in_default
-returns-in_default c =
+pub returns : goal.returns
+returns c =
     let l = c.loop-e in
     let a = c.args in (
       summed-end a.name a.rows.now a.i l.n l.m l.at l.invariant.0 c.element_at.result c.element_at.ensures (none-of _ c.in_default.not-Some),

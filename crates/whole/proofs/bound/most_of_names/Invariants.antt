@@ -1,5 +1,4 @@
 -- The invariants of `whole::bound::most_of_names`.
-use Prim.Native.Nat.{◌-◌}
 use Rattle.row.specs.Numbers.{rows_of}
 use Rattle.whole.specs.Bounds.{MonthsMost, SmallMost}
 use Rattle.whole.proofs.counting.NamesMost.{DefinedTo}

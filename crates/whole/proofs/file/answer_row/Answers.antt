@@ -11,38 +11,13 @@ use Rattle.whole.specs.Filing.{AddsAnswer, FitsBehind}
 use Rattle.whole.proofs.ways.ValueWays.{six-refused, six-chunks}
 use Rattle.whole.proofs.file.answer_row.Goals as goal
 
-pub narrow-requires : goal.narrow-requires
-narrow-requires c =
-    let bound = subst BoundedAnswer c.in-Err.is c.requires.1 in
-    bound.0
-
-pub narrow-requires-in-Err : goal.narrow-requires-in-Err
-narrow-requires-in-Err c =
-    let bound = subst BoundedAnswer c.in-Err.is c.requires.1 in
-    bound.1
-
-pub narrow-requires-in-Ok : goal.narrow-requires-in-Ok
-narrow-requires-in-Ok c =
-    let bound = subst BoundedAnswer c.in-Ok.is c.requires.1 in
-    omega (arith, bound.2)
-
 pub overflow_add-t : goal.overflow_add-t
 overflow_add-t c =
     let behind = subst (FitsBehind c.args.t) c.in-Ok.is c.requires.2 in
     omega (arith, behind.0)
 
-pub narrow-requires-in-Ok-3 : goal.narrow-requires-in-Ok-3
-narrow-requires-in-Ok-3 c =
-    let behind = subst (FitsBehind c.args.t) c.in-Ok.is c.requires.2 in
-    omega (arith, behind.0)
-
 pub overflow_add-t-in-Ok : goal.overflow_add-t-in-Ok
 overflow_add-t-in-Ok c =
-    let behind = subst (FitsBehind c.args.t) c.in-Ok.is c.requires.2 in
-    omega (arith, behind.1)
-
-pub narrow-requires-in-Ok-5 : goal.narrow-requires-in-Ok-5
-narrow-requires-in-Ok-5 c =
     let behind = subst (FitsBehind c.args.t) c.in-Ok.is c.requires.2 in
     omega (arith, behind.1)
 
@@ -56,7 +31,7 @@ returns-in-Err c =
     let t = c.args.t in record {
       answers_after = c.put_answer.ensures
           ∙ ap (sets c.args.answers.now (t.values * 6))
-          (six-refused t c.args.a c.in-Err.f c.in-Err.is _ _ _ c.number.ensures c.narrow.ensures c.narrow-in-Err.ensures);
+          (six-refused t c.args.a c.in-Err.f c.in-Err.is _ c.number.ensures);
       adds_answer = (subst (λ (u : Result Chunks Fault). AddsAnswer t u c.add.result) (sym c.in-Err.is) c.add.ensures.0, c.add.ensures.1);
     }
 
@@ -65,7 +40,6 @@ returns-in-Ok c =
     let t = c.args.t in record {
       answers_after = c.put_answer-in-Ok.ensures
           ∙ ap (sets c.args.answers.now (t.values * 6))
-          (six-chunks t c.args.a c.in-Ok.chunks.rows c.in-Ok.chunks.bytes c.in-Ok.chunks.names c.in-Ok.is _ _ _ _ _ c.narrow-in-Ok.ensures
-          c.narrow-in-Ok-2.ensures c.narrow-in-Ok-3.ensures c.narrow-in-Ok-4.ensures c.narrow-in-Ok-5.ensures);
+          (six-chunks t c.args.a c.in-Ok.chunks.rows c.in-Ok.chunks.bytes c.in-Ok.chunks.names c.in-Ok.is);
       adds_answer = (subst (λ (u : Result Chunks Fault). AddsAnswer t u c.add-in-Ok.result) (sym c.in-Ok.is) c.add-in-Ok.ensures.0, c.add-in-Ok.ensures.1);
     }

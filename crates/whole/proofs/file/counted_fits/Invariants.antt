@@ -1,5 +1,4 @@
 -- The invariants of `whole::file::counted_fits`.
-use Prim.Native.Nat.{◌-◌}
 use mathlib.Core.Path.{◌≡◌}
 use lib.ListN.{length}
 use Rattle.values.specs.Uses.{lent_in}

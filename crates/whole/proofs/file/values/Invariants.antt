@@ -1,5 +1,5 @@
 -- The invariants of `whole::file::values`.
-use Prim.Native.Nat.{◌+◌, ◌-◌, ◌≤◌}
+use Prim.Native.Nat.{◌+◌, ◌≤◌}
 use mathlib.Core.Path.{◌≡◌}
 use lib.ListN.{drop}
 use Rattle.row.specs.Numbers.{rows_of}

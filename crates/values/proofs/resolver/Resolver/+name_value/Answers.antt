@@ -1,7 +1,7 @@
 -- `values::elements::value` and `values::elements::name`, which call each other, meet their contracts: `name` calls `value` with fewer names left to
 -- open, and `value` calls `name` with its own. What falls is twice the names left, and one more for `value`. Assumes nothing.
 use Rattle.std.proofs.lemmas.Result.{err_from_is_err_and}
-use Rattle.values.proofs.naming.OpenWays.{has}
+use Rattle.values.proofs.naming.OpenWays.{has, none-of}
 use Prim.Native.Nat.{◌-◌, ◌/◌}
 use native.Mathlib.Omega.{arith}
 use Rattle.std.proofs.Common.{refl, sym, subst, ◌∙◌}
@@ -144,8 +144,8 @@ name-returns-in-None t c =
     c.meaning_of-m.ensures.means c.may_open.result c.may_open.ensures a.chunks.now a.text.now
     (names.allowed _ c.in_default.not-Err) c.in-None.is)
 
-pub value-loop-start-init : goal.value-loop-start-init
-value-loop-start-init t c =
+pub value-loop-e-init : goal.value-loop-e-init
+value-loop-e-init t c =
     let a = c.args in
     let p = c.requires in (
       refl,
@@ -159,67 +159,67 @@ value-loop-start-init t c =
       λ r b t h. h,
     )
 
-pub value-returns-in-None : goal.value-returns-in-None
-value-returns-in-None t c =
+pub value-returns : goal.value-returns
+value-returns t c =
     let a = c.args in
-    let l = c.loop-start in
+    let l = c.loop-e in
     let lent = lent_in a.self.now in
     let path = take (most_open - a.left) a.path.now in record {
-      says_run = l.invariant.8 _ _ _ (ways.value-end lent a.verb a.left path a.self.now.rows.now l.i l.st l.chunks l.text c.element_at-e.result
-          c.element_at-e.ensures c.in-None.is);
+      says_run = l.invariant.8 _ _ _ (ways.value-end lent a.verb a.left path a.self.now.rows.now l.i l.st l.chunks l.text c.element_at.result
+          c.element_at.ensures (none-of _ c.in_default.not-Some));
       bounded_went = (l.invariant.5, l.invariant.7);
     }
 
 pub value-slice_bounds-literal-count : goal.value-slice_bounds-literal-count
 value-slice_bounds-literal-count t c =
     let a = c.args in
-    let l = c.loop-start in
-    let at = ways.placed a.self.now.file.now a.self.now.rows.now l.i l.invariant.6 c.element_at-e.result c.element_at-e.ensures _
-    (has c.in-Some-Literal.is (rw c.in-Some-Literal.is at c.in-Some-Literal.field-0-is)) in
+    let l = c.loop-e in
+    let at = ways.placed a.self.now.file.now a.self.now.rows.now l.i l.invariant.6 c.element_at.result c.element_at.ensures _
+    (has c.in-Some.is c.in-Literal.is) in
     omega (arith, at.1, at.2)
 
 pub value-slice_bounds-literal-start : goal.value-slice_bounds-literal-start
 value-slice_bounds-literal-start t c =
     let a = c.args in
-    let l = c.loop-start in
-    let at = ways.placed a.self.now.file.now a.self.now.rows.now l.i l.invariant.6 c.element_at-e.result c.element_at-e.ensures _
-    (has c.in-Some-Literal.is (rw c.in-Some-Literal.is at c.in-Some-Literal.field-0-is)) in
+    let l = c.loop-e in
+    let at = ways.placed a.self.now.file.now a.self.now.rows.now l.i l.invariant.6 c.element_at.result c.element_at.ensures _
+    (has c.in-Some.is c.in-Literal.is) in
     omega (arith, at.1, at.2)
 
 pub value-slice_bounds-literal-end : goal.value-slice_bounds-literal-end
 value-slice_bounds-literal-end t c =
     let a = c.args in
-    let l = c.loop-start in
-    let at = ways.placed a.self.now.file.now a.self.now.rows.now l.i l.invariant.6 c.element_at-e.result c.element_at-e.ensures _
-    (has c.in-Some-Literal.is (rw c.in-Some-Literal.is at c.in-Some-Literal.field-0-is)) in
+    let l = c.loop-e in
+    let at = ways.placed a.self.now.file.now a.self.now.rows.now l.i l.invariant.6 c.element_at.result c.element_at.ensures _
+    (has c.in-Some.is c.in-Literal.is) in
     omega (arith, at.1, at.2)
 
 pub value-literal-requires : goal.value-literal-requires
 value-literal-requires t c =
     let a = c.args in
-    let l = c.loop-start in
-    let at = ways.placed a.self.now.file.now a.self.now.rows.now l.i l.invariant.6 c.element_at-e.result c.element_at-e.ensures _
-    (has c.in-Some-Literal.is (rw c.in-Some-Literal.is at c.in-Some-Literal.field-0-is)) in
+    let l = c.loop-e in
+    let at = ways.placed a.self.now.file.now a.self.now.rows.now l.i l.invariant.6 c.element_at.result c.element_at.ensures _
+    (has c.in-Some.is c.in-Literal.is) in
     let p = c.requires.0 in (
       omega (arith, p.scratch, l.invariant.1),
       l.invariant.5,
-      asking.cut-room a.self.now.file.now c.in-Some-Literal.start c.in-Some-Literal.end at.1 at.2 a.self.now.short,
+      asking.cut-room a.self.now.file.now c.in-Literal.start c.in-Literal.end at.1 at.2 a.self.now.short,
     )
 
-pub value-loop-start-smaller-in-Some-Literal : goal.value-loop-start-smaller-in-Some-Literal
-value-loop-start-smaller-in-Some-Literal t c =
+pub value-loop-e-smaller-in-Literal : goal.value-loop-e-smaller-in-Literal
+value-loop-e-smaller-in-Literal t c =
     let a = c.args in
-    let l = c.loop-start in
-    let at = ways.placed a.self.now.file.now a.self.now.rows.now l.i l.invariant.6 c.element_at-e.result c.element_at-e.ensures _
-    (has c.in-Some-Literal.is (rw c.in-Some-Literal.is at c.in-Some-Literal.field-0-is)) in
+    let l = c.loop-e in
+    let at = ways.placed a.self.now.file.now a.self.now.rows.now l.i l.invariant.6 c.element_at.result c.element_at.ensures _
+    (has c.in-Some.is c.in-Literal.is) in
     omega (arith, at.0)
 
-pub value-loop-start-preserved-in-Some-Literal : goal.value-loop-start-preserved-in-Some-Literal
-value-loop-start-preserved-in-Some-Literal t c =
+pub value-loop-e-preserved-in-Literal : goal.value-loop-e-preserved-in-Literal
+value-loop-e-preserved-in-Literal t c =
     let a = c.args in
-    let l = c.loop-start in
-    let at = ways.placed a.self.now.file.now a.self.now.rows.now l.i l.invariant.6 c.element_at-e.result c.element_at-e.ensures _
-    (has c.in-Some-Literal.is (rw c.in-Some-Literal.is at c.in-Some-Literal.field-0-is)) in
+    let l = c.loop-e in
+    let at = ways.placed a.self.now.file.now a.self.now.rows.now l.i l.invariant.6 c.element_at.result c.element_at.ensures _
+    (has c.in-Some.is c.in-Literal.is) in
     let lent = lent_in a.self.now in
     let path = take (most_open - a.left) a.path.now in (
       l.invariant.0,
@@ -227,41 +227,41 @@ value-loop-start-preserved-in-Some-Literal t c =
       c.literal.auto.chunks ∙ l.invariant.2,
       c.literal.auto.text ∙ l.invariant.3,
       omega (arith, at.0),
-      subst BoundedWent c.in_ok-st-in-Some-Literal.was c.literal.ensures.bounded_went,
+      subst BoundedWent c.in_ok-st-in-Literal.was c.literal.ensures.bounded_went,
       at.3,
       l.invariant.7,
       λ r₂ b₂ t₂ h. l.invariant.8 r₂ b₂ t₂
-          (ways.literal-on lent a.verb a.left path a.self.now.rows.now l.i l.st l.chunks l.text c.element_at-e.result c.element_at-e.ensures c.in-Some-Literal.start
-          c.in-Some-Literal.end at.0 c.literal.result _ _ (has c.in-Some-Literal.is (rw c.in-Some-Literal.is at c.in-Some-Literal.field-0-is)) _
-          (asking.cut-part a.self.now.file.now c.in-Some-Literal.start c.in-Some-Literal.end at.1 at.2) c.literal.ensures.says_run
-          _ c.in_ok-st-in-Some-Literal.was r₂ b₂ t₂ h),
+          (ways.literal-on lent a.verb a.left path a.self.now.rows.now l.i l.st l.chunks l.text c.element_at.result c.element_at.ensures c.in-Literal.start
+          c.in-Literal.end at.0 c.literal.result _ _ (has c.in-Some.is c.in-Literal.is) _
+          (asking.cut-part a.self.now.file.now c.in-Literal.start c.in-Literal.end at.1 at.2) c.literal.ensures.says_run
+          _ c.in_ok-st-in-Literal.was r₂ b₂ t₂ h),
     )
 
-pub value-returns-in_err-st-in-Some-Literal : goal.value-returns-in_err-st-in-Some-Literal
-value-returns-in_err-st-in-Some-Literal t c =
+pub value-returns-in_err-st-in-Literal : goal.value-returns-in_err-st-in-Literal
+value-returns-in_err-st-in-Literal t c =
     let a = c.args in
-    let l = c.loop-start in
-    let at = ways.placed a.self.now.file.now a.self.now.rows.now l.i l.invariant.6 c.element_at-e.result c.element_at-e.ensures _
-    (has c.in-Some-Literal.is (rw c.in-Some-Literal.is at c.in-Some-Literal.field-0-is)) in
+    let l = c.loop-e in
+    let at = ways.placed a.self.now.file.now a.self.now.rows.now l.i l.invariant.6 c.element_at.result c.element_at.ensures _
+    (has c.in-Some.is c.in-Literal.is) in
     let lent = lent_in a.self.now in
     let path = take (most_open - a.left) a.path.now in
     let e = err_from_is_err_and c.from_residual.result c.from_residual.ensures.1 in
     rw (e.1, e.2)
     (record {
       says_run = l.invariant.8 _ _ _
-          (ways.literal-stopped lent a.verb a.left path a.self.now.rows.now l.i l.st l.chunks l.text c.element_at-e.result c.element_at-e.ensures c.in-Some-Literal.start
-          c.in-Some-Literal.end at.0 c.literal.result _ _ (has c.in-Some-Literal.is (rw c.in-Some-Literal.is at c.in-Some-Literal.field-0-is)) _
-          (asking.cut-part a.self.now.file.now c.in-Some-Literal.start c.in-Some-Literal.end at.1 at.2) c.literal.ensures.says_run
-          _ c.in_err-st-in-Some-Literal.was);
-      bounded_went = (subst BoundedWent c.in_err-st-in-Some-Literal.was c.literal.ensures.bounded_went, l.invariant.7);
+          (ways.literal-stopped lent a.verb a.left path a.self.now.rows.now l.i l.st l.chunks l.text c.element_at.result c.element_at.ensures c.in-Literal.start
+          c.in-Literal.end at.0 c.literal.result _ _ (has c.in-Some.is c.in-Literal.is) _
+          (asking.cut-part a.self.now.file.now c.in-Literal.start c.in-Literal.end at.1 at.2) c.literal.ensures.says_run
+          _ c.in_err-st-in-Literal.was);
+      bounded_went = (subst BoundedWent c.in_err-st-in-Literal.was c.literal.ensures.bounded_went, l.invariant.7);
     })
 
 pub value-name-requires : goal.value-name-requires
 value-name-requires t c =
     let a = c.args in
-    let l = c.loop-start in
-    let at = ways.placed a.self.now.file.now a.self.now.rows.now l.i l.invariant.6 c.element_at-e.result c.element_at-e.ensures _
-    (has c.in-Some-Name.is (rw c.in-Some-Name.is at c.in-Some-Name.field-0-is)) in
+    let l = c.loop-e in
+    let at = ways.placed a.self.now.file.now a.self.now.rows.now l.i l.invariant.6 c.element_at.result c.element_at.ensures _
+    (has c.in-Some.is c.in-Name.is) in
     let p = c.requires.0 in (
       omega (arith, c.decreases),
       (
@@ -272,20 +272,20 @@ value-name-requires t c =
       ),
     )
 
-pub value-loop-start-smaller : goal.value-loop-start-smaller
-value-loop-start-smaller t c =
+pub value-loop-e-smaller : goal.value-loop-e-smaller
+value-loop-e-smaller t c =
     let a = c.args in
-    let l = c.loop-start in
-    let at = ways.placed a.self.now.file.now a.self.now.rows.now l.i l.invariant.6 c.element_at-e.result c.element_at-e.ensures _
-    (has c.in-Some-Name.is (rw c.in-Some-Name.is at c.in-Some-Name.field-0-is)) in
+    let l = c.loop-e in
+    let at = ways.placed a.self.now.file.now a.self.now.rows.now l.i l.invariant.6 c.element_at.result c.element_at.ensures _
+    (has c.in-Some.is c.in-Name.is) in
     omega (arith, at.0)
 
-pub value-loop-start-preserved : goal.value-loop-start-preserved
-value-loop-start-preserved t c =
+pub value-loop-e-preserved : goal.value-loop-e-preserved
+value-loop-e-preserved t c =
     let a = c.args in
-    let l = c.loop-start in
-    let at = ways.placed a.self.now.file.now a.self.now.rows.now l.i l.invariant.6 c.element_at-e.result c.element_at-e.ensures _
-    (has c.in-Some-Name.is (rw c.in-Some-Name.is at c.in-Some-Name.field-0-is)) in
+    let l = c.loop-e in
+    let at = ways.placed a.self.now.file.now a.self.now.rows.now l.i l.invariant.6 c.element_at.result c.element_at.ensures _
+    (has c.in-Some.is c.in-Name.is) in
     let lent = lent_in a.self.now in
     let path = take (most_open - a.left) a.path.now in (
       c.name.auto.path ∙ l.invariant.0,
@@ -293,29 +293,29 @@ value-loop-start-preserved t c =
       c.name.auto.chunks ∙ l.invariant.2,
       c.name.auto.text ∙ l.invariant.3,
       omega (arith, at.0),
-      subst BoundedWent c.in_ok-st-in-Some-Name.was c.name.ensures.bounded_went.0,
+      subst BoundedWent c.in_ok-st-in-Name.was c.name.ensures.bounded_went.0,
       at.3,
       c.name.ensures.bounded_went.1 ∙ l.invariant.7,
       λ r₂ b₂ t₂ h. l.invariant.8 r₂ b₂ t₂
-          (ways.name-on lent a.verb a.left path a.self.now.rows.now l.i l.st l.chunks l.text c.element_at-e.result c.element_at-e.ensures c.in-Some-Name.start
-          c.in-Some-Name.end at.0 c.name.result _ _ (has c.in-Some-Name.is (rw c.in-Some-Name.is at c.in-Some-Name.field-0-is)) _ l.invariant.7
-          c.name.ensures.says_run _ c.in_ok-st-in-Some-Name.was r₂ b₂ t₂ h),
+          (ways.name-on lent a.verb a.left path a.self.now.rows.now l.i l.st l.chunks l.text c.element_at.result c.element_at.ensures c.in-Name.start
+          c.in-Name.end at.0 c.name.result _ _ (has c.in-Some.is c.in-Name.is) _ l.invariant.7
+          c.name.ensures.says_run _ c.in_ok-st-in-Name.was r₂ b₂ t₂ h),
     )
 
-pub value-returns-in_err-st-in-Some-Name : goal.value-returns-in_err-st-in-Some-Name
-value-returns-in_err-st-in-Some-Name t c =
+pub value-returns-in_err-st-in-Name : goal.value-returns-in_err-st-in-Name
+value-returns-in_err-st-in-Name t c =
     let a = c.args in
-    let l = c.loop-start in
-    let at = ways.placed a.self.now.file.now a.self.now.rows.now l.i l.invariant.6 c.element_at-e.result c.element_at-e.ensures _
-    (has c.in-Some-Name.is (rw c.in-Some-Name.is at c.in-Some-Name.field-0-is)) in
+    let l = c.loop-e in
+    let at = ways.placed a.self.now.file.now a.self.now.rows.now l.i l.invariant.6 c.element_at.result c.element_at.ensures _
+    (has c.in-Some.is c.in-Name.is) in
     let lent = lent_in a.self.now in
     let path = take (most_open - a.left) a.path.now in
-    let e = err_from_is_err_and c.from_residual-in_err-st-in-Some-Name.result c.from_residual-in_err-st-in-Some-Name.ensures.1 in
+    let e = err_from_is_err_and c.from_residual-in_err-st-in-Name.result c.from_residual-in_err-st-in-Name.ensures.1 in
     rw (e.1, e.2)
     (record {
       says_run = l.invariant.8 _ _ _
-          (ways.name-stopped lent a.verb a.left path a.self.now.rows.now l.i l.st l.chunks l.text c.element_at-e.result c.element_at-e.ensures c.in-Some-Name.start
-          c.in-Some-Name.end at.0 c.name.result _ _ (has c.in-Some-Name.is (rw c.in-Some-Name.is at c.in-Some-Name.field-0-is)) _ l.invariant.7 c.name.ensures.says_run
-          _ c.in_err-st-in-Some-Name.was);
-      bounded_went = (subst BoundedWent c.in_err-st-in-Some-Name.was c.name.ensures.bounded_went.0, c.name.ensures.bounded_went.1 ∙ l.invariant.7);
+          (ways.name-stopped lent a.verb a.left path a.self.now.rows.now l.i l.st l.chunks l.text c.element_at.result c.element_at.ensures c.in-Name.start
+          c.in-Name.end at.0 c.name.result _ _ (has c.in-Some.is c.in-Name.is) _ l.invariant.7 c.name.ensures.says_run
+          _ c.in_err-st-in-Name.was);
+      bounded_went = (subst BoundedWent c.in_err-st-in-Name.was c.name.ensures.bounded_went.0, c.name.ensures.bounded_went.1 ∙ l.invariant.7);
     })

@@ -21,8 +21,8 @@ abbrev pub decreases-value : goal.decreases-value
 decreases-value l = 2 * l.left + 1
 
 -- an answer that is right for the elements from here on is right for all of them
-abbrev pub invariant-value-loop-start : goal.invariant-value-loop-start
-invariant-value-loop-start l =
+abbrev pub invariant-value-loop-e : goal.invariant-value-loop-e
+invariant-value-loop-e l =
     (length l.path ≡ length l.initial.path) × (length l.scratch ≡ length l.initial.scratch) × (length l.chunks ≡ length l.initial.chunks)
     × (length l.text ≡ length l.initial.text)
     × (l.i ≤ length l.self.rows.now + 8) × Bounded l.st × (every_span l.self.file.now (rows_of (drop l.i l.self.rows.now)) ≡ true)
@@ -35,5 +35,5 @@ invariant-value-loop-start l =
     (value_from (lent_in l.self) l.verb l.left (take (most_open - l.left) l.initial.path) (rows_of (drop l.at l.self.rows.now)) l.initial.st.names)
     l.initial.st l.initial.chunks l.initial.text r b t)
 
-abbrev pub decreases-value-loop-start : goal.decreases-value-loop-start
-decreases-value-loop-start l = length l.self.rows.now + 8 - l.i
+abbrev pub decreases-value-loop-e : goal.decreases-value-loop-e
+decreases-value-loop-e l = length l.self.rows.now + 8 - l.i
