@@ -11,7 +11,6 @@ ghost use Rattle.command.specs.Execute.{dotted as dotted_of, bare as bare_of, la
 
 use crate::meaning::Meaning;
 use crate::stack;
-use crate::tables::Tables;
 use chunk::ending;
 
 // The characters that are a command's whole name.
@@ -111,7 +110,7 @@ pub fn execute_before(m: Meaning, s: &[u8], a: usize, e: usize, out: &mut [u8], 
 // from there to `to`. It needs a free byte behind the argument, or two where it writes nothing before it; and from `at` on, room for three bytes
 // and for its name.
 pub fn execute_command(
-    tables: Tables,
+    marks: &[u32],
     m: Meaning,
     s: &[u8],
     a: usize,
@@ -121,7 +120,7 @@ pub fn execute_command(
     from: usize,
     to: usize,
 ) -> usize
-    requires sane { Sane m × (a ≤ e) × (e ≤ length s.now) × (at + e ≤ length out.old + a) }
+    requires marks_value { (marks.now ≡ numbers composites) × Sane m × (a ≤ e) × (e ≤ length s.now) × (at + e ≤ length out.old + a) }
     requires at_le_from { (at ≤ from) × (from ≤ to) × (to < length out.old) × (at + to + 2 ≤ length out.old + from) × (at + 3 ≤ length out.old) ×
         (part out.old at from ≡ leading (part s.now a e) m) }
     ensures lays { Lays at (executed (part s.now a e) (given (part out.old from to)) m) out.old result out.new }
@@ -130,8 +129,8 @@ pub fn execute_command(
     match m {
         Meaning::Itself => stack::copy(s, a, e, out, at),
         Meaning::Letter(c) => stack::put_code(out, at, c),
-        Meaning::Accent(mark) => last_char_combine(tables.marks, out, from, to, mark),
-        Meaning::Slash => last_char_combine(tables.marks, out, from, to, 0x338),
+        Meaning::Accent(mark) => last_char_combine(marks, out, from, to, mark),
+        Meaning::Slash => last_char_combine(marks, out, from, to, 0x338),
         Meaning::Copyright => to,
         Meaning::Hyphenation => at,
         Meaning::Unknown => stack::push(out, to, 125),

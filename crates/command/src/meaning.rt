@@ -2,9 +2,7 @@
 ghost use Rattle.std.specs.Prelude.{◌≡◌, [], ◌∷◌, ◌+◌, ◌≤◌, length};
 ghost use Rattle.text.specs.Scan.{part};
 ghost use Rattle.command.specs.Commands.{meaning_of};
-ghost use Rattle.command.specs.Names.{code_of, decoded, SpanOf};
-
-use crate::tables::Tables;
+ghost use Rattle.command.specs.Names.{code_of, decoded, names as all_names, SpanOf};
 
 #[derive(Clone, Copy)]
 pub enum Meaning {
@@ -98,15 +96,14 @@ fn span_of(n: usize) -> Span
 }
 
 // What the name from one place to another means.
-pub fn meaning_of(tables: Tables, s: &[u8], a: usize, e: usize) -> Meaning
-    requires { (a ≤ e) × (e ≤ length s.now) }
+pub fn meaning_of(names: &[u8], s: &[u8], a: usize, e: usize) -> Meaning
+    requires { (names.now ≡ all_names) × (a ≤ e) × (e ≤ length s.now) }
     ensures { result ≡ meaning_of (part s.now a e) }
 {
     let n = e - a;
     if n == 1 {
         return meaning_one(s[a]);
     }
-    let names = tables.names;
     let span = span_of(n);
     let mut i = span.0;
     let to = span.1;

@@ -2,8 +2,8 @@
 --     value_at       what the call comes to
 --     Resolving      what is required where a value is counted or written
 -- Assumes nothing.
-use Rattle.std.specs.Prelude.{ℕ, ◌/◌, ◌≤◌, ◌<◌, Bool, List, length}
-use Rattle.row.specs.Limits.{least_scratch}
+use Rattle.std.specs.Prelude.{ℕ, ◌/◌, ◌<◌, Bool, List, length}
+use Rattle.resolve.specs.Progress.{ReadyTables}
 use Rattle.resolve.specs.Resolves.{Value, asked}
 use Rattle.resolve.specs.Checks.{is_right, lent_of}
 use Rattle.values.specs.declared.resolver.Resolver.{Resolver}
@@ -18,5 +18,5 @@ value_at file rows which verb months words w =
 -- what is required where the value of row i is counted or written, with a scratch w
 pub record Resolving (r : Resolver) (i : ℕ) (w : List ℕ) : Type 0 where
   pub index : IndexOf r
-  pub scratch : least_scratch ≤ length w
+  pub ready : ReadyTables w r.tables.names.now r.tables.marks.now
   pub which : i < length r.rows.now / 4

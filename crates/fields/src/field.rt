@@ -123,7 +123,8 @@ fn field<'a>(
     ensures { Writes (value_at file.now rows.now which verbatim months.now words.now
         (length scratch.old)) chunks.old text.old result chunks.new text.new }
 {
-    answer::check_file(file)?;
+    // Named for the goal of its refusal, at which the fault `seventeen_before_two` must fall.
+    let checked = answer::check_file(file)?;
     if !(lent::are_lent(file, rows, months, words) & lent::is_value(rows, which)) {
         return Err(fault::nowhere(Reason::BadRows));
     }

@@ -1,6 +1,8 @@
 // The turns of content that end a chunk, and how a command's argument begins and ends.
 ghost use Rattle.std.specs.Prelude.{◌≡◌, true, false, ◌+◌, ◌*◌, ◌≤◌, ◌<◌, length, get_or};
 ghost use Rattle.text.specs.Scan.{part};
+ghost use Rattle.compose.specs.Composites.{composites};
+ghost use Rattle.compose.specs.Lookup.{numbers};
 ghost use Rattle.command.specs.Commands.{meaning_of};
 ghost use Rattle.command.specs.Execute.{leading};
 ghost use Rattle.turn.specs.Turns.{is_sign};
@@ -10,7 +12,6 @@ use crate::making;
 use crate::making::{Making, Place};
 use crate::rows::Rows;
 use command::meaning::Meaning;
-use command::tables::Tables;
 use command::{execute, settle};
 use row::fault;
 use row::fault::{Fault, Reason};
@@ -111,9 +112,9 @@ pub fn finish(
     st: Making,
     t: Making,
     out: &mut [u8],
-    tables: Tables,
+    marks: &[u32],
 ) -> Making
-    requires meaning { m ≡ meaning_of (part s.now (st.at + 1) end) }
+    requires marks_value { (marks.now ≡ numbers composites) × (m ≡ meaning_of (part s.now (st.at + 1) end)) }
     requires closes { Closes s.now end to lead st t out.old × (part out.old st.len lead ≡ leading (part s.now (st.at + 1) end) m) }
     ensures argument_finished { ArgumentFinished (part s.now (st.at + 1) end) m (end + 1) to st t out.old result out.new }
     ensures at_value { (result.at ≡ to + 1) × (result.len + 2 * st.at ≤ st.len + 2 * (to + 1)) }
@@ -121,6 +122,6 @@ pub fn finish(
     let at = st.at;
     let len = st.len;
     let w = settle::settle(out, t.braces, t.from, t.len, t.white);
-    let l = execute::execute_command(tables, m, s, at + 1, end, out, len, lead, w.at);
+    let l = execute::execute_command(marks, m, s, at + 1, end, out, len, lead, w.at);
     further(st, to + 1, l)
 }

@@ -104,7 +104,7 @@ fn argument(
         text: 0,
     };
     let t = content(&s[..to], false, depth - 1, i, place, out, &mut none, tables)?;
-    Ok(content::finish(s, m, end, to, lead, st, t, out, tables))
+    Ok(content::finish(s, m, end, to, lead, st, t, out, tables.marks))
 }
 
 // A refusal inside a literal, whose places in the literal become places in the file.

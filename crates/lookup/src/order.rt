@@ -9,6 +9,7 @@ ghost use Rattle.lookup.specs.RowIndex.{fits};
 ghost use Rattle.lookup.specs.Order.{order_of, comes, merged, sorted, definitions, in_order, left_first, Ordered};
 
 use crate::plain;
+use row::form;
 use row::form::DEFINITION_NAME;
 use std::cmp::Ordering;
 use text::scanner;
@@ -110,7 +111,7 @@ impl<'a> Definitions<'a> {
         self.sort(&mut a[..h], spare, depth - 1);
         self.sort(&mut a[h..], spare, depth - 1);
         self.merge_halves(a, h, spare);
-        a.copy_from_slice(&spare[..a.len()]);
+        form::copy_numbers(spare, a.len(), a);
     }
 }
 

@@ -82,8 +82,7 @@ Counted (resolved cs n) (Err f) = ⊥
 Counted (refused g) (Ok st) = ⊥
 Counted (refused g) (Err f) = f ≡ g
 
--- a scratch that is long enough, and the two tables as lists: `ready_on` of specs/Asking.antt speaks of them. The functions take the tables as one
--- value, whose type says what they hold
+-- what the functions require: a scratch that is long enough, and the tables, of which the type `Tables` says the same
 pub record ReadyTables (w by_name by_mark : List ℕ) : Type 0 where
   pub scratch : least_scratch ≤ length w
   pub names : by_name ≡ all_names

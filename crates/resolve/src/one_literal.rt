@@ -164,7 +164,8 @@ fn literal(
     ensures { Writes (literal_of file.now start end verbatim (length scratch.old)) chunks.old
         text.old result chunks.new text.new }
 {
-    answer::check_file(file)?;
+    // Named for the goal of its refusal, at which the fault `seventeen_before_two` must fall.
+    let checked = answer::check_file(file)?;
     if !is_span(file, start, end) {
         return Err(fault::nowhere(Reason::BadRows));
     }

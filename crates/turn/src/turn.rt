@@ -376,10 +376,10 @@ fn one(
     ensures grows_text { GrowsText (length s.now) at len result }
 {
     let to = scanner::eat(s, after);
-    let m = meaning::meaning_of(tables, s, at + 1, end);
+    let m = meaning::meaning_of(tables.names, s, at + 1, end);
     let from = execute::execute_before(m, s, at + 1, end, out, len);
     let e = stack::copy(s, after, to, out, from);
-    let l = execute::execute_command(tables, m, s, at + 1, end, out, len, from, e);
+    let l = execute::execute_command(tables.marks, m, s, at + 1, end, out, len, from, e);
     Ok(Text::Put { next: to, len: l })
 }
 
@@ -397,7 +397,7 @@ fn bare(
     ensures took { Took s.now at end absent after len out.old result out.new }
     ensures grows_text { GrowsText (length s.now) at len result }
 {
-    let m = meaning::meaning_of(tables, s, at + 1, end);
+    let m = meaning::meaning_of(tables.names, s, at + 1, end);
     let l = execute::execute_bare(m, s, at + 1, end, out, len);
     Ok(Text::Put {
         next: after,
@@ -427,7 +427,7 @@ fn command(
     if !((end == after) & opens_at(s, after)) {
         return bare(s, at, end, after, out, len, tables);
     }
-    let m = meaning::meaning_of(tables, s, at + 1, end);
+    let m = meaning::meaning_of(tables.names, s, at + 1, end);
     let from = after + 1;
     let to = argument_end(s, from)?;
     Ok(Text::Argument { m, end, from, to })

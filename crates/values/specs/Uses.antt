@@ -12,9 +12,10 @@ use Rattle.row.specs.Row.{Row}
 use Rattle.row.specs.Numbers.{rows_of}
 use Rattle.row.specs.declared.form.Kind.TheVariants.{Literal, Name}
 use Rattle.row.specs.Rules.{is_kind}
-use Rattle.row.specs.Limits.{most_open, most_names, least_scratch}
+use Rattle.row.specs.Limits.{most_open, most_names}
 use Rattle.lookup.specs.RowIndex.{Indexed}
 use Rattle.resolve.specs.Checks.{Lent, months_of, lent_of}
+use Rattle.resolve.specs.Progress.{ReadyTables}
 use Rattle.resolve.specs.Runs.{Run}
 use Rattle.values.specs.declared.resolver.Resolver.{Resolver}
 use Rattle.values.specs.declared.elements.Meaning as code-meaning
@@ -93,5 +94,5 @@ IndexOf r = Indexed r.file.now r.rows.now r.heads.now r.next.now
 -- stand that are being resolved
 pub record ReadyValue (r : Resolver) (w held : List ℕ) (left : ℕ) : Type 0 where
   pub index : IndexOf r
-  pub scratch : least_scratch ≤ length w
+  pub ready : ReadyTables w r.tables.names.now r.tables.marks.now
   pub path : (length held ≡ most_open) × (left ≤ most_open)

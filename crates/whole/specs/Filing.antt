@@ -10,11 +10,10 @@ use Rattle.resolve.specs.declared.answer.Chunks.{Chunks}
 use Rattle.std.specs.Prelude.{ℕ, ◌+◌, ◌*◌, ◌≤◌, ◌≡◌, Bool, false, not, List, [], ◌∷◌, ◌++◌, length, drop, Result, Ok, Err}
 use Rattle.row.specs.Fault.{number_of}
 use Rattle.row.specs.Numbers.{rows_of}
-use Rattle.row.specs.Limits.{least_scratch}
 use Rattle.literal.specs.Rows.{most_number, texts_of}
 use Rattle.resolve.specs.Resolves.{Value}
 use Rattle.resolve.specs.Checks.{Lent}
-use Rattle.resolve.specs.Progress.{small}
+use Rattle.resolve.specs.Progress.{small, ReadyTables}
 use Rattle.values.specs.declared.resolver.Resolver.{Resolver}
 use Rattle.values.specs.Uses.{IndexOf}
 use Rattle.whole.specs.declared.file.Totals.{Totals}
@@ -23,7 +22,7 @@ use Rattle.whole.specs.WholeFile.{results_from, results, values, chunks_in, text
 -- what is required where values are counted or written: a flag for each, and a scratch that is long enough
 pub record Filing (r : Resolver) (flags w : List ℕ) : Type 0 where
   pub index : IndexOf r
-  pub scratch : least_scratch ≤ length w
+  pub ready : ReadyTables w r.tables.names.now r.tables.marks.now
   pub flagged : values (rows_of r.rows.now) ≤ length flags
 
 -- the counts are small, so that none overflows

@@ -449,7 +449,8 @@ fn whole(
         (length scratch.old)) answers.old chunks.old text.old result
         answers.new chunks.new text.new }
 {
-    answer::check_file(file)?;
+    // Named for the goal of its refusal, at which the fault `seventeen_before_two` must fall.
+    let checked = answer::check_file(file)?;
     if !(lent::are_lent(file, rows, months, words) & (values(rows) <= flags.len())) {
         return Err(fault::nowhere(Reason::BadRows));
     }

@@ -1,9 +1,11 @@
--- `casing::is_settled` meets its contract: by its attribute, and by an answer where a must-fail edit is to be refused for itself. Assumes nothing.
-use Rattle.std.proofs.Common.{arith}
-use Rattle.std.proofs.lemmas.Bool.Decides.{nat_tests}
+-- `casing::is_settled` meets its contract. Assumes nothing.
+use mathlib.Core.Bool.{or_assoc, or-false}
 use Rattle.casing.specs.Casing.{settled, is_settled}
 use Rattle.casing.proofs.is_settled.Goals as goal
 
-pub returns-in-128-to-191-2 : goal.returns-in-128-to-191-2
+pub returns : goal.returns
 unfolding is_settled settled
-returns-in-128-to-191-2 c = grind (arith, nat_tests)
+returns c =
+    simp (or_assoc, or-false)
+    (rw (c.is_within.ensures, c.is_within-2.ensures, c.is_within-3.ensures, c.is_within-4.ensures, c.is_within-5.ensures)
+    (rw (c.is_within-6.ensures, c.is_within-7.ensures, c.is_within-8.ensures, c.is_within-9.ensures)))

@@ -136,7 +136,7 @@ pub ready-value-first : (r : Resolver) (w : List ℕ) (i : ℕ) (w' held : List 
     → ReadyValue r w' held most_open
 ready-value-first r w i w' held h k e = record {
   index = h.index;
-  scratch = omega (arith, h.scratch, k);
+  ready = asking.ready_on w r.tables.names.now r.tables.marks.now w' h.ready k;
   path = (e, omega arith);
 }
 

@@ -1,12 +1,13 @@
 -- A list sorted in one place: the ways through `sort`.
 --     sort-stays                           a list that is not halved stays as it is
 --     half, one_done, other, both_done     the list while its halves are sorted, and the part that is lent for the second
+--     copied-back                          the first of the spare numbers, copied over the whole list
 --     sort-whole                           the halves are sorted, merged into the spare numbers, and copied back
 -- Assumes nothing.
 use Rattle.std.proofs.Common.{ℕ, zero, suc, ◌-◌, ◌/◌, ◌≤◌, arith, ◌≡◌, refl, sym, ap, ap₂, ◌∙◌, Bool, true, false, cond, ◌||◌, List, [], ◌++◌}
 use Rattle.std.proofs.Common.{append-nil, length, take, drop, drop_of_length-le, length-drop, take_all, take_at, drop_at, length-take-le, ltb, eqb}
 use Rattle.std.proofs.Common.{eqb-true}
-use Rattle.std.proofs.Math.Seq.{length_front}
+use Rattle.std.proofs.Math.Seq.{drop-length, length_front}
 use Rattle.std.proofs.lemmas.Bool.{false≢true}
 use borrow.Rule.Slice.PartMut.{mid_of, put_mid}
 use Rattle.lookup.specs.Order.{merged, sorted}
@@ -52,6 +53,9 @@ other xs ys = mid_of (half xs) (length (one_done xs ys) - half xs) (one_done xs 
 
 abbrev pub both_done : List ℕ → List ℕ → List ℕ → List ℕ
 both_done xs ys zs = put_mid (half xs) (length (one_done xs ys) - half xs) (one_done xs ys) zs
+
+pub copied-back : (spare xs : List ℕ) → take (length xs) spare ++ drop (length xs) xs ≡ take (length xs) spare
+copied-back spare xs = ap (λ (l : List ℕ). take (length xs) spare ++ l) (drop-length xs) ∙ append-nil (take (length xs) spare)
 
 half-size : (xs : List ℕ) → half xs ≡ length (take (half xs) xs)
 half-size xs = sym (length-take-le (half xs) xs (omega arith))

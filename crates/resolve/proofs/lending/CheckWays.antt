@@ -3,21 +3,22 @@
 --     text-not, text-inside, text-there    `is_text`
 --     count-not, count-whole               `are_months`
 --     value_none, value_there              `is_value`
---     lent-told                            `are_lent`
+--     lent-bad, lent-good                  `are_lent`
 -- Assumes nothing.
 use Rattle.text.specs.declared.utf8.IllFormed.{IllFormed}
-use Rattle.std.specs.Prelude.{Ok, Err, Result, ⊤, is_ok}
+use Rattle.std.specs.Prelude.{Ok, Err, Result, ⊤, is_ok, is_err}
 use Rattle.row.specs.declared.fault.Reason.{Reason}
 use Rattle.row.specs.declared.fault.Reason.TheVariants.{BadRows}
 use Prim.Native.Nat.{ℕ, ◌-◌, ◌*◌, ◌/◌, ◌%◌, ◌≤◌, ◌<◌}
 use native.Mathlib.Omega.{arith}
-use mathlib.Core.Path.{◌≡◌, refl}
+use mathlib.Core.Path.{◌≡◌, refl, sym}
 use mathlib.Core.Bool.{Bool, true, false, cond, ◌&&◌, ◌||◌, and-false}
 use mathlib.Core.List.{List, [], ◌∷◌}
 use Rattle.row.specs.Row.{Row}
 use lib.ListN.{length, get_or, take, drop, drop_of_length-le}
 use lib.Dec.{eqb, ltb}
 use borrow.Author.Tests.{ltb-true, ltb-false, lt-leb, le-leb, eq-eqb, ne_eqb}
+use Rattle.std.proofs.lemmas.Bool.{false≢true}
 use Rattle.text.specs.Utf8.{validity_of}
 use Rattle.text.proofs.general.Places.{part-clamped}
 use Rattle.text.specs.Every.{every}
@@ -97,11 +98,20 @@ module _ (rows : List ℕ) (which : ℕ) where
 -- ---- all of it
 
 module _ (file rows months words : List ℕ) where
-  pub lent-told : ((is_ok (check_of rows) && every_span file (rows_of rows)) && are_months months words) ≡ are_lent file rows months words
+  pub lent-bad : is_err (check_of rows) ≡ true → false ≡ are_lent file rows months words
   unfolding are_lent
-  lent-told = by (are_rows rows)
+  lent-bad = by (are_rows rows)
     where
-      by : (x : Bool) → ((is_ok {T = ⊤} {E = Reason} (cond x (Ok tt) (Err BadRows)) && every_span file (rows_of rows)) && are_months months words)
-          ≡ (x && (every_span file (rows_of rows) && are_months months words))
-      by true = refl
-      by false = refl
+      by : (x : Bool) → is_err {T = ⊤} {E = Reason} (cond x (Ok tt) (Err BadRows)) ≡ true
+          → false ≡ (x && (every_span file (rows_of rows) && are_months months words))
+      by true e = absurd (false≢true e)
+      by false e = refl
+
+  pub lent-good : is_err (check_of rows) ≡ false → (every_span file (rows_of rows) && are_months months words) ≡ are_lent file rows months words
+  unfolding are_lent
+  lent-good = by (are_rows rows)
+    where
+      by : (x : Bool) → is_err {T = ⊤} {E = Reason} (cond x (Ok tt) (Err BadRows)) ≡ false
+          → (every_span file (rows_of rows) && are_months months words) ≡ (x && (every_span file (rows_of rows) && are_months months words))
+      by true e = refl
+      by false e = absurd (false≢true (sym e))

@@ -259,6 +259,6 @@ pub ready-value-on : (r : Resolver) (w held : List ℕ) (left : ℕ) (w' held' :
     → ReadyValue r w' held' left
 ready-value-on r w held left w' held' h e f = record {
   index = h.index;
-  scratch = omega (arith, h.scratch, e);
+  ready = asking.ready_on w r.tables.names.now r.tables.marks.now w' h.ready e;
   path = (f ∙ h.path.0, h.path.1);
 }

@@ -210,6 +210,6 @@ pub ready-value-down : (r : Resolver) (w held : List ℕ) (left : ℕ) (held' : 
     → ReadyValue r w held' (left - 1)
 ready-value-down r w held left held' h e = record {
   index = h.index;
-  scratch = h.scratch;
+  ready = h.ready;
   path = (e ∙ h.path.0, omega (arith, h.path.1));
 }

@@ -8,6 +8,7 @@
 -- Assumes nothing.
 use Rattle.values.specs.declared.resolver.Resolver.{Resolver}
 use Rattle.std.specs.Prelude.{Result, Ok, Err}
+use Rattle.resolve.proofs.Asking.{asking}
 use Rattle.row.specs.declared.fault.Fault.{Fault}
 use Rattle.resolve.specs.declared.progress.Progress.{Progress}
 use Prim.Native.Nat.{ℕ, ◌+◌, ◌/◌, ◌≤◌, ◌<◌}
@@ -130,7 +131,7 @@ pub resolving : (r : Resolver) (flags w : List ℕ) → Filing r flags w → (w'
     → Resolving r i w'
 resolving r flags w p w' e i h = record {
   index = p.index;
-  scratch = omega (arith, p.scratch, e);
+  ready = asking.ready_on w r.tables.names.now r.tables.marks.now w' p.ready e;
   which = h;
 }
 

@@ -19,6 +19,7 @@ use borrow.Author.Tests.{le-leb}
 use borrow.Rule.Slice.PartMut.{mid_of, put_mid}
 use Rattle.chunk.specs.Chunk.{Chunk, flat_chunks}
 use Rattle.literal.specs.Rows.{most_number, most_rows, rows_from, texts_of}
+use Rattle.resolve.proofs.Asking.{asking}
 use Rattle.row.specs.declared.fault.Fault.{Fault}
 use Rattle.row.specs.Fault.{number_of}
 use Rattle.row.specs.Numbers.{rows_of}
@@ -272,7 +273,7 @@ module _ (file rows flags months words : List ℕ) (i : ℕ) (t : Totals) (q b x
 pub filing-on : (r : Resolver) (flags w w' : List ℕ) → Filing r flags w → length w' ≡ length w → Filing r flags w'
 filing-on r flags w w' p e = record {
   index = p.index;
-  scratch = omega (arith, p.scratch, e);
+  ready = asking.ready_on w r.tables.names.now r.tables.marks.now w' p.ready e;
   flagged = p.flagged;
 }
 

@@ -11,17 +11,17 @@ use Rattle.command.proofs.execute.execute_command.Goals as goal
 pub put_code-requires : goal.put_code-requires
 put_code-requires c =
     let a = c.args in
-    let s = subst Sane c.in-Letter.is c.requires.sane.0 in
+    let s = subst Sane c.in-Letter.is c.requires.marks_value.1 in
     (s.0, omega (arith, octets-three _ s.1, c.requires.at_le_from.4))
 
 pub last_char_combine-requires : goal.last_char_combine-requires
 last_char_combine-requires c =
     let a = c.args in
     let q = c.requires.at_le_from in
-    let s = subst Sane c.in-Accent.is c.requires.sane.0 in
+    let s = subst Sane c.in-Accent.is c.requires.marks_value.1 in
     let n = laws.no_lead (part a.s.now a.a a.e) a.m a.out.now a.at a.from a.to q.0 q.1 (omega (arith, q.2)) q.5 _
     c.in-Accent.is refl in
-    (c.args.tables.all_marks, q.1, omega (arith, n, q.3), s.0, s.1)
+    (c.requires.marks_value.0, q.1, omega (arith, n, q.3), s.0, s.1)
 
 pub last_char_combine-requires-in-Slash : goal.last_char_combine-requires-in-Slash
 unfolding is_scalar
@@ -30,7 +30,7 @@ last_char_combine-requires-in-Slash c =
     let q = c.requires.at_le_from in
     let n = laws.no_lead (part a.s.now a.a a.e) a.m a.out.now a.at a.from a.to q.0 q.1 (omega (arith, q.2)) q.5
     Slash c.in-Slash.is refl in
-    (c.args.tables.all_marks, q.1, omega (arith, n, q.3), refl, omega arith)
+    (c.requires.marks_value.0, q.1, omega (arith, n, q.3), refl, omega arith)
 
 pub returns-in-Itself : goal.returns-in-Itself
 returns-in-Itself c =
@@ -45,10 +45,10 @@ pub returns-in-Letter : goal.returns-in-Letter
 returns-in-Letter c =
     let a = c.args in
     let q = c.requires.at_le_from in
-    let s = subst Sane c.in-Letter.is c.requires.sane.0 in record {
+    let s = subst Sane c.in-Letter.is c.requires.marks_value.1 in record {
       lays = laws.runs_as (part a.s.now a.a a.e) a.m a.out.now a.at a.from a.to q.0 q.1 (omega (arith, q.2)) q.5 _ _
           c.put_code.result _ c.in-Letter.is refl c.put_code.ensures;
-      a_bound = omega (arith, c.put_code.ensures.end, octets-three _ s.1, c.requires.sane.1);
+      a_bound = omega (arith, c.put_code.ensures.end, octets-three _ s.1, c.requires.marks_value.2);
     }
 
 pub returns-in-Accent : goal.returns-in-Accent
@@ -88,7 +88,7 @@ returns-in-Hyphenation c =
     let q = c.requires.at_le_from in record {
       lays = laws.runs_as (part a.s.now a.a a.e) a.m a.out.now a.at a.from a.to q.0 q.1 (omega (arith, q.2)) q.5
           Hyphenation [] a.at _ c.in-Hyphenation.is refl (lays-none a.at a.out.now);
-      a_bound = omega (arith, c.requires.sane.1);
+      a_bound = omega (arith, c.requires.marks_value.2);
     }
 
 pub returns-in-Unknown : goal.returns-in-Unknown

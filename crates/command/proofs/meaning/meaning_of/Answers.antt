@@ -8,12 +8,12 @@ use Rattle.command.proofs.meaning.meaning_of.Goals as goal
 pub returns-then-n-eq1 : goal.returns-then-n-eq1
 returns-then-n-eq1 c =
     let a = c.args in
-    c.meaning_one.ensures ∙ ap meaning_of (laws.name-one a.s.now a.a a.e _ c.if-n-eq1.true c.requires.1 refl)
+    c.meaning_one.ensures ∙ ap meaning_of (laws.name-one a.s.now a.a a.e _ c.if-n-eq1.true c.requires.2 refl)
 
 pub loop-i-init : goal.loop-i-init
 loop-i-init c =
     let a = c.args in
-    laws.going a.tables.names.now _ _ _ _ a.tables.all_names (length_part a.s.now a.a a.e c.requires.0 c.requires.1) c.if-n-eq1.false
+    laws.going a.names.now _ _ _ _ c.requires.0 (length_part a.s.now a.a a.e c.requires.1 c.requires.2) c.if-n-eq1.false
     c.span_of-span.ensures
 
 pub slice_bounds-eq-end : goal.slice_bounds-eq-end
@@ -44,7 +44,7 @@ returns-then-eq c =
     let room = laws.room _ _ _ _ _ c.loop-i.invariant c.loop-i-test.true c.from-m.ensures in
     c.meaning_at.ensures
     ∙ laws.found _ _ _ _ c.loop-i-test.true g _ _ c.from-m.ensures
-    (laws.compared a.tables.names.now a.s.now _ _ a.a a.e room c.requires.1 c.eq.ensures) c.if-eq.true
+    (laws.compared a.names.now a.s.now _ _ a.a a.e room c.requires.2 c.eq.ensures) c.if-eq.true
 
 pub overflow_add-i-in-loop-i : goal.overflow_add-i-in-loop-i
 overflow_add-i-in-loop-i c = omega (arith, laws.room _ _ _ _ _ c.loop-i.invariant c.loop-i-test.true c.from-m.ensures, c.ranges)
@@ -61,7 +61,7 @@ loop-i-preserved c =
     let g = laws.is-here _ _ _ _ c.loop-i.invariant c.loop-i-test.true in
     let room = laws.room _ _ _ _ _ c.loop-i.invariant c.loop-i-test.true c.from-m.ensures in
     laws.missed _ _ _ _ c.loop-i-test.true g _ _ c.from-m.ensures
-    (laws.compared a.tables.names.now a.s.now _ _ a.a a.e room c.requires.1 c.eq.ensures) c.if-eq.false
+    (laws.compared a.names.now a.s.now _ _ a.a a.e room c.requires.2 c.eq.ensures) c.if-eq.false
 
 pub returns : goal.returns
 returns c = laws.ended _ _ _ _ c.loop-i.invariant c.loop-i-test.false

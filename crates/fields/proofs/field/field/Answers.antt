@@ -11,14 +11,14 @@ use Rattle.values.specs.Field.{field_of}
 use Rattle.fields.proofs.ways.FieldWays.{right-as, lent-right, which-inside}
 use Rattle.fields.proofs.field.field.Goals as goal
 
-pub returns-in_err-check_file : goal.returns-in_err-check_file
-returns-in_err-check_file c =
+pub returns-in_err-checked : goal.returns-in_err-checked
+returns-in_err-checked c =
     let a = c.args in
     let good = is_right a.file.now a.rows.now a.which a.months.now a.words.now in
     let value = field_of (lent_of a.file.now a.rows.now a.months.now a.words.now) a.verbatim a.which in
     let e = err_from_is_err_and c.from_residual.result c.from_residual.ensures.1 in
     rw (e.1, e.2)
-    (asking.asked-file a.file.now good (length a.scratch.now) value a.chunks.now a.text.now c.check_file.result c.check_file.ensures _ c.in_err-check_file.was)
+    (asking.asked-file a.file.now good (length a.scratch.now) value a.chunks.now a.text.now c.check_file.result c.check_file.ensures _ c.in_err-checked.was)
 
 pub returns-then-not-are_lent-is_value : goal.returns-then-not-are_lent-is_value
 returns-then-not-are_lent-is_value c =
@@ -27,7 +27,7 @@ returns-then-not-are_lent-is_value c =
     let value = field_of (lent_of a.file.now a.rows.now a.months.now a.words.now) a.verbatim a.which in
     rw c.nowhere.ensures
     (asking.asked-bad a.file.now good (length a.scratch.now) value a.chunks.now a.text.now c.check_file.result c.check_file.ensures
-    c.in_ok-check_file.was (c.are_lent.result && c.is_value.result)
+    c.in_ok-checked.was (c.are_lent.result && c.is_value.result)
     (right-as a.file.now a.rows.now a.months.now a.words.now a.which c.are_lent.result c.is_value.result c.are_lent.ensures c.is_value.ensures)
     (ap not c.if-not-are_lent-is_value.true))
 
@@ -38,7 +38,7 @@ returns-then-scratch-lt-LEAST_SCRATCH c =
     let value = field_of (lent_of a.file.now a.rows.now a.months.now a.words.now) a.verbatim a.which in
     rw c.nowhere-then-scratch-lt-LEAST_SCRATCH.ensures
     (asking.asked-scratch a.file.now good (length a.scratch.now) value a.chunks.now a.text.now c.check_file.result c.check_file.ensures
-    c.in_ok-check_file.was (c.are_lent.result && c.is_value.result)
+    c.in_ok-checked.was (c.are_lent.result && c.is_value.result)
     (right-as a.file.now a.rows.now a.months.now a.words.now a.which c.are_lent.result c.is_value.result c.are_lent.ensures c.is_value.ensures)
     (ap not c.if-not-are_lent-is_value.false) c.if-scratch-lt-LEAST_SCRATCH.true)
 
@@ -48,7 +48,7 @@ write-requires c =
     let rest = (ap not c.if-not-are_lent-is_value.false) in
     record {
       index = lookup.no_index a.file.now a.rows.now [] [] refl;
-      scratch = c.if-scratch-lt-LEAST_SCRATCH.false;
+      ready = record { scratch = c.if-scratch-lt-LEAST_SCRATCH.false; names = c.names-names.ensures; marks = c.table-marks.ensures };
       which =
           which-inside a.file.now a.rows.now a.months.now a.words.now a.which c.are_lent.result c.is_value.result c.are_lent.ensures c.is_value.ensures rest;
     }
@@ -61,7 +61,7 @@ invariant_of-resolver c =
     let a = c.args in
     let rest = (ap not c.if-not-are_lent-is_value.false) in
     record {
-      short = asking.file-small a.file.now c.check_file.result c.check_file.ensures c.in_ok-check_file.was;
+      short = asking.file-small a.file.now c.check_file.result c.check_file.ensures c.in_ok-checked.was;
       lent = lent-right a.file.now a.rows.now a.months.now a.words.now a.which c.are_lent.result c.is_value.result c.are_lent.ensures c.is_value.ensures rest;
     }
 
@@ -71,7 +71,7 @@ returns c =
     let good = is_right a.file.now a.rows.now a.which a.months.now a.words.now in
     let value = field_of (lent_of a.file.now a.rows.now a.months.now a.words.now) a.verbatim a.which in
     asking.asked-all a.file.now good (length a.scratch.now) value a.chunks.now a.text.now c.check_file.result c.check_file.ensures
-    c.in_ok-check_file.was (c.are_lent.result && c.is_value.result)
+    c.in_ok-checked.was (c.are_lent.result && c.is_value.result)
     (right-as a.file.now a.rows.now a.months.now a.words.now a.which c.are_lent.result c.is_value.result c.are_lent.ensures c.is_value.ensures)
     (ap not c.if-not-are_lent-is_value.false) c.if-scratch-lt-LEAST_SCRATCH.false c.write.result _ _
     c.write.ensures.writes

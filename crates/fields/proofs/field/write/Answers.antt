@@ -31,7 +31,7 @@ single-requires c =
     let a = c.args in
     let at = only-inside a.resolver.now.file.now a.resolver.now.rows.now a.resolver.now.months.now a.resolver.now.words.now a.which c.in-Some.start c.in-Some.end
     a.resolver.now.lent (sym c.only_literal.ensures ∙ c.in-Some.is) in
-    (asking.cut-room a.resolver.now.file.now c.in-Some.start c.in-Some.end at.0 at.1 a.resolver.now.short, c.requires.scratch)
+    (asking.cut-room a.resolver.now.file.now c.in-Some.start c.in-Some.end at.0 at.1 a.resolver.now.short, c.requires.ready.scratch)
 
 pub returns-in-Some : goal.returns-in-Some
 returns-in-Some c =

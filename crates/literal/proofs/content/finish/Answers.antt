@@ -27,8 +27,9 @@ execute_command-l-requires c =
     let same = c.settle-w.auto.t in
     let below = lays-below a.t.from _ a.out.now c.settle-w.result.at _ c.settle-w.ensures.lays
     (omega (arith, closes.last, small)) in record {
-      sane = (
-        subst Sane (sym c.requires.meaning) (meaning-sane (part a.s.now (a.st.at + 1) a.end)),
+      marks_value = (
+        c.requires.marks_value.0,
+        subst Sane (sym c.requires.marks_value.1) (meaning-sane (part a.s.now (a.st.at + 1) a.end)),
         omega (arith, closes.name),
         omega
             (arith, closes.from, closes.inside),
@@ -64,7 +65,7 @@ returns c =
     ) in
     let same = c.settle-w.auto.t in record {
       argument_finished = finished (part a.s.now (a.st.at + 1) a.end) a.m (a.end + 1) a.to a.st a.t a.out.now a.lead
-          c.settle-w.result.at _ c.execute_command-l.result _ c.further.result c.requires.meaning
+          c.settle-w.result.at _ c.execute_command-l.result _ c.further.result c.requires.marks_value.1
           closes.last small closes.first closes.chunk (omega (arith, closes.chunk, closes.last, small)) c.requires.closes.1
           c.settle-w.ensures.lays (omega (arith, room.1, same)) c.execute_command-l.ensures.lays c.further.ensures;
       at_value = (

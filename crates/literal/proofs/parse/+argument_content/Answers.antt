@@ -73,7 +73,7 @@ argument-finish-requires t c =
     c.if-depth-eq0.false
     a.st a.out.now c.begin-i.result _ c.begin-i.ensures.argument_begun c.content.result _ _ c.content.ensures.says_content m is
     (nested.room-now c.requires.ready_content) in record {
-      meaning = c.requires.m_value.0;
+      marks_value = (a.tables.all_marks, c.requires.m_value.0);
       closes = (
         nested.closes a.s.now a.st c.begin-i.result m a.out.now _ a.end a.from a.to c.requires.ready_content c.requires.m_value.1
             c.begin-i.ensures.argument_begun.at c.begin-i.ensures.at_bound.0 kept.0 kept.1 kept.2 ahead same,

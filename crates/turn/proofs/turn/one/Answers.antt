@@ -22,7 +22,8 @@ execute_command-l-requires c =
     end white to.from inside p.1.room c.execute_before-from.ensures.a_bound c.copy-e.ensures.from_value in
     let one = c.execute_before-from.auto.out in
     let two = c.copy-e.auto.out in record {
-      sane = (
+      marks_value = (
+        a.tables.all_marks,
         subst Sane (sym c.meaning_of-m.ensures) (meaning-sane (part a.s.now (a.at + 1) a.end)),
         omega (arith, end),
         omega

@@ -11,7 +11,7 @@ has_room-requires c =
     let p = c.requires in
     record {
       index = p.2;
-      scratch = p.4;
+      ready = record { scratch = p.4; names = c.names-names.ensures; marks = c.table-marks.ensures };
       flagged = p.3;
     }
 
@@ -26,7 +26,11 @@ write-t-requires c =
     let p = c.requires in record {
       filing = record {
         index = p.2;
-        scratch = omega (arith, p.4, c.has_room.auto.scratch);
+        ready = record {
+          scratch = omega (arith, p.4, c.has_room.auto.scratch);
+          names = c.names-names.ensures;
+          marks = c.table-marks.ensures;
+        };
         flagged = p.3;
       };
       text_value = sym c.has_room.ensures ∙ c.if-not-has_room.false;

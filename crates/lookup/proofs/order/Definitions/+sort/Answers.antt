@@ -1,7 +1,8 @@
 -- `lookup::order::Definitions::sort`, which calls itself with a smaller depth, meets its contract. Assumes nothing.
+use Rattle.std.proofs.Common.{◌∙◌}
 use Rattle.row.specs.Numbers.{rows_of}
 use Rattle.lookup.specs.Order.{comes}
-use Rattle.lookup.proofs.loops.SortWays.{sort-stays, sort-whole}
+use Rattle.lookup.proofs.loops.SortWays.{sort-stays, copied-back, sort-whole}
 use Rattle.lookup.proofs.order.Definitions.+sort.Goals as goal
 
 pub returns-then-a-depth : goal.returns-then-a-depth
@@ -16,4 +17,4 @@ returns t c =
     let one = c.sort in
     let two = c.sort-2 in
     sort-whole a.a.now one.new.a one.auto.a le a.depth two.new.a _ _ c.if-a-depth.false one.ensures two.ensures
-    c.merge_halves.ensures c.copy_from_slice.ensures.after
+    c.merge_halves.ensures (c.copy_numbers.ensures ∙ copied-back _ _)

@@ -201,7 +201,7 @@ value-literal-requires t c =
     let at = ways.placed a.self.now.file.now a.self.now.rows.now l.i l.invariant.6 c.element_at.result c.element_at.ensures _
     (has c.in-Some.is c.in-Literal.is) in
     let p = c.requires.0 in (
-      omega (arith, p.scratch, l.invariant.1),
+      omega (arith, p.ready.scratch, l.invariant.1),
       l.invariant.5,
       asking.cut-room a.self.now.file.now c.in-Literal.start c.in-Literal.end at.1 at.2 a.self.now.short,
     )
